@@ -1,0 +1,4 @@
+pub mod Each
+pub mod Finite
+pub mod Least
+pub mod Checked

@@ -1,0 +1,108 @@
+-- "Given exactly when": a number is given if and only if its reason applies and none before it in the order does, and 0 if and only if none applies.
+use Prim.Native.Nat.{ℕ}
+use mathlib.Core.Path.{_≡_, refl, sym, ap, _∙_, subst}
+use mathlib.Core.Bool.{Bool, true, false}
+use mathlib.Core.List.{List, [], _∷_}
+use native.Mathlib.Omega.{arith}
+use lib.Dec.{eqb}
+use Rattle.refusal.specs.Order.{Reason, size, number, steps, channels, empty, tooLong, tooWide, execExceedsHorizon, lenMismatch, width, short, notFinite, computed, leftover, numberOf, order, firstOf, given, if_then_else_}
+
+-- k is the first of some reasons that applies
+pub data First (applies : Reason → Bool) : List Reason → Reason → Type 0 where
+  here : {k : Reason} {l : List Reason} → applies k ≡ true → First applies (k ∷ l) k
+  later : {j k : Reason} {l : List Reason} → applies j ≡ false → First applies l k → First applies (j ∷ l) k
+
+-- the first reason with a number, for one that has it
+abbrev withNumber : ℕ → List Reason → Reason
+withNumber n [] = size
+withNumber n (k ∷ l) = if eqb (numberOf k) n then k else withNumber n l
+
+back : (k : Reason) → withNumber (numberOf k) order ≡ k
+back size = refl
+back number = refl
+back steps = refl
+back channels = refl
+back empty = refl
+back tooLong = refl
+back tooWide = refl
+back execExceedsHorizon = refl
+back lenMismatch = refl
+back width = refl
+back short = refl
+back notFinite = refl
+back computed = refl
+back leftover = refl
+
+-- no two reasons have one number
+pub numbers-differ : (j k : Reason) → numberOf j ≡ numberOf k → j ≡ k
+numbers-differ j k e = sym (back j) ∙ ap (λ (n : ℕ). withNumber n order) e ∙ back k
+
+not-zero : (k : Reason) → 0 ≡ numberOf k → ⊥
+not-zero size e = omega arith
+not-zero number e = omega arith
+not-zero steps e = omega arith
+not-zero channels e = omega arith
+not-zero empty e = omega arith
+not-zero tooLong e = omega arith
+not-zero tooWide e = omega arith
+not-zero execExceedsHorizon e = omega arith
+not-zero lenMismatch e = omega arith
+not-zero width e = omega arith
+not-zero short e = omega arith
+not-zero notFinite e = omega arith
+not-zero computed e = omega arith
+not-zero leftover e = omega arith
+
+module _ (applies : Reason → Bool) where
+  first-given : {l : List Reason} {k : Reason} → First applies l k → firstOf applies l ≡ numberOf k
+  first-given (here e) = rw e
+  first-given (later e h) = rw e (first-given h)
+
+  given-first : (l : List Reason) (k : Reason) → firstOf applies l ≡ numberOf k → First applies l k
+  given-first [] k e = absurd (not-zero k e)
+  given-first (j ∷ l) k e = go (applies j) refl e (given-first l k)
+    where
+      go : (b : Bool) → applies j ≡ b → (if b then numberOf j else firstOf applies l) ≡ numberOf k → (firstOf applies l ≡ numberOf k → First applies l k) → First applies (j ∷ l) k
+      go true a h on = subst (λ (x : Reason). First applies (j ∷ l) x) (numbers-differ j k h) (here a)
+      go false a h on = later a (on h)
+
+  -- a number is given exactly when its reason is the first in the order that applies
+  pub exactly-first : (k : Reason) → (First applies order k → given applies ≡ numberOf k) × (given applies ≡ numberOf k → First applies order k)
+  exactly-first k = (first-given, given-first order k)
+
+  -- none of some reasons applies
+  abbrev NoneOf : List Reason → Type 0
+  NoneOf [] = Unit
+  NoneOf (k ∷ l) = (applies k ≡ false) × NoneOf l
+
+  zero-none : (l : List Reason) → firstOf applies l ≡ 0 → NoneOf l
+  zero-none [] e = tt
+  zero-none (j ∷ l) e = go (applies j) refl e (zero-none l)
+    where
+      go : (b : Bool) → applies j ≡ b → (if b then numberOf j else firstOf applies l) ≡ 0 → (firstOf applies l ≡ 0 → NoneOf l) → NoneOf (j ∷ l)
+      go true a h on = absurd (not-zero j (sym h))
+      go false a h on = (a, on h)
+
+  none-zero : (l : List Reason) → ((k : Reason) → applies k ≡ false) → firstOf applies l ≡ 0
+  none-zero [] h = refl
+  none-zero (k ∷ l) h = rw (h k) (none-zero l h)
+
+  judged : NoneOf order → (k : Reason) → applies k ≡ false
+  judged h size = h .0
+  judged h number = h .1 .0
+  judged h steps = h .1 .1 .0
+  judged h channels = h .1 .1 .1 .0
+  judged h empty = h .1 .1 .1 .1 .0
+  judged h tooLong = h .1 .1 .1 .1 .1 .0
+  judged h tooWide = h .1 .1 .1 .1 .1 .1 .0
+  judged h execExceedsHorizon = h .1 .1 .1 .1 .1 .1 .1 .0
+  judged h lenMismatch = h .1 .1 .1 .1 .1 .1 .1 .1 .0
+  judged h width = h .1 .1 .1 .1 .1 .1 .1 .1 .1 .0
+  judged h short = h .1 .1 .1 .1 .1 .1 .1 .1 .1 .1 .0
+  judged h notFinite = h .1 .1 .1 .1 .1 .1 .1 .1 .1 .1 .1 .0
+  judged h computed = h .1 .1 .1 .1 .1 .1 .1 .1 .1 .1 .1 .1 .0
+  judged h leftover = h .1 .1 .1 .1 .1 .1 .1 .1 .1 .1 .1 .1 .1 .0
+
+  -- 0 is given exactly when no reason applies
+  pub exactly-none : (((k : Reason) → applies k ≡ false) → given applies ≡ 0) × (given applies ≡ 0 → (k : Reason) → applies k ≡ false)
+  exactly-none = (none-zero order, λ e. judged (zero-none order e))

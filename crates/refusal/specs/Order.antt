@@ -1,0 +1,66 @@
+-- The refusals of document 01's table: their numbers, the order in which they are judged, and the answer, the first that applies.
+use Prim.Native.Nat.{ℕ}
+use mathlib.Core.Bool.{Bool, true, false}
+use mathlib.Core.List.{List, [], _∷_}
+use lib.Dec.{eqb}
+use Rattle.refusal.specs.declared.Refusal.{Refusal}
+
+pub data Reason : Type 0 where
+  size number steps channels : Reason
+  empty tooLong tooWide execExceedsHorizon lenMismatch width : Reason
+  short notFinite computed leftover : Reason
+
+abbrev pub numberOf : Reason → ℕ
+numberOf size = 1
+numberOf number = 2
+numberOf steps = 3
+numberOf channels = 4
+numberOf empty = 5
+numberOf tooLong = 6
+numberOf tooWide = 7
+numberOf execExceedsHorizon = 8
+numberOf lenMismatch = 9
+numberOf width = 10
+numberOf short = 11
+numberOf notFinite = 12
+numberOf computed = 13
+numberOf leftover = 14
+
+-- the order of judging; a number that a later request places by words ("after 4") goes to its place here
+abbrev pub order : List Reason
+order =
+    size ∷ number ∷ steps ∷ channels
+    ∷ empty ∷ tooLong ∷ tooWide ∷ execExceedsHorizon ∷ lenMismatch ∷ width
+    ∷ short ∷ notFinite ∷ computed ∷ leftover ∷ []
+
+infixr 5 if_then_else_
+abbrev pub if_then_else_ : {A : Type 0} → Bool → A → A → A
+if_then_else_ true x y = x
+if_then_else_ false x y = y
+
+-- the number of the first of some reasons that applies, and 0 where none does
+abbrev pub firstOf : (Reason → Bool) → List Reason → ℕ
+firstOf applies [] = 0
+firstOf applies (k ∷ l) = if applies k then numberOf k else firstOf applies l
+
+-- the number that is given where these reasons apply
+abbrev pub given : (Reason → Bool) → ℕ
+given applies = firstOf applies order
+
+-- what an entry judges: a reason, and the condition under which it applies
+infix 20 _when_
+pub data Judged : Type 0 where
+  _when_ : Reason → Bool → Judged
+
+-- a reason that an entry does not list never applies there
+abbrev pub among : List Judged → Reason → Bool
+among [] k = false
+among ((r when b) ∷ l) k = if eqb (numberOf r) (numberOf k) then b else among l k
+
+-- the number that an entry gives, from what it judges, in whatever order it lists it
+abbrev pub refusal : List Judged → ℕ
+refusal l = given (among l)
+
+-- a refusal without a place
+abbrev pub refusedFor : ℕ → Refusal
+refusedFor n = record { number = n; place = 0 }
