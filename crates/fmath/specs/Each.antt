@@ -19,7 +19,7 @@ unfoldable pub some : (ℕ → Bool) → ℕ → Bool
 some p zero = false
 some p (suc n) = some p n || p n
 
-unfoldable every-from : Bool → List Bool → Bool
+unfoldable pub every-from : Bool → List Bool → Bool
 every-from a [] = a
 every-from a (b ∷ l) = every-from (a && b) l
 

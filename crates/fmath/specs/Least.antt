@@ -1,6 +1,6 @@
 -- Least, greatest and clamp, as document 01's module 1 has them.
 use Prim.Native.Nat.{ℕ, zero, suc}
-use mathlib.Core.Bool.{cond}
+use mathlib.Core.Bool.{false, cond}
 use lib.Ieee.{Float, inf, lt}
 
 -- the first where it is strictly less, else the second

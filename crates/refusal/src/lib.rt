@@ -9,18 +9,31 @@ pub struct Refusal {
 
 impl Refusal {
     pub const SIZE: u8 = 1;
+
     pub const NUMBER: u8 = 2;
+
     pub const STEPS: u8 = 3;
+
     pub const CHANNELS: u8 = 4;
+
     pub const EMPTY: u8 = 5;
+
     pub const TOO_LONG: u8 = 6;
+
     pub const TOO_WIDE: u8 = 7;
+
     pub const EXEC_EXCEEDS_HORIZON: u8 = 8;
+
     pub const LEN_MISMATCH: u8 = 9;
+
     pub const WIDTH: u8 = 10;
+
     pub const SHORT: u8 = 11;
+
     pub const NOT_FINITE: u8 = 12;
+
     pub const COMPUTED: u8 = 13;
+
     pub const LEFTOVER: u8 = 14;
 
     // A refusal without a place.

@@ -1,50 +1,51 @@
+-- `fmath::all_above_zero` meets its contract: a number that is not there is not above zero, and the loop keeps the answer so far.
+use Prim.Native.Nat.{ℕ, _≤_, _-_}
+use mathlib.Core.Path.{_≡_, refl, sym}
+use native.Mathlib.Omega.{arith}
+use borrow.Author.Needs.{needs}
+use denote.Ref.{now}
+use lib.Ieee.{lt}
+use Rattle.fmath.specs.Each.{all, at}
+use Rattle.fmath.specs.Finite.{aboveZero, allAboveZero}
+use Rattle.fmath.proofs.Each.{all-more, all-missing}
 use Rattle.fmath.proofs.all_above_zero.Statement.{statement}
 use Rattle.fmath.proofs.all_above_zero.Tie as tie
-use Rattle.fmath.proofs.all_above_zero.Reads as reads
-use Rattle.fmath.proofs.all_above_zero.Lts as lts
-use Rattle.fmath.proofs.above_zero.Reads as above-zero-reads
 
 abbrev Inv-loop : tie.InvT-loop
-Inv-loop v n ok₀ i₀ ok i = ?
+Inv-loop v n ok₀ i₀ ok i = (i ≤ n) × (ok ≡ all (λ (k : ℕ). aboveZero (at v k)) i)
 
 abbrev μ-loop : tie.MeasureT-loop
-μ-loop v n ok₀ i₀ ok i = ?
+μ-loop v n ok₀ i₀ ok i = n - i
 
--- src/lib.rt:49:9
 returns : tie.Need-returns Inv-loop μ-loop
-returns c = ?
+unfolding allAboveZero aboveZero lt
+returns c = let s = c .before .before .args in sym (all-missing aboveZero (now (s .v)) (s .n) refl (c .if1 .taken))
 
--- src/lib.rt:53:5
 loop-holds : tie.Need-loop-holds Inv-loop μ-loop
-loop-holds c = ?
+unfolding all
+loop-holds c = (search needs, refl)
 
--- src/lib.rt:54:30
 mul-above-zero : tie.Need-mul-above-zero Inv-loop μ-loop
-mul-above-zero c = ?
+mul-above-zero c = omega arith
 
--- src/lib.rt:54:30
 shared-slice-read-above-zero : tie.Need-shared-slice-read-above-zero Inv-loop μ-loop
-shared-slice-read-above-zero c = ?
+shared-slice-read-above-zero c = omega arith
 
--- src/lib.rt:54:19
 above-zero-requires : tie.Need-above-zero-requires Inv-loop μ-loop
-above-zero-requires c κs = ?
+above-zero-requires c κs = search needs
 
--- src/lib.rt:55:9
 add-i : tie.Need-add-i Inv-loop μ-loop
-add-i c = ?
+add-i c = omega arith
 
--- src/lib.rt:53:5
 loop-less : tie.Need-loop-less Inv-loop μ-loop
-loop-less c = ?
+loop-less c = omega arith
 
--- src/lib.rt:53:5
 loop-again : tie.Need-loop-again Inv-loop μ-loop
-loop-again c = ?
+loop-again c = (omega arith, all-more _ _ _ _ (c .before .before .before .loop .inv .1) (c .above-zero .ensures))
 
--- src/lib.rt:45:1
 returns-2 : tie.Need-returns-2 Inv-loop μ-loop
-returns-2 c = ?
+unfolding allAboveZero
+returns-2 c = let e : c .before .loop .i ≡ c .before .before .before .before .args .n = omega arith in rw e at (c .before .loop .inv .1)
 
 pub all-above-zero-spec : {M : Type 1} → statement M
 all-above-zero-spec =

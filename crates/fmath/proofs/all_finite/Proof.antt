@@ -1,50 +1,50 @@
+-- `fmath::all_finite` meets its contract: a number that is not there is not finite, and the loop keeps the answer so far.
+use Prim.Native.Nat.{ℕ, _≤_, _-_}
+use mathlib.Core.Path.{_≡_, refl, sym}
+use native.Mathlib.Omega.{arith}
+use borrow.Author.Needs.{needs}
+use denote.Ref.{now}
+use Rattle.fmath.specs.Each.{all, at}
+use Rattle.fmath.specs.Finite.{finite, allFinite}
+use Rattle.fmath.proofs.Each.{all-more, all-missing}
 use Rattle.fmath.proofs.all_finite.Statement.{statement}
 use Rattle.fmath.proofs.all_finite.Tie as tie
-use Rattle.fmath.proofs.all_finite.Reads as reads
-use Rattle.fmath.proofs.all_finite.Lts as lts
-use Rattle.fmath.proofs.finite.Reads as finite-reads
 
 abbrev Inv-loop : tie.InvT-loop
-Inv-loop v n ok₀ i₀ ok i = ?
+Inv-loop v n ok₀ i₀ ok i = (i ≤ n) × (ok ≡ all (λ (k : ℕ). finite (at v k)) i)
 
 abbrev μ-loop : tie.MeasureT-loop
-μ-loop v n ok₀ i₀ ok i = ?
+μ-loop v n ok₀ i₀ ok i = n - i
 
--- src/lib.rt:33:9
 returns : tie.Need-returns Inv-loop μ-loop
-returns c = ?
+unfolding allFinite finite
+returns c = let s = c .before .before .args in sym (all-missing finite (now (s .v)) (s .n) refl (c .if1 .taken))
 
--- src/lib.rt:37:5
 loop-holds : tie.Need-loop-holds Inv-loop μ-loop
-loop-holds c = ?
+unfolding all
+loop-holds c = (search needs, refl)
 
--- src/lib.rt:38:26
 mul-finite : tie.Need-mul-finite Inv-loop μ-loop
-mul-finite c = ?
+mul-finite c = omega arith
 
--- src/lib.rt:38:26
 shared-slice-read-finite : tie.Need-shared-slice-read-finite Inv-loop μ-loop
-shared-slice-read-finite c = ?
+shared-slice-read-finite c = omega arith
 
--- src/lib.rt:38:19
 finite-requires : tie.Need-finite-requires Inv-loop μ-loop
-finite-requires c κs = ?
+finite-requires c κs = search needs
 
--- src/lib.rt:39:9
 add-i : tie.Need-add-i Inv-loop μ-loop
-add-i c = ?
+add-i c = omega arith
 
--- src/lib.rt:37:5
 loop-less : tie.Need-loop-less Inv-loop μ-loop
-loop-less c = ?
+loop-less c = omega arith
 
--- src/lib.rt:37:5
 loop-again : tie.Need-loop-again Inv-loop μ-loop
-loop-again c = ?
+loop-again c = (omega arith, all-more _ _ _ _ (c .before .before .before .loop .inv .1) (c .finite .ensures))
 
--- src/lib.rt:29:1
 returns-2 : tie.Need-returns-2 Inv-loop μ-loop
-returns-2 c = ?
+unfolding allFinite
+returns-2 c = let e : c .before .loop .i ≡ c .before .before .before .before .args .n = omega arith in rw e at (c .before .loop .inv .1)
 
 pub all-finite-spec : {M : Type 1} → statement M
 all-finite-spec =

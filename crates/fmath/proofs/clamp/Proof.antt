@@ -1,19 +1,19 @@
+-- `fmath::clamp` meets its contract, by the tests that led to each answer.
+use Rattle.fmath.specs.Least.{clamped}
 use Rattle.fmath.proofs.clamp.Statement.{statement}
 use Rattle.fmath.proofs.clamp.Tie as tie
-use Rattle.fmath.proofs.clamp.Reads as reads
-use Rattle.fmath.proofs.clamp.Lts as lts
 
--- src/lib.rt:79:9
 returns : tie.Need-returns
-returns c = ?
+unfolding clamped
+returns c = rw (c .if1 .taken)
 
--- src/lib.rt:75:1
 returns-2 : tie.Need-returns-2
-returns-2 c = ?
+unfolding clamped
+returns-2 c = rw (c .before .if1 .left, c .if2 .taken)
 
--- src/lib.rt:75:1
 returns-3 : tie.Need-returns-3
-returns-3 c = ?
+unfolding clamped
+returns-3 c = rw (c .before .if1 .left, c .if2 .left)
 
 pub clamp-spec : {M : Type 1} → statement M
 clamp-spec = tie.close (tie.spec returns returns-2 returns-3)

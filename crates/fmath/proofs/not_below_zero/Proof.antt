@@ -1,17 +1,16 @@
+-- `fmath::not_below_zero` meets its contract: its two tests are the definition's.
+use lib.Ieee.{ofBits}
 use borrow.Author.Needs.{needs}
+use Rattle.fmath.specs.Finite.{notBelowZero}
 use Rattle.fmath.proofs.not_below_zero.Statement.{statement}
 use Rattle.fmath.proofs.not_below_zero.Tie as tie
-use Rattle.fmath.proofs.not_below_zero.Reads as reads
-use Rattle.fmath.proofs.not_below_zero.Lts as lts
-use Rattle.fmath.proofs.finite.Reads as finite-reads
 
--- src/lib.rt:25:18
 finite-requires : tie.Need-finite-requires
 finite-requires c κs = search needs
 
--- src/lib.rt:22:1
 returns : tie.Need-returns
-returns c = ?
+unfolding notBelowZero ofBits
+returns c = rw (c .finite .ensures)
 
 pub not-below-zero-spec : {M : Type 1} → statement M
 not-below-zero-spec = tie.close (tie.spec finite-requires returns)

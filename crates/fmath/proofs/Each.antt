@@ -1,0 +1,109 @@
+-- Laws of `all`, `some`, `every`, `table` and `over`: one turn of a loop that computes each, its end, and what it says of one index.
+use Prim.Native.Nat.{ℕ, zero, suc, _+_, _≤_, _<_}
+use mathlib.Core.Path.{_≡_, refl, ap, sym, _∙_}
+use mathlib.Core.Bool.{Bool, true, false, _&&_, _||_, false≢true}
+use mathlib.Core.List.{List, [], _∷_}
+use native.Mathlib.Nat.{le-refl}
+use native.Mathlib.Numerals.{add-one}
+use native.Mathlib.Omega.{arith}
+use borrow.Author.Count.{below-more}
+use lib.ListN.{length, getD, take, set, length-set, List·getD-eq-default}
+use lib.Seq.{take-suc-set, take-all}
+use lib.Ieee.{Float, nan}
+use Rattle.fmath.specs.Each.{at, all, some, every, every-from, table, over}
+
+-- ---- conjunctions
+
+-- two answers and what each is
+infixl 35 _&&≡_
+pub _&&≡_ : {a b c d : Bool} → a ≡ c → b ≡ d → a && b ≡ c && d
+e &&≡ h = rw (e, h)
+
+pub and-left : (a b : Bool) → a && b ≡ true → a ≡ true
+and-left true b e = refl
+and-left false b e = e
+
+pub and-right : (a b : Bool) → a && b ≡ true → b ≡ true
+and-right true b e = e
+and-right false b e = absurd (false≢true e)
+
+pub and-false : (a : Bool) → a && false ≡ false
+and-false true = refl
+and-false false = refl
+
+-- ---- all
+
+-- one turn of a loop that keeps the answer so far
+pub all-more : (p : ℕ → Bool) (i : ℕ) (ok t : Bool) → ok ≡ all p i → t ≡ p i → ok && t ≡ all p (i + 1)
+unfolding all
+all-more p i ok t h g = rw (h, g, add-one)
+
+pub all-at : (p : ℕ → Bool) (n : ℕ) → all p n ≡ true → (j : ℕ) → j < n → p j ≡ true
+unfolding all
+all-at p zero h j l = absurd (omega arith)
+all-at p (suc n) h j l = below-more (λ (i : ℕ). p i ≡ true) n (all-at p n (and-left (all p n) (p n) h)) (and-right (all p n) (p n) h) j (omega arith)
+
+pub all-from : (p : ℕ → Bool) (n : ℕ) → ((j : ℕ) → j < n → p j ≡ true) → all p n ≡ true
+unfolding all
+all-from p zero h = refl
+all-from p (suc n) h = all-from p n (λ j l. h j (omega arith)) &&≡ h n (omega arith)
+
+-- one that fails is enough
+pub all-fails : (p : ℕ → Bool) (n j : ℕ) → j < n → p j ≡ false → all p n ≡ false
+all-fails p n j l e = go (all p n) refl
+  where
+    go : (b : Bool) → all p n ≡ b → b ≡ false
+    go true h = sym (all-at p n h j l) ∙ e
+    go false h = refl
+
+-- an entry that is not there fails a test that a NaN fails
+pub all-missing : (q : Float → Bool) (l : List Float) (n : ℕ) → q nan ≡ false → length l < n → all (λ (i : ℕ). q (at l i)) n ≡ false
+all-missing q l n e h = all-fails (λ (i : ℕ). q (at l i)) n (length l) h (ap q (List·getD-eq-default l nan (le-refl (length l))) ∙ e)
+
+-- ---- some
+
+pub some-more : (p : ℕ → Bool) (i : ℕ) (so t : Bool) → so ≡ some p i → t ≡ p i → so || t ≡ some p (i + 1)
+unfolding some
+some-more p i so t h g = rw (h, g, add-one)
+
+-- ---- every
+
+from-first : (a : Bool) (l : List Bool) → every-from a l ≡ true → a ≡ true
+unfolding every-from
+from-first a [] e = e
+from-first a (b ∷ l) e = and-left a b (from-first (a && b) l e)
+
+from-rest : (a : Bool) (l : List Bool) (k : ℕ) → every-from a l ≡ true → getD l k true ≡ true
+unfolding every-from
+from-rest a [] k e = refl
+from-rest a (b ∷ l) zero e = and-right a b (from-first (a && b) l e)
+from-rest a (b ∷ l) (suc k) e = from-rest (a && b) l k e
+
+-- test k of some that all hold
+pub every-at : (l : List Bool) (k : ℕ) → every l ≡ true → getD l k true ≡ true
+unfolding every
+every-at [] k e = refl
+every-at (a ∷ l) zero e = from-first a l e
+every-at (a ∷ l) (suc k) e = from-rest a l k e
+
+-- ---- table
+
+-- one turn of a loop that fills an array from the front
+pub table-more : (g : ℕ → Float) (i : ℕ) (a : List Float) (v : Float) → i < length a → take i a ≡ table g i → v ≡ g i → take (i + 1) (set a i v) ≡ table g (i + 1)
+unfolding table
+table-more g i a v h e w = rw (add-one, take-suc-set a i v h, e, w)
+
+-- .. and its end
+pub table-all : (g : ℕ → Float) (n i : ℕ) (a : List Float) → i ≡ n → length a ≡ n → take i a ≡ table g i → a ≡ table g n
+table-all g n i a hi hl e = sym (take-all n a (omega arith)) ∙ rw hi at e
+
+-- ---- over
+
+pub over-more : (g : ℕ → Float) (l a : List Float) (i : ℕ) (v : Float) → a ≡ over g l i → v ≡ g i → set a i v ≡ over g l (i + 1)
+unfolding over
+over-more g l a i v e w = rw (add-one, e, w)
+
+pub length-over : (g : ℕ → Float) (l : List Float) (n : ℕ) → length (over g l n) ≡ length l
+unfolding over
+length-over g l zero = refl
+length-over g l (suc n) = simp length-set (length-over g l n)
