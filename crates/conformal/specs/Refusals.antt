@@ -1,10 +1,10 @@
 -- When a calibration, scores or a time base is refused, one condition for each number of document 01's table.
 use Prim.Native.Nat.{ℕ}
-use mathlib.Core.Bool.{Bool, true, false, _||_}
+use mathlib.Core.Bool.{Bool, not, _||_}
 use mathlib.Core.List.{List, [], _∷_}
 use lib.Dec.{leb, ltb}
 use lib.ListN.{getD}
-use lib.Ieee.{Float, nan, inf, fin}
+use lib.Ieee.{Float, isNan}
 use Rattle.fmath.specs.Each.{all, every}
 use Rattle.fmath.specs.Finite.{finite, allFinite, allAboveZero}
 use Rattle.conformal.specs.declared.GateSpec.{GateSpec}
@@ -25,12 +25,6 @@ sizesOk gate mask =
 unfoldable pub numbersOk : List Float → List Float → Float → Bool
 numbersOk center scale tau = every (finite tau ∷ allFinite center 192 ∷ allAboveZero scale 192 ∷ [])
 
--- a number or an infinity
-unfoldable pub notNan : Float → Bool
-notNan nan = false
-notNan (inf s) = true
-notNan (fin s m e) = true
-
 -- 12: f and z finite, s no NaN
 unfoldable pub scoresOk : Scores → Bool
-scoresOk s = every (allFinite (s .f) 12 ∷ allFinite (s .z) 12 ∷ notNan (s .s) ∷ [])
+scoresOk s = every (allFinite (s .f) 12 ∷ allFinite (s .z) 12 ∷ not (isNan (s .s)) ∷ [])

@@ -44,15 +44,18 @@ standards fm center scale bin live x = record {
 unfoldable pub liveTerm : (ℕ → Bool) → ℕ → Bool
 liveTerm live term = some (bit term) 12 && all (λ (j : ℕ). not (bit term j) || live j) 12
 
--- the least of g over those below n of which p holds, from infinity
-unfoldable pub leastWhere : (ℕ → Bool) → (ℕ → Float) → ℕ → Float
-leastWhere p g zero = inf false
-leastWhere p g (suc n) = if p n then lesser (leastWhere p g n) (g n) else leastWhere p g n
+-- op over the values of g at those below n of which p holds, from z
+unfoldable pub joinWhere : (Float → Float → Float) → Float → (ℕ → Bool) → (ℕ → Float) → ℕ → Float
+joinWhere op z p g zero = z
+joinWhere op z p g (suc n) = if p n then op (joinWhere op z p g n) (g n) else joinWhere op z p g n
 
--- the greatest of g over those below n of which p holds, from negative infinity
-unfoldable pub greatestWhere : (ℕ → Bool) → (ℕ → Float) → ℕ → Float
-greatestWhere p g zero = inf true
-greatestWhere p g (suc n) = if p n then greater (greatestWhere p g n) (g n) else greatestWhere p g n
+-- the least of them, infinity where there are none
+abbrev pub leastWhere : (ℕ → Bool) → (ℕ → Float) → ℕ → Float
+leastWhere = joinWhere lesser (inf false)
+
+-- the greatest of them, negative infinity where there are none
+abbrev pub greatestWhere : (ℕ → Bool) → (ℕ → Float) → ℕ → Float
+greatestWhere = joinWhere greater (inf true)
 
 -- the least z of the features that a term names
 unfoldable pub leastOf : List Float → ℕ → Float

@@ -3,12 +3,12 @@ ghost use mathlib.Core.Path.{_≡_};
 ghost use mathlib.Core.Bool.{not};
 ghost use mathlib.Core.List.{[], _∷_};
 ghost use Prim.Native.Nat.{_<_, _^_, min};
-ghost use lib.Ieee.{binary64};
+ghost use lib.Ieee.{binary64, isNan};
 ghost use Rattle.refusal.specs.Order.{size, number, notFinite, computed, _when_, refusal, if_then_else_};
 ghost use Rattle.fmath.specs.Least.{lesser, greater};
 ghost use Rattle.conformal.specs.Bits.{bit};
 ghost use Rattle.conformal.specs.Rule.{live, standard, standards, aggregate, firedBits};
-ghost use Rattle.conformal.specs.Refusals.{sizesOk, numbersOk, notNan, scoresOk};
+ghost use Rattle.conformal.specs.Refusals.{sizesOk, numbersOk, scoresOk};
 ghost use Rattle.conformal.specs.Answer.{judged, scored, standardised, aggregated, tripped, timeBinOf};
 ghost use Rattle.conformal.specs.Of.{standardFrom, standardsFrom, termFrom};
 use refusal::Refusal;
@@ -132,7 +132,7 @@ pub fn numbers_ok<'a>(center: &'a [f64; 192], scale: &'a [f64; 192], tau: f64) -
 }
 
 fn not_nan(x: f64) -> bool
-    ensures { λ r. ⌜ r ≡ notNan x ⌝ }
+    ensures { λ r. ⌜ r ≡ not (isNan x) ⌝ }
 {
     x == x
 }

@@ -1,14 +1,15 @@
 -- `conformal::greatest` meets its contract: the loop keeps the greatest of the terms passed.
 use Prim.Native.Nat.{ℕ, _≤_, _-_}
 use mathlib.Core.Path.{_≡_, refl, ap}
-use mathlib.Core.Bool.{_&&_}
+use mathlib.Core.Bool.{true, _&&_}
 use native.Mathlib.Omega.{arith}
 use borrow.Author.Needs.{needs}
 use lib.Dec.{ltb}
-use lib.Ieee.{ofBits, div, neg}
-use Rattle.conformal.specs.Rule.{live, counts, leastOf, termAt, greatestWhere, aggregate}
+use lib.Ieee.{inf, ofBits, div, neg}
+use Rattle.fmath.specs.Least.{greater}
+use Rattle.conformal.specs.Rule.{live, counts, leastOf, termAt, joinWhere, greatestWhere, aggregate}
 use Rattle.conformal.specs.declared.Joined.{Joined}
-use Rattle.conformal.proofs.Turns.{greatest-more}
+use Rattle.conformal.proofs.Turns.{join-more}
 use Rattle.conformal.proofs.greatest.Statement.{statement}
 use Rattle.conformal.proofs.greatest.Tie as tie
 
@@ -22,7 +23,7 @@ cast-n : tie.Need-cast-n Inv-loop μ-loop
 cast-n c = search needs
 
 loop-holds : tie.Need-loop-holds Inv-loop μ-loop
-unfolding greatestWhere ofBits div neg
+unfolding joinWhere ofBits div neg
 loop-holds c = (search needs, refl)
 
 mul-term : tie.Need-mul-term Inv-loop μ-loop
@@ -47,7 +48,7 @@ loop-again : tie.Need-loop-again Inv-loop μ-loop
 loop-again c = let l = c .before .before .before .before .before .loop in
     let a = c .before .before .before .before .before .before .args in
     let t = c .before .before .term in
-    (omega arith, greatest-more (counts (a .t1) (live (a .mask) (a .valid))) (λ (k : ℕ). leastOf (a .z .now) (termAt (a .t1) k)) (l .i) (ltb (l .i) (a .t1 .«n_terms») && t .result .live) (l .s) (t .result .least) _ (l .inv .1) (rw (t .ensures)) (ap (λ (t : Joined). t .least) (t .ensures)) (c .greater-where .ensures))
+    (omega arith, join-more greater (inf true) (counts (a .t1) (live (a .mask) (a .valid))) (λ (k : ℕ). leastOf (a .z .now) (termAt (a .t1) k)) (l .i) (ltb (l .i) (a .t1 .«n_terms») && t .result .live) (l .s) (t .result .least) _ (l .inv .1) (rw (t .ensures)) (ap (λ (t : Joined). t .least) (t .ensures)) (c .greater-where .ensures))
 
 returns : tie.Need-returns Inv-loop μ-loop
 unfolding aggregate

@@ -1,15 +1,16 @@
 -- `conformal::term` meets its contract: the loop keeps the three folds of the features passed.
 use Prim.Native.Nat.{ℕ, _≤_, _-_}
 use mathlib.Core.Path.{_≡_, refl}
-use mathlib.Core.Bool.{not, _||_}
+use mathlib.Core.Bool.{false, not, _||_}
 use native.Mathlib.Omega.{arith}
 use borrow.Author.Needs.{needs}
-use lib.Ieee.{ofBits, div}
+use lib.Ieee.{inf, ofBits, div}
 use Rattle.fmath.specs.Each.{all, at}
+use Rattle.fmath.specs.Least.{lesser}
 use Rattle.fmath.proofs.Each.{all-more, some-more}
 use Rattle.conformal.specs.Bits.{bit}
-use Rattle.conformal.specs.Rule.{live, liveTerm, leastWhere, leastOf}
-use Rattle.conformal.proofs.Turns.{least-more}
+use Rattle.conformal.specs.Rule.{live, liveTerm, joinWhere, leastWhere, leastOf}
+use Rattle.conformal.proofs.Turns.{join-more}
 use Rattle.conformal.proofs.term.Statement.{statement}
 use Rattle.conformal.proofs.term.Tie as tie
 
@@ -20,7 +21,7 @@ abbrev μ-loop : tie.MeasureT-loop
 μ-loop bits mask valid z some₀ every₀ least₀ j₀ some every least j = 12 - j
 
 loop-holds : tie.Need-loop-holds Inv-loop μ-loop
-unfolding all Rattle.fmath.specs.Each.some leastWhere ofBits div
+unfolding all Rattle.fmath.specs.Each.some joinWhere ofBits div
 loop-holds c = (search needs, (refl, (refl, refl)))
 
 bit-requires : tie.Need-bit-requires Inv-loop μ-loop
@@ -49,7 +50,7 @@ loop-less c = omega arith
 
 loop-again : tie.Need-loop-again Inv-loop μ-loop
 loop-again c = let l = c .before .before .before .before .before .before .loop .inv in
-    (omega arith, (some-more _ _ _ _ (l .1 .0) (c .before .before .before .before .bit .ensures), (all-more _ _ _ _ (l .1 .1 .0) (rw (c .before .before .before .before .bit .ensures, c .before .before .before .bit2 .ensures, c .before .before .bit3 .ensures)), least-more _ _ _ _ _ _ _ (l .1 .1 .1) (c .before .before .before .before .bit .ensures) refl (c .lesser-where .ensures))))
+    (omega arith, (some-more _ _ _ _ (l .1 .0) (c .before .before .before .before .bit .ensures), (all-more _ _ _ _ (l .1 .1 .0) (rw (c .before .before .before .before .bit .ensures, c .before .before .before .bit2 .ensures, c .before .before .bit3 .ensures)), join-more lesser (inf false) (bit (c .before .before .before .before .before .before .before .args .bits)) (at (c .before .before .before .before .before .before .before .args .z .now)) _ _ _ _ _ (l .1 .1 .1) (c .before .before .before .before .bit .ensures) refl (c .lesser-where .ensures))))
 
 returns : tie.Need-returns Inv-loop μ-loop
 unfolding liveTerm leastOf
