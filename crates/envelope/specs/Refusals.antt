@@ -110,9 +110,18 @@ channelsOk (Zone radius speed i j) aux = not (eqb i j) && ltb i aux && ltb j aux
 
 -- ---- what is judged of a configuration
 
+abbrev pub sizesFit : FuseConfig → Bool
+sizesFit c = sizesOk (c .dim) (c .«pos_dim») (c .calibrated) (c .calib .gate) (c .calib .mask)
+
+abbrev pub stepsFit : FuseConfig → Bool
+stepsFit c = stepsOk (c .brake) (c .calibrated) (c .«horizon_ticks»)
+
+abbrev pub channelsFit : FuseConfig → Bool
+channelsFit c = channelsOk (c .contact) (c .«aux_count»)
+
 abbrev pub configJudged : FuseConfig → List Judged
 configJudged c =
-    (size when not (sizesOk (c .dim) (c .«pos_dim») (c .calibrated) (c .calib .gate) (c .calib .mask)))
+    (size when not (sizesFit c))
     ∷ (number when not (numbersOk c))
-    ∷ (steps when not (stepsOk (c .brake) (c .calibrated) (c .«horizon_ticks»)))
-    ∷ (channels when not (channelsOk (c .contact) (c .«aux_count»))) ∷ []
+    ∷ (steps when not (stepsFit c))
+    ∷ (channels when not (channelsFit c)) ∷ []
