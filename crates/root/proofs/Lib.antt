@@ -4,5 +4,6 @@ pub mod Whole
 pub mod Units
 pub mod Parted
 pub mod Rule
+pub mod Nearest
 pub mod Patterns
 pub mod Written

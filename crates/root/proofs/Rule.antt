@@ -15,9 +15,9 @@ use lib.Ieee.{Float, nan, inf, fin, Format, binary32, binary64, prec, emax, low,
 use lib.Ieee.Digits.{size-le, back}
 use lib.Ieee.Fits.{and-l, and-r, down-pos, up-pos}
 use lib.Ieee.Exact.{HasValue}
-use lib.Ieee.Positive.{num, den, positive, value→cross}
+use lib.Ieee.Positive.{num, den, positive, value→cross, value-pos, first-pos}
 use Rattle.root.specs.Root.{nearRoot, rootExponent, scaled, number, rootOf}
-use Rattle.root.specs.Rule.{Near, RoundedRoot}
+use Rattle.root.specs.Rule.{Near, notNegative, RoundedRoot}
 use Rattle.root.proofs.Whole.{sub-pos, sub-neg, sub-eq, twice-sub}
 use Rattle.root.proofs.Units.{pairs, kept, squares, four-pow, exponent-is, scaled-is, left-in, Left, left, left-ge, left-room, left-back}
 use Rattle.root.proofs.Near.{near-unique, near-is, near-ge, near-lt}
@@ -140,10 +140,10 @@ module _ (f : Format) (q k : ℕ) (Q : 0 < q) (B : q < 2 ^ prec f) where
       reach : (p l k : ℕ) → 2 * p ≤ l + 2 → 2 * p ≤ k + l + 2
       reach p l k h = omega arith
 
-  abbrev whole-of : ℕ
+  abbrev pub whole-of : ℕ
   whole-of = kept (prec f) (q * 2 ^ (k + low f))
 
-  whole-ge : 2 ^ (prec f - 1) * 2 ^ (prec f - 1) ≤ whole-of
+  pub whole-ge : 2 ^ (prec f - 1) * 2 ^ (prec f - 1) ≤ whole-of
   whole-ge = left-ge (prec f) q (k + low f) Q left-of
 
   whole-room : whole-of + 2 ^ prec f ≤ 2 ^ prec f * 2 ^ prec f
@@ -230,26 +230,30 @@ module _ (f : Format) (q k : ℕ) (Q : 0 < q) (B : q < 2 ^ prec f) where
         is = root-is f q k Q B x w h ∙ sym (number-is p (nearRoot p X) i (low f));
       }
 
--- every number above zero that the format holds is q * 2 ^ k units of its smallest value, with at most as many digits as the format keeps
+-- every number that the format holds and that is not negative is q * 2 ^ k units of its smallest value, with at most as many digits as the format keeps
 pub record InUnits (f : Format) (x : Float) : Type 0 where
   pub q : ℕ
   pub k : ℕ
-  pub some : 0 < q
   pub few : q < 2 ^ prec f
   pub value : HasValue x false (q * 2 ^ k) (2 ^ low f)
 
-pub in-its-units : (f : Format) (x : Float) → T (fits f x) → T (positive x) → InUnits f x
+pub in-its-units : (f : Format) (x : Float) → T (fits f x) → T (notNegative x) → InUnits f x
 in-its-units f nan h p = absurd p
 in-its-units f (inf s) h p = absurd p
 in-its-units f (fin true m e) h p = absurd p
-in-its-units f (fin false zero e) h p = absurd p
+in-its-units f (fin false zero e) h p =
+    record {
+      q = 0;
+      k = 0;
+      few = pow-pos (prec f);
+      value = (refl, ap (λ (y : ℕ). y * 2 ^ low f) (zero-mul (up e)) ∙ zero-mul (2 ^ low f) ∙ sym (zero-mul (down e)));
+    }
 in-its-units f (fin false (suc m) e) h p =
     let b = held f false m e h in
     let j = place (low f) e (b .1) in
     record {
       q = suc m;
       k = j .0;
-      some = zero-lt-suc m;
       few = b .0;
       value = (
         refl,
@@ -259,6 +263,16 @@ in-its-units f (fin false (suc m) e) h p =
       );
     }
 
+pub positive-not-negative : (x : Float) → T (positive x) → T (notNegative x)
+positive-not-negative nan p = absurd p
+positive-not-negative (inf s) p = absurd p
+positive-not-negative (fin true m e) p = absurd p
+positive-not-negative (fin false m e) p = tt
+
+-- .. and some, where it is above zero
+pub some-units : (f : Format) (x : Float) (u : InUnits f x) → T (positive x) → 0 < u .q
+some-units f x u p = first-pos (u .q) (2 ^ u .k) (value-pos x (u .q * 2 ^ u .k) (2 ^ low f) p (pow-pos (low f)) (u .value))
+
 -- THE RULE
 pub root-rule : (f : Format) (x : Float) → T (fits f x) → T (positive x) → RoundedRoot f x (rootOf f x)
-root-rule f x h p = let u = in-its-units f x h p in rounded f (u .q) (u .k) (u .some) (u .few) x h (u .value)
+root-rule f x h p = let u = in-its-units f x h (positive-not-negative x p) in rounded f (u .q) (u .k) (some-units f x u p) (u .few) x h (u .value)

@@ -1,10 +1,10 @@
 -- What the root has to meet, over the width: document 01's inequality with its only R, and the sentence that IEEE 754 makes of it. Definitions only.
 use mathlib.Core.Path.{_≡_}
-use mathlib.Core.Bool.{true}
+use mathlib.Core.Bool.{Bool, true, false, not}
 use Prim.Native.Nat.{ℕ, _+_, _-_, _*_, _^_, _≤_, _<_}
 use lib.Dec.{T}
 use lib.IntN.{ℤ, pos, _*ℤ_}
-use lib.Ieee.{Float, Format, prec, up, down, fits, lt}
+use lib.Ieee.{Float, nan, inf, fin, Format, prec, up, down, fits, lt}
 use lib.Ieee.Positive.{num, den, positive}
 use Rattle.root.specs.Root.{number}
 
@@ -41,9 +41,16 @@ MidBelow y z x = sumOver y z * sumOver y z * den x < 4 * num x * (den y * den z 
 abbrev pub MidAbove : Float → Float → Float → Type 0
 MidAbove y z x = 4 * num x * (den y * den z * (den y * den z)) < sumOver y z * sumOver y z * den x
 
--- y is a number of the format, and no other above zero is as near to the exact root of x: the root lies on y's side of the middle between them
+-- zero, or a finite number above it
+abbrev pub notNegative : Float → Bool
+notNegative nan = false
+notNegative (inf s) = false
+notNegative (fin s m e) = not s
+
+-- y is a number of the format, and no other that is not negative is as near to the exact root of x: the root lies on y's side of the middle between
+-- them. (A negative one is farther from the root than zero is.)
 pub record NearestRoot (f : Format) (x y : Float) : Type 0 where
   pub held : T (fits f y)
   pub above : T (positive y)
-  pub under : (z : Float) → T (fits f z) → T (positive z) → lt z y ≡ true → MidBelow y z x
-  pub over : (z : Float) → T (fits f z) → T (positive z) → lt y z ≡ true → MidAbove y z x
+  pub under : (z : Float) → T (fits f z) → T (notNegative z) → lt z y ≡ true → MidBelow y z x
+  pub over : (z : Float) → T (fits f z) → T (notNegative z) → lt y z ≡ true → MidAbove y z x
