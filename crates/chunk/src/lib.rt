@@ -240,3 +240,49 @@ pub fn held_rows(data: &[f64], horizon: u16, dim: u16, filled: bool) -> &[f64]
         &data[..0]
     }
 }
+
+// The view of lent rows: the caller's numbers, none copied.
+pub fn view<'a>(
+    seq: u32,
+    t_emit: u32,
+    horizon: u16,
+    dim: u16,
+    exec_steps: u16,
+    data: &'a [f64],
+) -> ChunkView<'a>
+    ensures { λ r. ⌜ r ≡ viewOf seq «t_emit» horizon dim «exec_steps» («data» .entry) ⌝ }
+{
+    ChunkView {
+        seq,
+        t_emit,
+        horizon,
+        dim,
+        exec_steps,
+        data,
+    }
+}
+
+impl<'a> ChunkView<'a> {
+    // Row i of the view, as `row_of` gives it.
+    pub fn action(self, i: usize) -> &'a [f64]
+        ensures { λ r. ⌜ now r ≡ rowOf (now (self .entry .«data»)) (self .entry .horizon) (self .entry .dim) i ⌝ }
+    {
+        row_of(self.data, self.horizon, self.dim, i)
+    }
+}
+
+// Row i of lent rows, by way of their view.
+pub fn action(data: &[f64], horizon: u16, dim: u16, i: usize) -> &[f64]
+    ensures { λ r. ⌜ now r ≡ rowOf (now («data» .entry)) horizon dim i ⌝ }
+{
+    view(0, 0, horizon, dim, 0, data).action(i)
+}
+
+impl ChunkBuf {
+    // `fill`, from a view.
+    pub fn copy_from<'a>(self, v: ChunkView<'a>) -> Filled
+        ensures { λ r. ⌜ r ≡ fillOf self (v .entry .seq) (v .entry .«t_emit») (v .entry .horizon) (v .entry .dim) (v .entry .«exec_steps») (now (v .entry .«data»)) ⌝ }
+    {
+        self.fill(v.seq, v.t_emit, v.horizon, v.dim, v.exec_steps, v.data)
+    }
+}
