@@ -1,6 +1,6 @@
 -- The rules at the declared structs.
 use Prim.Native.Nat.{ℕ}
-use mathlib.Core.Bool.{true, false}
+use mathlib.Core.Bool.{Bool, true, false}
 use mathlib.Core.List.{List}
 use lib.Dec.{eqb}
 use lib.Ieee.{Float}
@@ -30,6 +30,10 @@ fillOf b s t h d e l =
 -- the buffer with no chunk held; all else stays
 abbrev pub clearedOf : ChunkBuf → ChunkBuf
 clearedOf b = record { «data» = b .«data»; seq = b .seq; «t_emit» = b .«t_emit»; horizon = b .horizon; dim = b .dim; «exec_steps» = b .«exec_steps»; filled = false }
+
+-- whether a chunk is held
+abbrev pub isFilledOf : ChunkBuf → Bool
+isFilledOf b = b .filled
 
 -- the number for a held chunk
 unfoldable pub heldRefusalOf : ChunkBuf → ℕ

@@ -6,7 +6,7 @@ ghost use lib.Seq.{paste};
 ghost use Rattle.refusal.specs.Order.{refusal};
 ghost use Rattle.chunk.specs.Rule.{rowOf, rowSet, heldRows};
 ghost use Rattle.chunk.specs.Refusals.{chunkReasons, lentReasons};
-ghost use Rattle.chunk.specs.Of.{newChunk, fillOf, clearedOf, heldRefusalOf, viewOf};
+ghost use Rattle.chunk.specs.Of.{newChunk, fillOf, clearedOf, isFilledOf, heldRefusalOf, viewOf};
 use refusal::Refusal;
 
 // The numbers of a chunk in row-major order: row i starts at i x dim.
@@ -59,7 +59,7 @@ pub fn chunk_refusal(horizon: u16, dim: u16, exec_steps: u16, len: usize) -> u8
 }
 
 // The number for a lent chunk: its sizes, then its rows' numbers, which have to be finite.
-pub fn lent_refusal(rows: &[f64], horizon: u16, dim: u16, exec_steps: u16) -> u8
+fn lent_refusal(rows: &[f64], horizon: u16, dim: u16, exec_steps: u16) -> u8
     ensures { λ r. ⌜ r ≡ refusal (lentReasons (now (rows .entry)) horizon dim «exec_steps») ⌝ }
 {
     let number = chunk_refusal(horizon, dim, exec_steps, rows.len());
@@ -139,8 +139,9 @@ impl ChunkBuf {
         self
     }
 
+    // Whether a chunk is held.
     pub fn is_filled(self) -> bool
-        ensures { λ r. ⌜ r ≡ self .filled ⌝ }
+        ensures { λ r. ⌜ r ≡ isFilledOf self ⌝ }
     {
         self.filled
     }
@@ -174,7 +175,7 @@ fn lesser(a: usize, b: usize) -> usize
 }
 
 // Row i as a part of the rows, the last row at or past the horizon; empty where there are no rows or it runs past the data.
-pub fn row_of(data: &[f64], horizon: u16, dim: u16, i: usize) -> &[f64]
+fn row_of(data: &[f64], horizon: u16, dim: u16, i: usize) -> &[f64]
     ensures { λ r. ⌜ now r ≡ rowOf (now («data» .entry)) horizon dim i ⌝ }
 {
     let h = horizon as usize;
