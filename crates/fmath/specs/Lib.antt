@@ -2,3 +2,5 @@ pub mod Each
 pub mod Finite
 pub mod Least
 pub mod Checked
+pub mod Norm
+pub mod Answer

@@ -1,7 +1,17 @@
-// The only float helpers on the decision path: tests, least, greatest and clamp.
+// The only float helpers on the decision path: tests, least, greatest, clamp, root, norm and dist.
 ghost use mathlib.Core.Path.{_≡_};
+ghost use lib.Ieee.{binary64};
+ghost use Rattle.fmath.specs.Norm.{norm, dist};
+ghost use Rattle.fmath.specs.Answer.{sqrtAnswer, normAnswer, distAnswer};
 ghost use Rattle.fmath.specs.Finite.{finite, aboveZero, notBelowZero, allFinite, allAboveZero};
 ghost use Rattle.fmath.specs.Least.{lesser, greater, clamped};
+use refusal::Refusal;
+
+// A number, or why there is none.
+pub enum Number {
+    Value(f64),
+    Refused(Refusal),
+}
 
 // Neither a NaN nor an infinity.
 pub fn finite(x: f64) -> bool
@@ -79,4 +89,86 @@ pub fn clamp(x: f64, lo: f64, hi: f64) -> f64
         return lo;
     }
     if x > hi { hi } else { x }
+}
+
+// The root, to nearest; 13 below zero, at an infinity and at a NaN.
+pub fn sqrt(x: f64) -> Number
+    ensures { λ r. ⌜ r ≡ sqrtAnswer binary64 x ⌝ }
+{
+    let r = root::sqrt(x);
+    if finite(r) {
+        return Number::Value(r);
+    }
+    Number::Refused(Refusal::of(Refusal::COMPUTED))
+}
+
+// The length of the first n coordinates. It is finite exactly where each number on the way to it is, and a NaN where there are fewer.
+pub fn magnitude(v: &[f64], n: usize) -> f64
+    ensures { λ r. ⌜ r ≡ norm binary64 (now (v .entry)) n .value ⌝ }
+{
+    if v.len() < n {
+        return 0.0 / 0.0;
+    }
+    let mut s = 0.0;
+    let mut i = 0;
+    while i < n {
+        s += v[i] * v[i];
+        i += 1;
+    }
+    root::sqrt(s)
+}
+
+// The distance over the first n coordinates, likewise.
+pub fn distance(a: &[f64], b: &[f64], n: usize) -> f64
+    ensures { λ r. ⌜ r ≡ dist binary64 (now (a .entry)) (now (b .entry)) n .value ⌝ }
+{
+    if a.len() < n {
+        return 0.0 / 0.0;
+    }
+    if b.len() < n {
+        return 0.0 / 0.0;
+    }
+    let mut s = 0.0;
+    let mut i = 0;
+    while i < n {
+        let d = a[i] - b[i];
+        s += d * d;
+        i += 1;
+    }
+    root::sqrt(s)
+}
+
+// The length of the first n coordinates; 11 where there are fewer, 12 where any number of the slice is not finite, 13 where a computed one is not.
+pub fn norm(v: &[f64], n: usize) -> Number
+    ensures { λ r. ⌜ r ≡ normAnswer binary64 (now (v .entry)) n ⌝ }
+{
+    if v.len() < n {
+        return Number::Refused(Refusal::of(Refusal::SHORT));
+    }
+    if !all_finite(v, v.len()) {
+        return Number::Refused(Refusal::of(Refusal::NOT_FINITE));
+    }
+    let r = magnitude(v, n);
+    if finite(r) {
+        return Number::Value(r);
+    }
+    Number::Refused(Refusal::of(Refusal::COMPUTED))
+}
+
+// The distance over the first n coordinates, with the refusals of `norm` for both slices.
+pub fn dist(a: &[f64], b: &[f64], n: usize) -> Number
+    ensures { λ r. ⌜ r ≡ distAnswer binary64 (now (a .entry)) (now (b .entry)) n ⌝ }
+{
+    if (a.len() < n) | (b.len() < n) {
+        return Number::Refused(Refusal::of(Refusal::SHORT));
+    }
+    let fine = all_finite(a, a.len()) & all_finite(b, b.len());
+    if !fine {
+        return Number::Refused(Refusal::of(Refusal::NOT_FINITE));
+    }
+    let r = distance(a, b, n);
+    if finite(r) {
+        return Number::Value(r);
+    }
+    Number::Refused(Refusal::of(Refusal::COMPUTED))
 }

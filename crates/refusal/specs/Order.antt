@@ -48,7 +48,7 @@ abbrev pub given : (Reason → Bool) → ℕ
 given applies = firstOf applies order
 
 -- what an entry judges: a reason, and the condition under which it applies
-infix 20 _when_
+infix 70 _when_
 pub data Judged : Type 0 where
   _when_ : Reason → Bool → Judged
 

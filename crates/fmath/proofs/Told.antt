@@ -1,0 +1,52 @@
+-- A value that tells: each number on the way is finite exactly where the last one is. Sums, products and roots of such values tell too, so
+-- one test at the end of a chain is enough.
+use mathlib.Core.Path.{_≡_, refl, sym, ap, _∙_}
+use mathlib.Core.Bool.{Bool, true, false, _&&_}
+use mathlib.Core.List.{List}
+use Prim.Native.Nat.{ℕ, zero, suc}
+use lib.Ieee.{Float, Format, add, sub, mul}
+use Rattle.root.specs.Root.{rootOf}
+use Rattle.fmath.specs.Each.{at}
+use Rattle.fmath.specs.Finite.{finite, +0}
+use Rattle.fmath.specs.Checked.{Checked, sumFrom}
+use Rattle.fmath.specs.Norm.{squareAt, norm, squaredGap, dist}
+use Rattle.fmath.proofs.Absorbing.{Fine, fine-add-left, fine-add-right, fine-sub-left, fine-sub-right, fine-mul-left, fine-mul-right, fine-root}
+
+abbrev pub Tells : Checked Float → Type 0
+Tells x = x .sound ≡ finite (x .value)
+
+-- a test that the last one implies can be left out
+pub implied : (x z : Bool) → (z ≡ true → x ≡ true) → (x && z) ≡ z
+implied true z h = refl
+implied false true h = h refl
+implied false false h = refl
+
+-- .. where it is itself told
+told : (x y z : Bool) → x ≡ y → (z ≡ true → y ≡ true) → (x && z) ≡ z
+told x y z e h = rw e (implied y z h)
+
+module _ (f : Format) where
+  pub gap-tells : (a b : List Float) (j : ℕ) → Tells (squaredGap f a b j)
+  unfolding squaredGap
+  gap-tells a b j = implied _ _ (fine-mul-left f (sub f (at a j) (at b j)) (sub f (at a j) (at b j)))
+
+  pub square-tells : (v : List Float) (j : ℕ) → Tells (squareAt f v j)
+  unfolding squareAt
+  square-tells v j = refl
+
+  pub sum-tells : (z : Float) (g : ℕ → Checked Float) → Fine z → ((j : ℕ) → Tells (g j)) → (n : ℕ) → Tells (sumFrom f z g n)
+  unfolding sumFrom
+  sum-tells z g h t zero = sym h
+  sum-tells z g h t (suc j) =
+      let s = sumFrom f z g j .value in
+      let x = g j .value in
+      ap (λ (b : Bool). sumFrom f z g j .sound && b) (told _ _ _ (t j) (fine-add-right f s x))
+      ∙ told _ _ _ (sum-tells z g h t j) (fine-add-left f s x)
+
+  pub dist-tells : (a b : List Float) (n : ℕ) → Tells (dist f a b n)
+  unfolding dist finite
+  dist-tells a b n = told _ _ _ (sum-tells +0 (squaredGap f a b) refl (gap-tells a b) n) (fine-root f (sumFrom f +0 (squaredGap f a b) n .value))
+
+  pub norm-tells : (v : List Float) (n : ℕ) → Tells (norm f v n)
+  unfolding norm finite
+  norm-tells v n = told _ _ _ (sum-tells +0 (squareAt f v) refl (square-tells v) n) (fine-root f (sumFrom f +0 (squareAt f v) n .value))

@@ -1,0 +1,160 @@
+-- From bits to bits, at either format: the parts of the root, put together as a pattern, are the pattern of the root.
+use mathlib.Core.Path.{_≡_, refl, sym, ap, _∙_, subst}
+use Prim.Native.Nat.{ℕ, zero, suc, _+_, _-_, _*_, _/_, _%_, _^_, _≤_, _<_}
+use native.Mathlib.Nat.{le-trans, le-of-eq, lt-of-lt-of-le, mul-le-mul-right, suc-mul}
+use native.Mathlib.Omega.{arith}
+use mathlib.Core.Bool.{Bool, true, false, cond}
+use lib.Dec.{eqb}
+use lib.IntN.{ℤ, pos, natAbs, subℕ, _+ℤ_}
+use borrow.Author.Tests.{eqb-true, eqb-false}
+use lib.Dec.{T, lit≤}
+use lib.Ieee.{fits}
+use lib.Ieee.{Float, Format, binary32, binary64, prec, emax, low, odd, size, hid, ones, top, ofBits}
+use lib.Ieee.Digits.{size-le}
+use lib.Ieee.Exact.{HasValue, odd-sign}
+use lib.Ieee.Bits.{ofBits-fits}
+use Rattle.root.specs.declared.Parts.{Parts}
+use Rattle.root.specs.Root.{nearRoot, scaled, rootExponent, rootOf}
+use Rattle.root.specs.Of.{Ranged, rootParts, unpacked, Written}
+use Rattle.root.proofs.Whole.{sub-pos, plus-nat}
+use Rattle.root.proofs.Units.{pairs, kept, pairs-is, exponent-is, scaled-is}
+use Rattle.root.proofs.Rule.{prec-pos, wide, root-ge, root-lt, root-is}
+use Rattle.root.proofs.Patterns.{subnormal, normal}
+
+two-hid : (f : Format) → 2 ^ prec f ≡ hid f + hid f
+two-hid binary32 = refl
+two-hid binary64 = refl
+
+-- the root's exponent is in the middle of the range
+weight-lt : (f : Format) (z k : ℕ) → z ≤ prec f → suc k < ones f → suc ((z + (k + low f) + 1 - 2 * prec f) / 2) < ones f
+weight-lt binary32 z k h l = omega arith
+weight-lt binary64 z k h l = omega arith
+
+-- ---- the pattern that is read: q * 2 ^ k smallest values
+value-low : (f : Format) (b : ℕ) → b < hid f → HasValue (ofBits f b) false (b * 2 ^ 0) (2 ^ low f)
+value-low f b h = subst (λ (x : Float). HasValue x false (b * 2 ^ 0) (2 ^ low f)) (sym (subnormal f b h)) (odd-sign (prec f) false b 0 (low f))
+
+value-normal : (f : Format) (q k : ℕ) → hid f ≤ q → q < hid f + hid f → suc k < ones f → HasValue (ofBits f (k * hid f + q)) false (q * 2 ^ k) (2 ^ low f)
+value-normal f q k lo hi K = subst (λ (x : Float). HasValue x false (q * 2 ^ k) (2 ^ low f)) (sym (normal f q k lo hi K)) (odd-sign (prec f) false q k (low f))
+
+-- ---- the root's parts, in units
+
+-- q * 2 ^ (k - low)
+abbrev pub placed : Format → ℕ → ℕ → Parts
+placed f q k = record { digits = q; exponent = subℕ k (low f) }
+
+module _ (f : Format) (q k : ℕ) (Q : 0 < q) (B : q < 2 ^ prec f) where
+  abbrev pub whole : ℕ
+  whole = kept (prec f) (q * 2 ^ (k + low f))
+
+  abbrev pub weight : ℕ
+  weight = pairs (prec f) (q * 2 ^ (k + low f))
+
+  pub parts-are : rootParts (prec f) (placed f q k) ≡ placed f (nearRoot (prec f) whole) weight
+  parts-are = let s = size-le q (prec f) B in rw (exponent-is (prec f) q k (low f) Q s (prec-pos f) (wide f), scaled-is (prec f) q k (low f) Q s (prec-pos f) (wide f))
+
+  -- the root's exponent is in the middle of the range
+  pub weight-small : suc k < ones f → suc weight < ones f
+  weight-small K = subst (λ (y : ℕ). suc y < ones f) (sym (pairs-is (prec f) q (k + low f) Q)) (weight-lt f (size q) k (size-le q (prec f) B) K)
+
+  pub put-together : (x : Float) → suc k < ones f → T (fits f x) → HasValue x false (q * 2 ^ k) (2 ^ low f) → Written f (weight * hid f + nearRoot (prec f) whole) (rootOf f x)
+  put-together x K w v =
+      let r = nearRoot (prec f) whole in
+      let lo : hid f ≤ r = root-ge f q k Q B in
+      let hi : r < hid f + hid f = subst (λ (y : ℕ). r < y) (two-hid f) (root-lt f q k Q B) in
+      let m = weight-small K in (
+        normal f r weight lo hi m ∙ sym (root-is f q k Q B x w v),
+        lt-of-lt-of-le (below (weight * hid f) (hid f) r (suc (suc weight) * hid f) (suc-mul (suc weight) (hid f) ∙ ap (λ (y : ℕ). y + hid f) (suc-mul weight (hid f))) hi) (mul-le-mul-right (hid f) m),
+      )
+    where
+      below : (a h r c : ℕ) → c ≡ a + h + h → r < h + h → a + r < c
+      below a h r c e l = omega arith
+
+-- ---- the parts that a pattern has
+
+pub record Unpacked (f : Format) (b : ℕ) : Type 0 where
+  pub q : ℕ
+  pub k : ℕ
+  pub some : 0 < q
+  pub few : q < 2 ^ prec f
+  pub middle : suc k < ones f
+  pub is : unpacked f b ≡ placed f q k
+  pub value : HasValue (ofBits f b) false (q * 2 ^ k) (2 ^ low f)
+
+under : (f : Format) (b : ℕ) → b < hid f → b < 2 ^ prec f
+under binary32 b h = omega arith
+under binary64 b h = omega arith
+
+one : (f : Format) → 1 < ones f
+one binary32 = omega arith
+one binary64 = omega arith
+
+no-field : (f : Format) (b : ℕ) → b / hid f ≡ 0 → b < hid f
+no-field binary32 b h = omega arith
+no-field binary64 b h = omega arith
+
+abbrev Facts : (f : Format) (q k b : ℕ) → Type 0
+Facts f q k b = (0 < q) × (q < 2 ^ prec f) × (suc k < ones f) × (hid f ≤ q) × (q < hid f + hid f) × (k * hid f + q ≡ b)
+
+facts : (f : Format) (b : ℕ) → 0 < b / hid f → b < ones f * hid f → Facts f (b % hid f + hid f) (b / hid f - 1) b
+facts binary32 b l h = omega arith
+facts binary64 b l h = omega arith
+
+-- a subnormal number: the pattern is the number of smallest values; and a normal one: the leading digit is put back
+pub unpack : (f : Format) (b : ℕ) → 0 < b → b < ones f * hid f → Unpacked f b
+unpack f b p h = go (eqb (b / hid f) 0) refl
+  where
+    go : (t : Bool) → eqb (b / hid f) 0 ≡ t → Unpacked f b
+    go true e =
+        let l = no-field f b (eqb-true (b / hid f) 0 e) in
+        record { q = b; k = 0; some = p; few = under f b l; middle = one f; is = rw e; value = value-low f b l }
+    go false e =
+        let n = facts f b (some-field (b / hid f) (eqb-false (b / hid f) 0 e)) h in
+        let q = b % hid f + hid f in
+        let k = b / hid f - 1 in
+        record {
+          q = q;
+          k = k;
+          some = n .0;
+          few = n .1;
+          middle = n .2;
+          is = rw e;
+          value = subst (λ (y : ℕ). HasValue (ofBits f y) false (q * 2 ^ k) (2 ^ low f)) (n .5) (value-normal f q k (n .3) (n .4) (n .2));
+        }
+      where
+        some-field : (x : ℕ) → (x ≡ 0 → ⊥) → 0 < x
+        some-field zero h = absurd (h refl)
+        some-field (suc x) h = omega arith
+
+-- .. are ones that the root takes
+pub ranged : (f : Format) (q k : ℕ) → 0 < q → q < 2 ^ prec f → suc k < ones f → Ranged (placed f q k) (prec f)
+ranged f q k Q B K =
+    record {
+      some = Q;
+      few = B;
+      precise = prec-pos f;
+      short = short f;
+      k = k;
+      l = low f;
+      exponent = refl;
+      above = small f K;
+      below = lowest f;
+      room = wide f;
+    }
+  where
+    short : (f : Format) → prec f ≤ 60
+    short binary32 = lit≤ tt
+    short binary64 = lit≤ tt
+
+    lowest : (f : Format) → low f ≤ 4096
+    lowest binary32 = lit≤ tt
+    lowest binary64 = lit≤ tt
+
+    small : (f : Format) → suc k < ones f → k ≤ 4096
+    small binary32 h = omega arith
+    small binary64 h = omega arith
+
+-- ---- the bias taken off and put on
+
+pub bias-back : (i l : ℕ) → subℕ i l +ℤ pos l ≡ pos i
+bias-back i l = plus-nat i l l ∙ sub-pos (i + l) l (omega arith) ∙ ap pos (omega arith)

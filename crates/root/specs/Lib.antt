@@ -1,0 +1,4 @@
+pub mod Root
+pub mod Rule
+pub mod Of
+pub mod Worked

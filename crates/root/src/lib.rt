@@ -1,0 +1,147 @@
+// The square root of an `f64`, correctly rounded, worked out from its bits in 64-bit integers.
+ghost use mathlib.Core.Path.{_≡_};
+ghost use Prim.Native.Nat.{_+_, _*_, _/_, _^_, _≤_, _<_};
+ghost use lib.Dec.{T};
+ghost use lib.IntN.{pos, _+ℤ_, _-ℤ_, _*ℤ_};
+ghost use lib.Signed.{mag, nonNeg};
+ghost use lib.Ieee.{binary64, ofBits};
+ghost use Rattle.root.specs.Root.{half, nearRoot, rootOf};
+ghost use Rattle.root.specs.Of.{Ranged, rootParts, unpacked, Written};
+
+// The number digits * 2^exponent; the exponent is unbiased, and as low as -1074 where a number is read.
+pub struct Parts {
+    pub digits: u64,
+    pub exponent: i64,
+}
+
+// Half of an exponent, rounded down, also below zero.
+fn half(e: i64) -> i64
+    ensures { λ r. ⌜ r ≡ half e ⌝ }
+{
+    e >> 1
+}
+
+fn raised(e: i64, n: u64) -> i64
+    requires { ⌜ (mag e < 2 ^ 32) × (n < 2 ^ 32) ⌝ }
+    ensures { λ r. ⌜ r ≡ e +ℤ pos n ⌝ }
+{
+    e + n as i64
+}
+
+fn lowered(e: i64, n: u64) -> i64
+    requires { ⌜ (mag e < 2 ^ 33) × (n < 2 ^ 32) ⌝ }
+    ensures { λ r. ⌜ r ≡ e -ℤ pos n ⌝ }
+{
+    e - n as i64
+}
+
+// An exponent with a bias put on it.
+fn biased(e: i64, bias: u64) -> u64
+    requires { ⌜ (mag e < 2 ^ 32) × (bias < 2 ^ 32) × T (nonNeg (e +ℤ pos bias)) ⌝ }
+    ensures { λ r. ⌜ pos r ≡ e +ℤ pos bias ⌝ }
+{
+    raised(e, bias) as u64
+}
+
+// What an exponent has above twice another.
+fn excess(e: i64, h: i64) -> u64
+    requires { ⌜ (mag e < 2 ^ 32) × (mag h < 2 ^ 32) × T (nonNeg (e -ℤ pos 2 *ℤ h)) ⌝ }
+    ensures { λ r. ⌜ pos r ≡ e -ℤ pos 2 *ℤ h ⌝ }
+{
+    (e - 2 * h) as u64
+}
+
+// The whole number nearest to the root of w * 4^n / 2^64, one digit of the root and two of w a round.
+fn nearest_root(w: u64, n: u64) -> u64
+    requires { ⌜ n ≤ 60 ⌝ }
+    ensures { λ r. ⌜ r ≡ nearRoot n (w * 4 ^ n / 2 ^ 64) ⌝ }
+{
+    let mut left = w;
+    let mut root = 0u64;
+    let mut rest = 0u64;
+    let mut k = 0u64;
+    while k < n {
+        let next = rest * 4 + left / 0x4000_0000_0000_0000;
+        let less = root * 4 + 1;
+        left = left << 2;
+        if less <= next {
+            rest = next - less;
+            root = root * 2 + 1;
+        } else {
+            rest = next;
+            root = root * 2;
+        }
+        k += 1;
+    }
+    if root < rest { root + 1 } else { root }
+}
+
+// The exponent of the root, to p digits, of a number of z digits: half of the even one that is left where it is scaled to 2p - 1 or 2p digits.
+fn root_exponent(e: i64, z: u64, p: u64) -> i64
+    requires { ⌜ (mag e < 2 ^ 31) × (z ≤ 64) × (p ≤ 60) ⌝ }
+    ensures { λ r. ⌜ r ≡ half (e +ℤ pos (z + 1) -ℤ pos (2 * p)) ⌝ }
+{
+    half(lowered(raised(e, z + 1), 2 * p))
+}
+
+// The root of digits * 2^exponent, to p digits.
+fn root_parts(x: Parts, p: u64) -> Parts
+    requires { ⌜ Ranged x p ⌝ }
+    ensures { λ r. ⌜ r ≡ rootParts p x ⌝ }
+{
+    let z = 64 - u64::leading_zeros(x.digits) as u64;
+    let h = root_exponent(x.exponent, z, p);
+    let s = excess(x.exponent, h);
+    let r = nearest_root(x.digits << (s + 64 - 2 * p), p);
+    Parts {
+        digits: r,
+        exponent: h,
+    }
+}
+
+// The parts of a finite number above zero, from its bits.
+fn unpack(b: u64) -> Parts
+    requires { ⌜ b < 0x7ff0_0000_0000_0000 ⌝ }
+    ensures { λ r. ⌜ r ≡ unpacked binary64 b ⌝ }
+{
+    let field = b / 0x10_0000_0000_0000;
+    if field == 0 {
+        return Parts {
+            digits: b,
+            exponent: -1074,
+        };
+    }
+    Parts {
+        digits: b % 0x10_0000_0000_0000 + 0x10_0000_0000_0000,
+        exponent: lowered(raised(0, field - 1), 1074),
+    }
+}
+
+// The bits of the root, from those of a finite number above zero.
+fn root_bits(b: u64) -> u64
+    requires { ⌜ (0 < b) × (b < 0x7ff0_0000_0000_0000) ⌝ }
+    ensures { λ r. ⌜ Written binary64 r (rootOf binary64 (ofBits binary64 b)) ⌝ }
+{
+    let r = root_parts(unpack(b), 53);
+    biased(r.exponent, 1074) * 0x10_0000_0000_0000 + r.digits
+}
+
+// The root; a NaN where there is none.
+pub fn sqrt(x: f64) -> f64
+    ensures { λ r. ⌜ r ≡ rootOf binary64 x ⌝ }
+{
+    if x != x {
+        return x;
+    }
+    let b = f64::to_bits(x);
+    if b == 0 {
+        return x;
+    }
+    if b == 0x8000_0000_0000_0000 {
+        return x;
+    }
+    if 0x7ff0_0000_0000_0000 <= b {
+        return 0.0 / 0.0;
+    }
+    f64::from_bits(root_bits(b))
+}
