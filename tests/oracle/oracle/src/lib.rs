@@ -1,0 +1,174 @@
+//! The published Rust on the arguments of the port: sizes, feature bits and the configuration are carried over by
+//! name. Nothing is judged here, and where the Rust answers with an infinity or a NaN so does this.
+
+mod carry;
+mod compile;
+mod trail;
+
+use lictor_core::{ChunkError, ChunkView, ObsView};
+use lictor_detect::{brake, brake_seen, conformal, slacks_seen, tier0, tier1, window};
+use model::{BrakeOut, Calibration, ChunkBuf, FuseConfig, Scores, Tier0Out, Tier1Rt, Trail};
+
+pub use carry::{calibration, chunk_buf, chunk_view, config};
+pub use compile::compile;
+pub use lictor_core::fmath;
+pub use lictor_core::FuseConfig as Compiled;
+
+/// What `features` and `check_chunk` are told about the world.
+fn obs<'a>(pos: &'a [f64], aux: &'a [f64], ext: &'a [f64]) -> ObsView<'a> {
+    ObsView { t: 0, pos, vel: None, aux, ext }
+}
+
+/// The number in document 01's table of what `fill` refuses.
+fn number_of(e: ChunkError) -> u8 {
+    match e {
+        ChunkError::Empty => 5,
+        ChunkError::TooLong => 6,
+        ChunkError::TooWide => 7,
+        ChunkError::ExecExceedsHorizon => 8,
+        ChunkError::LenMismatch => 9,
+    }
+}
+
+pub fn fill(buf: &mut ChunkBuf, seq: u32, t_emit: u32, h: u16, d: u16, exec: u16, src: &[f64]) -> Result<(), u8> {
+    let mut b = chunk_buf(buf);
+    let answer = b.fill(seq, t_emit, h, d, exec, src).map_err(number_of);
+    *buf = carry::chunk_buf_back(&b);
+    answer
+}
+
+pub fn copy_from(buf: &mut ChunkBuf, v: model::ChunkView<'_>) {
+    let mut b = chunk_buf(buf);
+    b.copy_from(chunk_view(v));
+    *buf = carry::chunk_buf_back(&b);
+}
+
+pub fn action<'a>(v: model::ChunkView<'a>, i: usize) -> &'a [f64] {
+    let v: ChunkView<'a> = chunk_view(v);
+    v.action(i)
+}
+
+pub fn push(bits: u64, hit: bool, mask: u64) -> u64 {
+    let mut w = window::Window { bits };
+    w.push(hit, mask);
+    w.bits
+}
+
+pub fn hits(bits: u64) -> u8 {
+    window::Window { bits }.hits()
+}
+
+pub fn trail_push(t: &mut Trail, p: &[f64], d: usize) {
+    let mut r = trail::to_rust(t);
+    r.push(p, d.min(model::MAX_POS));
+    *t = trail::from_rust(&r);
+}
+
+pub fn net(t: &Trail, d: usize, w: usize) -> f64 {
+    trail::to_rust(t).net(d.min(model::MAX_POS), w)
+}
+
+pub fn path(t: &Trail, d: usize, w: usize) -> f64 {
+    trail::to_rust(t).path(d.min(model::MAX_POS), w)
+}
+
+pub fn trail_clear(t: &mut Trail) {
+    let mut r = trail::to_rust(t);
+    r.clear();
+    *t = trail::from_rust(&r);
+}
+
+pub fn check_chunk(cfg: &FuseConfig, pos: &[f64], aux: &[f64], ch: model::ChunkView<'_>, out: &mut [f64]) -> Tier0Out {
+    let mut buf = lictor_core::ChunkBuf::new();
+    let r = tier0::check_chunk(&config(cfg), obs(pos, aux, &[]), chunk_view(ch), &mut buf);
+    let rows = buf.view().map_or(&[][..], |v| v.data);
+    out[..rows.len()].copy_from_slice(rows);
+    carry::tier0_out(r)
+}
+
+pub fn check_action(cfg: &FuseConfig, pos: &[f64], aux: &[f64], prev: &[f64], a: &[f64], out: &mut [f64]) -> Tier0Out {
+    carry::tier0_out(tier0::check_action(&config(cfg), obs(pos, aux, &[]), prev, a, out))
+}
+
+pub fn features(
+    cfg: &FuseConfig,
+    rt: &mut Tier1Rt,
+    pos: &[f64],
+    ext: &[f64],
+    new: Option<model::ChunkView<'_>>,
+    sc: &mut Scores,
+) {
+    let mut r = carry::tier1_rt(rt);
+    let mut scores = carry::scores(sc);
+    tier1::features(&config(cfg), &mut r, obs(pos, &[], ext), new.map(chunk_view), 0, &mut scores);
+    *rt = carry::tier1_rt_back(&r);
+    *sc = carry::scores_back(&scores);
+}
+
+/// The answer of the published file, and the slacks that its changed copy shows.
+pub fn brake_feasible(
+    cfg: &FuseConfig,
+    p0: &[f64],
+    v0: &[f64],
+    ch: model::ChunkView<'_>,
+    from: usize,
+) -> (BrakeOut, Vec<f64>) {
+    let cfg = config(cfg);
+    let r = brake::brake_feasible(&cfg, p0, v0, chunk_view(ch), from);
+    brake_seen::brake_feasible(&cfg, p0, v0, chunk_view(ch), from);
+    let slacks = slacks_seen();
+    (BrakeOut { count: slacks.len(), feasible: r.feasible, margin: r.margin, stop_dist: r.stop_dist }, slacks)
+}
+
+pub fn brake_action(cfg: &FuseConfig, p: &[f64], v: &[f64], out: &mut [f64]) {
+    brake::brake_action(&config(cfg), p, v, out);
+}
+
+pub fn hold_action(cfg: &FuseConfig, p: &[f64], out: &mut [f64]) {
+    brake::hold_action(&config(cfg), p, out);
+}
+
+pub fn standardise(cal: &Calibration, bin: usize, sc: &mut Scores) {
+    let mut scores = carry::scores(sc);
+    conformal::standardise(&calibration(cal), bin.min(u32::MAX as usize) as u32, &mut scores);
+    *sc = carry::scores_back(&scores);
+}
+
+pub fn aggregate(cal: &Calibration, sc: &mut Scores) -> f64 {
+    let mut scores = carry::scores(sc);
+    let s = conformal::aggregate(&calibration(cal), &mut scores);
+    *sc = carry::scores_back(&scores);
+    s
+}
+
+pub fn trip(cal: &Calibration, sc: &Scores) -> bool {
+    conformal::trip(&calibration(cal), &carry::scores(sc))
+}
+
+pub fn time_bin(t: u32, horizon_ticks: u32) -> usize {
+    lictor_core::bin_of(t, horizon_ticks, model::BINS as u16)
+}
+
+#[cfg(test)]
+mod tests {
+    use super::*;
+
+    /// 3, 4 and 5 through the published files and the shims.
+    #[test]
+    fn the_published_sources_answer() {
+        assert_eq!(fmath::norm(&[3.0, 4.0], 2), 5.0);
+        assert_eq!(hits(push(push(0, true, 7), true, 7)), 2);
+    }
+
+    /// A trail is carried over with any head and count, and back.
+    #[test]
+    fn a_trail_keeps_its_parts() {
+        let mut t = Trail::NEW;
+        for (i, x) in t.buf.iter_mut().enumerate() {
+            *x = i as f64;
+        }
+        t.head = 5;
+        t.len = 20;
+        assert_eq!(trail::from_rust(&trail::to_rust(&t)), t);
+    }
+}
