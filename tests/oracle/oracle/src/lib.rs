@@ -9,7 +9,7 @@ use lictor_core::{ChunkError, ChunkView, ObsView};
 use lictor_detect::{brake, brake_seen, conformal, slacks_seen, tier0, tier1, window};
 use model::{BrakeOut, Calibration, ChunkBuf, FuseConfig, Scores, Tier0Out, Tier1Rt, Trail};
 
-pub use carry::{calibration, chunk_buf, chunk_view, config};
+pub use carry::{calibration, chunk_buf, chunk_view, config, derived};
 pub use compile::compile;
 pub use lictor_core::fmath;
 pub use lictor_core::FuseConfig as Compiled;

@@ -1,0 +1,108 @@
+//! Module 2.
+
+use model::{chunk as rule, ChunkBuf, MAX_D};
+
+use super::{accepted, none, nothing, numbers};
+use crate::{
+    input::{chunk, chunk_buf, ChunkIn},
+    number::Field,
+    part::Part,
+    port::{CopyFrom, Fill, Port},
+    rng::Rng,
+    run::{Entry, Outcome, Shown},
+};
+
+/// All of a buffer: its numbers, header and flag.
+pub fn shown(b: &ChunkBuf) -> Shown {
+    let header = [b.seq as u64, b.t_emit as u64, b.horizon as u64, b.dim as u64, b.exec_steps as u64, b.filled as u64];
+    Shown { numbers: b.data.to_vec(), counts: header.to_vec() }
+}
+
+#[derive(Clone, Debug)]
+pub struct FillIn {
+    buf: ChunkBuf,
+    src: ChunkIn,
+}
+
+fn generate(rng: &mut Rng) -> FillIn {
+    let field = Field::new(rng);
+    let dim = rng.within(1, MAX_D);
+    FillIn { buf: chunk_buf(rng, field, dim), src: chunk(rng, field, dim) }
+}
+
+/// The old buffer is only written: whether its sizes fit does not matter, so that they are left alone.
+fn parts(i: &mut FillIn) -> Vec<Part<'_>> {
+    vec![Part::Chunk(&mut i.src), Part::Table(&mut i.buf.data, 0.0), Part::Flag(&mut i.buf.filled)]
+}
+
+fn filled(f: Fill, i: &FillIn) -> Outcome {
+    let (mut buf, c) = (i.buf, &i.src);
+    let answer = f(&mut buf, c.seq, c.t_emit, c.horizon, c.dim, c.exec_steps, &c.data);
+    Outcome { answer: answer.map(|()| Shown::default()), buffers: shown(&buf) }
+}
+
+fn copied(f: CopyFrom, i: &FillIn) -> Outcome {
+    let mut buf = i.buf;
+    let answer = f(&mut buf, i.src.view());
+    Outcome { answer: answer.map(|()| Shown::default()), buffers: shown(&buf) }
+}
+
+pub fn fill(port: &Port) -> Entry<FillIn> {
+    Entry {
+        name: "fill",
+        generate,
+        parts,
+        narrower: none,
+        before: |i| shown(&i.buf),
+        model: Box::new(|i| filled(rule::fill, i)),
+        rust: Box::new(|i| {
+            let (mut buf, c) = (i.buf, &i.src);
+            oracle::fill(&mut buf, c.seq, c.t_emit, c.horizon, c.dim, c.exec_steps, &c.data).ok()?;
+            Some(Outcome { answer: Ok(Shown::default()), buffers: shown(&buf) })
+        }),
+        port: port.fill.map(|f| Box::new(move |i: &FillIn| filled(f, i)) as _),
+    }
+}
+
+pub fn copy_from(port: &Port) -> Entry<FillIn> {
+    Entry {
+        name: "copy_from",
+        generate,
+        parts,
+        narrower: none,
+        before: |i| shown(&i.buf),
+        model: Box::new(|i| copied(rule::copy_from, i)),
+        rust: Box::new(|i| {
+            let mut buf = i.buf;
+            oracle::copy_from(&mut buf, i.src.view());
+            Some(Outcome { answer: Ok(Shown::default()), buffers: shown(&buf) })
+        }),
+        port: port.copy_from.map(|f| Box::new(move |i: &FillIn| copied(f, i)) as _),
+    }
+}
+
+#[derive(Clone, Debug)]
+pub struct ActionIn {
+    ch: ChunkIn,
+    i: usize,
+}
+
+/// Refuses nothing, so that damaged views are compared with the Rust too.
+pub fn action(port: &Port) -> Entry<ActionIn> {
+    Entry {
+        name: "action",
+        generate: |rng| {
+            let dim = rng.within(1, MAX_D);
+            let ch = chunk(rng, Field(1.0), dim);
+            let h = ch.horizon as usize;
+            let i = rng.pick(&[0, 1, h.saturating_sub(1), h, h + 1, usize::MAX]);
+            ActionIn { ch, i }
+        },
+        parts: |i| vec![Part::Chunk(&mut i.ch), Part::Usize(&mut i.i)],
+        narrower: none,
+        before: nothing,
+        model: Box::new(|i| accepted(numbers(rule::action(&i.ch.view(), i.i)))),
+        rust: Box::new(|i| Some(accepted(numbers(oracle::action(i.ch.view(), i.i))))),
+        port: port.action.map(|f| Box::new(move |i: &ActionIn| accepted(numbers(f(&i.ch.view(), i.i)))) as _),
+    }
+}
