@@ -1,4 +1,5 @@
-//! Runs every entry and says what was compared. DIFF_SEED, DIFF_CALLS and DIFF_SECONDS (for each entry) change the run.
+//! Runs every entry, or those that are named, and says what was compared. DIFF_SEED, DIFF_CALLS and DIFF_SECONDS (for
+//! each entry) change the run.
 
 use std::{
     env,
@@ -26,13 +27,14 @@ fn main() -> ExitCode {
         calls: variable("DIFF_CALLS", 1_000_000),
         time: Duration::from_secs(variable("DIFF_SECONDS", 60)),
     };
-    let tasks = entries::all(&port::linked());
+    let mut tasks = entries::all(&port::linked());
+    let named: Vec<String> = env::args().skip(1).collect();
+    tasks.retain(|t| named.is_empty() || named.iter().any(|n| n == t.name));
     let (calls, seconds) = (budget.calls, budget.time.as_secs());
     println!("differential: seed {}, for each entry {calls} calls or {seconds} s, whichever is less", budget.seed);
     say_linked(&tasks);
     let start = Instant::now();
     let reports = run_all(tasks, &budget);
-    say_reports(&reports);
     println!("{} s in all on {THREADS} threads", start.elapsed().as_secs());
     let failures: Vec<&String> = reports.iter().filter_map(|r| r.failure.as_ref()).collect();
     for text in &failures {
@@ -57,43 +59,40 @@ fn say_linked(tasks: &[Task]) {
     println!("not linked, so that the model alone meets the Rust: {}", names(false));
 }
 
-/// The entries in order, each taken by the next free thread.
+/// Each entry taken by the next free thread, and said when it is done.
 fn run_all(tasks: Vec<Task>, budget: &Budget) -> Vec<Report> {
-    let queue = Mutex::new(tasks.iter().enumerate());
+    println!(
+        "{:<15} {:>9} {:>9} {:>9} {:>9} {:>8} {:>6}  refused, by number",
+        "entry", "calls", "accepted", "= Rust", "= port", "skipped", "s"
+    );
+    let queue = Mutex::new(tasks.iter());
     let done = Mutex::new(Vec::new());
     thread::scope(|s| {
         for _ in 0..THREADS {
             s.spawn(|| loop {
                 let next = queue.lock().expect("no thread panics").next();
-                let Some((i, task)) = next else { break };
+                let Some(task) = next else { break };
                 let report = (task.run)(budget);
-                done.lock().expect("no thread panics").push((i, report));
+                say(&report);
+                done.lock().expect("no thread panics").push(report);
             });
         }
     });
-    let mut done = done.into_inner().expect("no thread panics");
-    done.sort_by_key(|(i, _)| *i);
-    done.into_iter().map(|(_, r)| r).collect()
+    done.into_inner().expect("no thread panics")
 }
 
-fn say_reports(reports: &[Report]) {
+fn say(r: &Report) {
+    let refused: Vec<String> =
+        (1..15).filter(|n| r.refused[*n] > 0).map(|n| format!("{n}: {}", r.refused[n])).collect();
     println!(
-        "{:<15} {:>9} {:>9} {:>9} {:>9} {:>8} {:>6}  refused, by number",
-        "entry", "calls", "accepted", "= Rust", "= port", "skipped", "s"
+        "{:<15} {:>9} {:>9} {:>9} {:>9} {:>8} {:>6.1}  {}",
+        r.name,
+        r.calls,
+        r.accepted,
+        r.against_rust,
+        r.against_port,
+        r.skipped,
+        r.seconds,
+        refused.join(", ")
     );
-    for r in reports {
-        let refused: Vec<String> =
-            (1..15).filter(|n| r.refused[*n] > 0).map(|n| format!("{n}: {}", r.refused[n])).collect();
-        println!(
-            "{:<15} {:>9} {:>9} {:>9} {:>9} {:>8} {:>6.1}  {}",
-            r.name,
-            r.calls,
-            r.accepted,
-            r.against_rust,
-            r.against_port,
-            r.skipped,
-            r.seconds,
-            refused.join(", ")
-        );
-    }
 }

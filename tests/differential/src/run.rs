@@ -6,7 +6,7 @@ use std::{
     time::{Duration, Instant},
 };
 
-use model::Refusal;
+use model::{refusal::COMPUTED, Refusal};
 
 use crate::{part::Part, rng::Rng};
 
@@ -127,11 +127,7 @@ impl<I: Clone + Debug + 'static> Entry<I> {
         let before = (self.before)(input);
         let want = (self.model)(input);
         kept(&before, &want)?;
-        let mut rust = false;
-        if let Some(got) = want.answer.as_ref().ok().and_then(|_| (self.rust)(input)) {
-            same("the Rust", &got, &want)?;
-            rust = true;
-        }
+        let rust = self.check_rust(input, &want)?;
         if let Some(port) = &self.port {
             let got = port(input);
             same("the port", &got, &want)?;
@@ -140,6 +136,24 @@ impl<I: Clone + Debug + 'static> Entry<I> {
             }
         }
         Ok(Compared { number: want.answer.map_or_else(|r| r.number, |_| 0), rust })
+    }
+
+    /// The Rust where it can be asked: an accepted call, whose numbers are all finite, or one refused with 13, where
+    /// its flags have to show a number that is not.
+    fn check_rust(&self, input: &I, want: &Outcome) -> Result<bool, String> {
+        let computed = want.answer.as_ref().is_err_and(|r| r.number == COMPUTED);
+        if want.answer.is_err() && !(computed && oracle::FLAGS_READ) {
+            return Ok(false);
+        }
+        oracle::take_raised();
+        let Some(mut got) = (self.rust)(input) else {
+            return Ok(false);
+        };
+        if oracle::take_raised() && got.answer.is_ok() {
+            got.answer = Err(Refusal { number: COMPUTED, place: 0 });
+        }
+        same("the Rust", &got, want)?;
+        Ok(true)
     }
 
     /// The smallest input found that still fails, with what fails there.

@@ -1,6 +1,6 @@
 //! Module 7.
 
-use model::{brake as rule, BrakeKind, BrakeOut, FuseConfig, Refusal};
+use model::{brake as rule, refusal::COMPUTED, BrakeKind, BrakeOut, FuseConfig, Refusal};
 
 use super::numbers;
 use crate::{
@@ -81,12 +81,16 @@ fn forecast(f: BrakeFeasible, i: &ForecastIn) -> Outcome {
     Outcome { answer: answer.map(shown), buffers: numbers(&slacks) }
 }
 
-/// The Rust's answer, with the slacks on their way into its margin.
+/// The Rust's answer with the slacks on their way into its margin, or 13 with the place that its flags show.
 fn rust_forecast(i: &ForecastIn) -> Outcome {
-    let (answer, seen) = oracle::brake_feasible(&i.cfg, &i.p, &i.v, i.ch.view(), i.from);
+    let (answer, seen, place) = oracle::brake_feasible(&i.cfg, &i.p, &i.v, i.ch.view(), i.from);
     let mut slacks = i.slacks.clone();
     slacks[..seen.len()].copy_from_slice(&seen);
-    Outcome { answer: Ok(shown(answer)), buffers: numbers(&slacks) }
+    let answer = match place {
+        Some(place) => Err(Refusal { number: COMPUTED, place }),
+        None => Ok(shown(answer)),
+    };
+    Outcome { answer, buffers: numbers(&slacks) }
 }
 
 pub fn brake_feasible(port: &Port) -> Entry<ForecastIn> {

@@ -39,7 +39,8 @@ pub fn sqrt(port: &Port) -> Entry<f64> {
         narrower: none,
         before: nothing,
         model: Box::new(|x| plain(rule::sqrt(*x), number)),
-        rust: Box::new(|x| Some(accepted(number(rust::sqrt(*x))))),
+        // an argument that is not finite raises no flag
+        rust: Box::new(|x| x.is_finite().then(|| accepted(number(oracle::sqrt(*x))))),
         port: port.sqrt.map(|f| Box::new(move |x: &f64| plain(f(*x), number)) as _),
     }
 }
@@ -99,7 +100,7 @@ pub fn norm(port: &Port) -> Entry<NormIn> {
         },
         before: nothing,
         model: Box::new(|i| plain(rule::norm(&i.v, i.n), number)),
-        rust: Box::new(|i| Some(accepted(number(rust::norm(&i.v, i.n))))),
+        rust: Box::new(|i| Some(accepted(number(oracle::norm(&i.v, i.n))))),
         port: port.norm.map(|f| Box::new(move |i: &NormIn| plain(f(&i.v, i.n), number)) as _),
     }
 }
@@ -122,7 +123,7 @@ pub fn dist(port: &Port) -> Entry<DistIn> {
         narrower: none,
         before: nothing,
         model: Box::new(|i| plain(rule::dist(&i.a, &i.b, i.n), number)),
-        rust: Box::new(|i| Some(accepted(number(rust::dist(&i.a, &i.b, i.n))))),
+        rust: Box::new(|i| Some(accepted(number(oracle::dist(&i.a, &i.b, i.n))))),
         port: port.dist.map(|f| Box::new(move |i: &DistIn| plain(f(&i.a, &i.b, i.n), number)) as _),
     }
 }

@@ -83,3 +83,11 @@ pub fn accepted(answer: Shown) -> Outcome {
 pub fn plain<T>(answer: Result<T, model::Refusal>, show: impl Fn(T) -> Shown) -> Outcome {
     Outcome { answer: answer.map(show), buffers: Shown::default() }
 }
+
+/// 13 when the Rust has computed a number that is not finite since the last look.
+pub fn all_finite() -> Result<(), model::Refusal> {
+    match oracle::take_raised() {
+        true => Err(model::Refusal { number: model::refusal::COMPUTED, place: 0 }),
+        false => Ok(()),
+    }
+}

@@ -2,7 +2,7 @@
 
 use model::{tier1 as rule, window, FuseConfig, Refusal, Scores, Tier1Rt, Trail};
 
-use super::{chunk::shown as chunk_shown, nothing, window::shown as trail_shown};
+use super::{all_finite, chunk::shown as chunk_shown, nothing, window::shown as trail_shown};
 use crate::{
     input::{
         chunk, chunk_buf, chunk_buf_parts, config, config_parts, held, narrower_config, scores, scores_parts, trail,
@@ -92,7 +92,7 @@ fn computed(f: Features, i: &FeaturesIn) -> Outcome {
     Outcome { answer: answer.map(|()| Shown::default()), buffers: shown(&rt, &sc) }
 }
 
-/// The Rust, in the model's shape.
+/// The Rust, in the model's shape: 13 where its flags show a number that is not finite.
 fn rust_features(
     cfg: &FuseConfig,
     rt: &mut Tier1Rt,
@@ -102,7 +102,7 @@ fn rust_features(
     sc: &mut Scores,
 ) -> Result<(), Refusal> {
     oracle::features(cfg, rt, pos, ext, new, sc);
-    Ok(())
+    all_finite()
 }
 
 pub fn features(port: &Port) -> Entry<FeaturesIn> {

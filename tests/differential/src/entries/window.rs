@@ -2,7 +2,7 @@
 
 use model::{window as rule, Trail};
 
-use super::{accepted, count, none, nothing, number, plain};
+use super::{accepted, all_finite, count, none, nothing, number, plain};
 use crate::{
     input::{trail, trail_parts},
     number::Field,
@@ -253,7 +253,15 @@ pub fn trail_run(port: &Port) -> Entry<TrailRun> {
                 oracle::trail_push(t, p, d);
                 Ok(())
             };
-            Some(trail_ran(push, |t, d, w| Ok(oracle::net(t, d, w)), |t, d, w| Ok(oracle::path(t, d, w)), i))
+            let net: TrailNumber = |t, d, w| {
+                let x = oracle::net(t, d, w);
+                all_finite().map(|()| x)
+            };
+            let path: TrailNumber = |t, d, w| {
+                let x = oracle::path(t, d, w);
+                all_finite().map(|()| x)
+            };
+            Some(trail_ran(push, net, path, i))
         }),
         port: linked.map(|((p, n), l)| Box::new(move |i: &TrailRun| trail_ran(p, n, l, i)) as _),
     }

@@ -5,18 +5,42 @@ mod carry;
 mod compile;
 mod trail;
 
+use std::{cell::Cell, hint::black_box};
+
 use lictor_core::{ChunkError, ChunkView, ObsView};
-use lictor_detect::{brake, brake_seen, conformal, slacks_seen, tier0, tier1, window};
+use lictor_detect::{brake, conformal, tier0, tier1, window};
+use lictor_watched::{flags, slacks_seen};
 use model::{BrakeOut, Calibration, ChunkBuf, FuseConfig, Scores, Tier0Out, Tier1Rt, Trail};
 
 pub use carry::{calibration, chunk_buf, chunk_view, config, derived};
 pub use compile::compile;
-pub use lictor_core::fmath;
-pub use lictor_core::FuseConfig as Compiled;
+pub use lictor_core::{fmath, FuseConfig as Compiled};
 
 /// What `features` and `check_chunk` are told about the world.
 fn obs<'a>(pos: &'a [f64], aux: &'a [f64], ext: &'a [f64]) -> ObsView<'a> {
     ObsView { t: 0, pos, vel: None, aux, ext }
+}
+
+thread_local! {
+    static RAISED: Cell<bool> = const { Cell::new(false) };
+}
+
+/// Whether the processor's flags can be read, so that `take_raised` means something.
+pub const FLAGS_READ: bool = flags::READ;
+
+/// Whether a published function called here since the last look has computed a number that is not finite, also one
+/// that dropped out of its answer.
+pub fn take_raised() -> bool {
+    RAISED.take()
+}
+
+/// A call of a published function on finite arguments, with a look at the flags after it. `black_box` keeps the
+/// compiler from moving the call out from between the two looks.
+fn watch<T>(call: impl FnOnce() -> T) -> T {
+    flags::clear();
+    let answer = black_box(black_box(call)());
+    RAISED.set(RAISED.get() | flags::raised());
+    answer
 }
 
 /// The number in document 01's table of what `fill` refuses.
@@ -28,6 +52,18 @@ fn number_of(e: ChunkError) -> u8 {
         ChunkError::ExecExceedsHorizon => 8,
         ChunkError::LenMismatch => 9,
     }
+}
+
+pub fn sqrt(x: f64) -> f64 {
+    watch(|| fmath::sqrt(black_box(x)))
+}
+
+pub fn norm(v: &[f64], n: usize) -> f64 {
+    watch(|| fmath::norm(v, n))
+}
+
+pub fn dist(a: &[f64], b: &[f64], n: usize) -> f64 {
+    watch(|| fmath::dist(a, b, n))
 }
 
 pub fn fill(buf: &mut ChunkBuf, seq: u32, t_emit: u32, h: u16, d: u16, exec: u16, src: &[f64]) -> Result<(), u8> {
@@ -65,11 +101,13 @@ pub fn trail_push(t: &mut Trail, p: &[f64], d: usize) {
 }
 
 pub fn net(t: &Trail, d: usize, w: usize) -> f64 {
-    trail::to_rust(t).net(d.min(model::MAX_POS), w)
+    let r = trail::to_rust(t);
+    watch(|| r.net(d.min(model::MAX_POS), w))
 }
 
 pub fn path(t: &Trail, d: usize, w: usize) -> f64 {
-    trail::to_rust(t).path(d.min(model::MAX_POS), w)
+    let r = trail::to_rust(t);
+    watch(|| r.path(d.min(model::MAX_POS), w))
 }
 
 pub fn trail_clear(t: &mut Trail) {
@@ -80,14 +118,16 @@ pub fn trail_clear(t: &mut Trail) {
 
 pub fn check_chunk(cfg: &FuseConfig, pos: &[f64], aux: &[f64], ch: model::ChunkView<'_>, out: &mut [f64]) -> Tier0Out {
     let mut buf = lictor_core::ChunkBuf::new();
-    let r = tier0::check_chunk(&config(cfg), obs(pos, aux, &[]), chunk_view(ch), &mut buf);
+    let cfg = config(cfg);
+    let r = watch(|| tier0::check_chunk(&cfg, obs(pos, aux, &[]), chunk_view(ch), &mut buf));
     let rows = buf.view().map_or(&[][..], |v| v.data);
     out[..rows.len()].copy_from_slice(rows);
     carry::tier0_out(r)
 }
 
 pub fn check_action(cfg: &FuseConfig, pos: &[f64], aux: &[f64], prev: &[f64], a: &[f64], out: &mut [f64]) -> Tier0Out {
-    carry::tier0_out(tier0::check_action(&config(cfg), obs(pos, aux, &[]), prev, a, out))
+    let cfg = config(cfg);
+    carry::tier0_out(watch(|| tier0::check_action(&cfg, obs(pos, aux, &[]), prev, a, out)))
 }
 
 pub fn features(
@@ -100,28 +140,33 @@ pub fn features(
 ) {
     let mut r = carry::tier1_rt(rt);
     let mut scores = carry::scores(sc);
-    tier1::features(&config(cfg), &mut r, obs(pos, &[], ext), new.map(chunk_view), 0, &mut scores);
+    let cfg = config(cfg);
+    watch(|| tier1::features(&cfg, &mut r, obs(pos, &[], ext), new.map(chunk_view), 0, &mut scores));
     *rt = carry::tier1_rt_back(&r);
     *sc = carry::scores_back(&scores);
 }
 
-/// The answer of the published file, and the slacks that its changed copy shows.
+/// The answer of the published file; the slacks that its watched copy shows, and the place of the first number there
+/// that is not finite, if there is one.
 pub fn brake_feasible(
     cfg: &FuseConfig,
     p0: &[f64],
     v0: &[f64],
     ch: model::ChunkView<'_>,
     from: usize,
-) -> (BrakeOut, Vec<f64>) {
+) -> (BrakeOut, Vec<f64>, Option<usize>) {
     let cfg = config(cfg);
     let r = brake::brake_feasible(&cfg, p0, v0, chunk_view(ch), from);
-    brake_seen::brake_feasible(&cfg, p0, v0, chunk_view(ch), from);
-    let slacks = slacks_seen();
-    (BrakeOut { count: slacks.len(), feasible: r.feasible, margin: r.margin, stop_dist: r.stop_dist }, slacks)
+    watch(|| lictor_watched::brake::brake_feasible(&cfg, p0, v0, chunk_view(ch), from));
+    let seen = slacks_seen();
+    let place = seen.iter().position(|s| s.raised).unwrap_or(seen.len()) + 1;
+    let answer = BrakeOut { count: seen.len(), feasible: r.feasible, margin: r.margin, stop_dist: r.stop_dist };
+    (answer, seen.iter().map(|s| s.slack).collect(), take_raised().then_some(place))
 }
 
 pub fn brake_action(cfg: &FuseConfig, p: &[f64], v: &[f64], out: &mut [f64]) {
-    brake::brake_action(&config(cfg), p, v, out);
+    let cfg = config(cfg);
+    watch(|| brake::brake_action(&cfg, p, v, out));
 }
 
 pub fn hold_action(cfg: &FuseConfig, p: &[f64], out: &mut [f64]) {
@@ -130,7 +175,8 @@ pub fn hold_action(cfg: &FuseConfig, p: &[f64], out: &mut [f64]) {
 
 pub fn standardise(cal: &Calibration, bin: usize, sc: &mut Scores) {
     let mut scores = carry::scores(sc);
-    conformal::standardise(&calibration(cal), bin.min(u32::MAX as usize) as u32, &mut scores);
+    let cal = calibration(cal);
+    watch(|| conformal::standardise(&cal, bin.min(u32::MAX as usize) as u32, &mut scores));
     *sc = carry::scores_back(&scores);
 }
 
