@@ -109,7 +109,7 @@ impl core::fmt::Debug for Calibration {
 }
 
 /// The raw configuration.
-#[derive(Clone, Copy, Debug, PartialEq)]
+#[derive(Clone, Copy, PartialEq)]
 pub struct FuseConfig {
     pub dim: usize,
     pub pos_dim: usize,
@@ -132,6 +132,59 @@ pub struct FuseConfig {
     pub calibrated: bool,
     pub cal: Calibration,
     pub horizon_ticks: u32,
+}
+
+impl FuseConfig {
+    /// One axis, a box of 0..0, all other numbers 1, nothing armed: what a shown configuration is compared with.
+    pub const PLAIN: Self = Self {
+        dim: 1,
+        pos_dim: 1,
+        kind: ActionKind::EePosition,
+        dt: 1.0,
+        v_max: 1.0,
+        a_max: 1.0,
+        j_max: 1.0,
+        reach_max: 1.0,
+        margin: 0.0,
+        box_lo: [0.0; MAX_POS],
+        box_hi: [0.0; MAX_POS],
+        norm_center: [0.0; MAX_D],
+        norm_scale: [1.0; MAX_D],
+        contact: None,
+        brake: BrakeModel {
+            kind: BrakeKind::PdSecondOrder,
+            k_p: 1.0,
+            k_v: 1.0,
+            dt: 1.0,
+            substeps: 1,
+            commit: 0,
+            brake_steps: 0,
+            react: 0,
+        },
+        clamp: ClampMode::Off,
+        armed: 0,
+        aux_count: 0,
+        calibrated: false,
+        cal: Calibration::DISARMED,
+        horizon_ticks: 0,
+    };
+}
+
+impl core::fmt::Debug for FuseConfig {
+    /// The fields that differ from `PLAIN`.
+    fn fmt(&self, f: &mut core::fmt::Formatter<'_>) -> core::fmt::Result {
+        let mut shown = f.debug_struct("FuseConfig");
+        macro_rules! differing {
+            ($($field:ident),*) => {
+                $(if format!("{:?}", self.$field) != format!("{:?}", Self::PLAIN.$field) {
+                    shown.field(stringify!($field), &self.$field);
+                })*
+            };
+        }
+        differing!(dim, pos_dim, kind, dt, v_max, a_max, j_max, reach_max, margin, box_lo, box_hi);
+        differing!(norm_center, norm_scale, contact, brake, clamp, armed, aux_count, calibrated, cal, horizon_ticks);
+        shown.finish_non_exhaustive()
+    }
 }
 
 /// What module 4 derives. Entries of `inv_norm_scale` past dim are unread.

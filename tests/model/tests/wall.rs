@@ -2,39 +2,11 @@
 
 use model::*;
 
+/// A card's configuration: one axis, second-order kind, k_p 2, k_v 1, dt 0.5, 2 substeps, commit 1.
 fn card(hi: f64, brake_steps: u16) -> FuseConfig {
-    FuseConfig {
-        dim: 1,
-        pos_dim: 1,
-        kind: ActionKind::EePosition,
-        dt: 1.0,
-        v_max: 1.0,
-        a_max: 1.0,
-        j_max: 1.0,
-        reach_max: 1.0,
-        margin: 0.0,
-        box_lo: [-1.0; 8],
-        box_hi: [hi; 8],
-        norm_center: [1.0; 8],
-        norm_scale: [1.0; 8],
-        contact: None,
-        brake: BrakeModel {
-            kind: BrakeKind::PdSecondOrder,
-            k_p: 2.0,
-            k_v: 1.0,
-            dt: 0.5,
-            substeps: 2,
-            commit: 1,
-            brake_steps,
-            react: 1,
-        },
-        clamp: ClampMode::Off,
-        armed: 0,
-        aux_count: 0,
-        calibrated: false,
-        cal: Calibration::DISARMED,
-        horizon_ticks: 1,
-    }
+    let brake =
+        BrakeModel { k_p: 2.0, dt: 0.5, substeps: 2, commit: 1, brake_steps, react: 1, ..FuseConfig::PLAIN.brake };
+    FuseConfig { box_lo: [-1.0; 8], box_hi: [hi; 8], norm_center: [1.0; 8], brake, ..FuseConfig::PLAIN }
 }
 
 fn forecast(cfg: &FuseConfig, from: usize) -> (Result<BrakeOut, Refusal>, Vec<f64>) {
