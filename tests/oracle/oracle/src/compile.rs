@@ -1,7 +1,7 @@
 //! `compile` itself, on an envelope made from the raw configuration.
 
 use lictor_core::{EmbodimentManifest, FuseMode, SafetyEnvelope, TripMask};
-use model::{Derived, FuseConfig, MAX_D, MAX_POS};
+use model::{Calibration, Derived, FuseConfig, MAX_D, MAX_POS};
 
 use crate::carry;
 
@@ -9,6 +9,13 @@ use crate::carry;
 /// the two to be comparable; calibrations are left out, since their shape differs.
 pub fn compile(c: &FuseConfig, num: u32, den: u32) -> Result<Derived, String> {
     envelope(c, num, den).compile(FuseMode::Enforce, None).map(|r| carry::derived(&r)).map_err(|e| e.to_string())
+}
+
+/// Whether `compile` takes this calibration with the configuration, at a control period of 1.
+pub fn compile_calibrated(c: &FuseConfig, cal: &Calibration) -> Result<(), String> {
+    let mut cal = carry::calibration(cal);
+    cal.horizon_ticks = 1;
+    envelope(c, 1, 1).compile(FuseMode::Enforce, Some(cal)).map(|_| ()).map_err(|e| e.to_string())
 }
 
 fn envelope(c: &FuseConfig, num: u32, den: u32) -> SafetyEnvelope {
@@ -52,7 +59,7 @@ fn manifest(c: &FuseConfig, num: u32, den: u32) -> EmbodimentManifest {
         horizon_ticks: 1,
         norm_center: c.norm_center[..dim].to_vec(),
         norm_scale: c.norm_scale[..dim].to_vec(),
-        aux_layout: (0..c.aux_count.min(16)).map(|i| format!("aux{i}")).collect(),
+        aux_layout: (0..c.aux_count.min(32)).map(|i| format!("aux{i}")).collect(),
         ext_names: Vec::new(),
     }
 }

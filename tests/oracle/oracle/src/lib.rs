@@ -13,8 +13,8 @@ use lictor_watched::{flags, slacks_seen};
 use model::{BrakeOut, Calibration, ChunkBuf, FuseConfig, Scores, Tier0Out, Tier1Rt, Trail};
 
 pub use carry::{calibration, chunk_buf, chunk_view, config, derived};
-pub use compile::compile;
-pub use lictor_core::{fmath, FuseConfig as Compiled};
+pub use compile::{compile, compile_calibrated};
+pub use lictor_core::{fmath, Feat, FuseConfig as Compiled, T_GRID};
 
 /// What `features` and `check_chunk` are told about the world.
 fn obs<'a>(pos: &'a [f64], aux: &'a [f64], ext: &'a [f64]) -> ObsView<'a> {
