@@ -25,9 +25,11 @@ pub struct Outcome {
 }
 
 pub type Call<I> = Box<dyn Fn(&I) -> Outcome + Send + Sync>;
+/// `None` where the Rust lacks the size.
+pub type RustCall<I> = Box<dyn Fn(&I) -> Option<Outcome> + Send + Sync>;
 pub type Parts<I> = for<'a> fn(&'a mut I) -> Vec<Part<'a>>;
 
-/// An entry of document 01 with its three sides. The Rust gives `None` where it lacks the size.
+/// An entry of document 01 with its three sides.
 pub struct Entry<I> {
     pub name: &'static str,
     pub generate: fn(&mut Rng) -> I,
@@ -37,7 +39,7 @@ pub struct Entry<I> {
     /// The buffers at entry.
     pub before: fn(&I) -> Shown,
     pub model: Call<I>,
-    pub rust: Box<dyn Fn(&I) -> Option<Outcome> + Send + Sync>,
+    pub rust: RustCall<I>,
     pub port: Option<Call<I>>,
 }
 

@@ -157,8 +157,8 @@ fn a_score_of_an_overflow() {
 
 #[test]
 fn clamp_between_crossed_limits_and_at_a_nan() {
-    assert_eq!((oracle::fmath::clamp(5.0, 3.0, 1.0), fmath::clamp(5.0, 3.0, 1.0)), (3.0, 1.0));
-    assert_eq!(oracle::fmath::clamp(f64::NAN, 0.0, 1.0), 1.0);
+    assert_eq!((oracle::rust::fmath::clamp(5.0, 3.0, 1.0), fmath::clamp(5.0, 3.0, 1.0)), (3.0, 1.0));
+    assert_eq!(oracle::rust::fmath::clamp(f64::NAN, 0.0, 1.0), 1.0);
     assert!(fmath::clamp(f64::NAN, 0.0, 1.0).is_nan());
 }
 
@@ -166,7 +166,7 @@ fn clamp_between_crossed_limits_and_at_a_nan() {
 
 #[test]
 fn feature_bits_five_to_seven() {
-    use oracle::Feat;
+    use oracle::rust::Feat;
     let rust = [Feat::SpeedPeak as usize, Feat::PathIneff as usize, Feat::Stall as usize];
     assert_eq!((rust, [SPEED_PEAK, PATH_INEFF, STALL]), ([7, 5, 6], [5, 6, 7]));
 }
@@ -244,7 +244,7 @@ fn a_scale_of_zero_and_an_infinite_tau() {
 fn no_ticks_and_a_hundred_bins() {
     assert_eq!(oracle::time_bin(0, 0), 0);
     assert_eq!(conformal::time_bin(0, 0), refused(3));
-    assert_eq!((oracle::T_GRID, BINS), (100, 16));
+    assert_eq!((oracle::rust::T_GRID, BINS), (100, 16));
 }
 
 // ---- what `validate` refuses and the port does not ----

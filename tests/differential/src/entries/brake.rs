@@ -122,7 +122,7 @@ fn generate_action(rng: &mut Rng) -> BrakeIn {
     let (np, nv) = (rng.within(0, 10), rng.within(0, 10));
     let (p, v) = (field.numbers(rng, np), field.numbers(rng, nv));
     if rng.one_in(4) {
-        cfg.a_max = at_limit(rng, oracle::fmath::norm(&v, nv.min(cfg.dim)) / cfg.dt);
+        cfg.a_max = at_limit(rng, oracle::rust::fmath::norm(&v, nv.min(cfg.dim)) / cfg.dt);
     }
     let out = cfg.dim + rng.pick(&[0, 0, 1, 2]);
     BrakeIn { cfg, p, v, out: filler(rng, out) }

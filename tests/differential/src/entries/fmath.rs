@@ -3,7 +3,7 @@
 use std::time::Instant;
 
 use model::fmath as rule;
-use oracle::fmath as rust;
+use oracle::rust::fmath as rust;
 
 use super::{accepted, none, nothing, number, plain};
 use crate::{

@@ -47,13 +47,13 @@ fn lay_limits(rng: &mut Rng, cfg: &mut FuseConfig, pos: &[f64], aux: &[f64], row
     let c = rng.below(nb);
     cfg.dt = rng.pick(&[1.0, 0.5, 0.25, cfg.dt]);
     match rng.below(7) {
-        0 => cfg.v_max = at_limit(rng, oracle::fmath::dist(row, prev, d) / cfg.dt),
-        1 => cfg.reach_max = at_limit(rng, oracle::fmath::dist(rows[0], pos, nb)),
+        0 => cfg.v_max = at_limit(rng, oracle::rust::fmath::dist(row, prev, d) / cfg.dt),
+        1 => cfg.reach_max = at_limit(rng, oracle::rust::fmath::dist(rows[0], pos, nb)),
         2 => cfg.a_max = at_limit(rng, change(rows, &before, i, &[1.0, -2.0, 1.0], d) / cfg.dt / cfg.dt),
         3 => cfg.j_max = at_limit(rng, change(rows, &before, i, &[-1.0, 3.0, -3.0, 1.0], d) / cfg.dt / cfg.dt / cfg.dt),
         4 => (cfg.box_lo[c], cfg.margin) = (at_limit(rng, row[c]), 0.0),
         5 => (cfg.box_hi[c], cfg.margin) = (at_limit(rng, row[c]), 0.0),
-        _ => lay_zone(rng, cfg, pos, aux, oracle::fmath::dist(row, prev, d)),
+        _ => lay_zone(rng, cfg, pos, aux, oracle::rust::fmath::dist(row, prev, d)),
     }
 }
 
@@ -63,7 +63,7 @@ fn lay_zone(rng: &mut Rng, cfg: &mut FuseConfig, pos: &[f64], aux: &[f64], step:
         return;
     };
     if let (true, Some(x), Some(y)) = (pos.len() >= 2, aux.get(zone.a0 as usize), aux.get(zone.a1 as usize)) {
-        let away = oracle::fmath::dist(pos, &[*x, *y], 2);
+        let away = oracle::rust::fmath::dist(pos, &[*x, *y], 2);
         if rng.one_in(2) {
             zone.radius = at_limit(rng, away);
         } else {
@@ -77,7 +77,7 @@ fn change(rows: &[&[f64]], before: &[f64], i: usize, factors: &[f64], d: usize) 
     let at = |k: usize| if k == 0 { &before[..d] } else { rows[(k - 1).min(rows.len() - 1)] };
     let diff =
         |c: usize| factors.iter().rev().enumerate().fold(0.0, |s, (k, f)| s + f * at(i + factors.len() - 1 - k)[c]);
-    oracle::fmath::norm(&(0..d).map(diff).collect::<Vec<_>>(), d)
+    oracle::rust::fmath::norm(&(0..d).map(diff).collect::<Vec<_>>(), d)
 }
 
 fn generate(rng: &mut Rng) -> CheckChunkIn {

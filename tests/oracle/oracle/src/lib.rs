@@ -12,12 +12,17 @@ use lictor_detect::{brake, conformal, tier0, tier1, window};
 use lictor_watched::{flags, slacks_seen};
 use model::{BrakeOut, Calibration, ChunkBuf, FuseConfig, Scores, Tier0Out, Tier1Rt, Trail};
 
-pub use carry::{calibration, chunk_buf, chunk_view, config, derived};
+pub use carry::{calibration, chunk_view, config, derived, scores, tier1_rt};
 pub use compile::{compile, compile_calibrated};
-pub use lictor_core::{fmath, Feat, FuseConfig as Compiled, T_GRID};
+
+/// The published items themselves.
+pub mod rust {
+    pub use lictor_core::{fmath, ChunkBuf, Feat, FuseConfig, T_GRID};
+    pub use lictor_detect::{brake, conformal, tier0, tier1};
+}
 
 /// What `features` and `check_chunk` are told about the world.
-fn obs<'a>(pos: &'a [f64], aux: &'a [f64], ext: &'a [f64]) -> ObsView<'a> {
+pub fn obs<'a>(pos: &'a [f64], aux: &'a [f64], ext: &'a [f64]) -> ObsView<'a> {
     ObsView { t: 0, pos, vel: None, aux, ext }
 }
 
@@ -55,26 +60,26 @@ fn number_of(e: ChunkError) -> u8 {
 }
 
 pub fn sqrt(x: f64) -> f64 {
-    watch(|| fmath::sqrt(black_box(x)))
+    watch(|| rust::fmath::sqrt(black_box(x)))
 }
 
 pub fn norm(v: &[f64], n: usize) -> f64 {
-    watch(|| fmath::norm(v, n))
+    watch(|| rust::fmath::norm(v, n))
 }
 
 pub fn dist(a: &[f64], b: &[f64], n: usize) -> f64 {
-    watch(|| fmath::dist(a, b, n))
+    watch(|| rust::fmath::dist(a, b, n))
 }
 
 pub fn fill(buf: &mut ChunkBuf, seq: u32, t_emit: u32, h: u16, d: u16, exec: u16, src: &[f64]) -> Result<(), u8> {
-    let mut b = chunk_buf(buf);
+    let mut b = carry::chunk_buf(buf);
     let answer = b.fill(seq, t_emit, h, d, exec, src).map_err(number_of);
     *buf = carry::chunk_buf_back(&b);
     answer
 }
 
 pub fn copy_from(buf: &mut ChunkBuf, v: model::ChunkView<'_>) {
-    let mut b = chunk_buf(buf);
+    let mut b = carry::chunk_buf(buf);
     b.copy_from(chunk_view(v));
     *buf = carry::chunk_buf_back(&b);
 }
@@ -202,7 +207,7 @@ mod tests {
     /// 3, 4 and 5 through the published files and the shims.
     #[test]
     fn the_published_sources_answer() {
-        assert_eq!(fmath::norm(&[3.0, 4.0], 2), 5.0);
+        assert_eq!(rust::fmath::norm(&[3.0, 4.0], 2), 5.0);
         assert_eq!(hits(push(push(0, true, 7), true, 7)), 2);
     }
 
