@@ -7,3 +7,4 @@ pub mod part;
 pub mod port;
 pub mod rng;
 pub mod run;
+pub mod sample;

@@ -1,8 +1,8 @@
 //! Runs every entry, or those that are named, and says what was compared. DIFF_SEED, DIFF_CALLS and DIFF_SECONDS (for
-//! each entry) change the run.
+//! each entry) change the run. `sample FILE` writes the fixed sample of the Rust's answers instead.
 
 use std::{
-    env,
+    env, fs,
     process::ExitCode,
     str::FromStr,
     sync::Mutex,
@@ -13,6 +13,7 @@ use std::{
 use differential::{
     entries, port,
     run::{Budget, Report, Task},
+    sample,
 };
 
 const THREADS: usize = 2;
@@ -22,13 +23,21 @@ fn variable<T: FromStr>(name: &str, usual: T) -> T {
 }
 
 fn main() -> ExitCode {
+    let named: Vec<String> = env::args().skip(1).collect();
+    if let [word, file] = &named[..] {
+        if word == "sample" {
+            let bytes: Vec<u8> = sample::words().iter().flat_map(|w| w.to_le_bytes()).collect();
+            fs::write(file, &bytes).expect("a file that can be written");
+            println!("{} bytes written to {file}", bytes.len());
+            return ExitCode::SUCCESS;
+        }
+    }
     let budget = Budget {
         seed: variable("DIFF_SEED", 20_260_902),
         calls: variable("DIFF_CALLS", 1_000_000),
         time: Duration::from_secs(variable("DIFF_SECONDS", 60)),
     };
     let mut tasks = entries::all(&port::linked());
-    let named: Vec<String> = env::args().skip(1).collect();
     tasks.retain(|t| named.is_empty() || named.iter().any(|n| n == t.name));
     let (calls, seconds) = (budget.calls, budget.time.as_secs());
     println!("differential: seed {}, for each entry {calls} calls or {seconds} s, whichever is less", budget.seed);

@@ -101,8 +101,8 @@ pub fn trip(port: &Port) -> Entry<GateIn> {
 
 #[derive(Clone, Debug)]
 pub struct TimeIn {
-    t: u32,
-    horizon_ticks: u32,
+    pub t: u32,
+    pub horizon_ticks: u32,
 }
 
 pub fn time_bin(port: &Port) -> Entry<TimeIn> {

@@ -83,8 +83,8 @@ fn run_patterns(port: Option<Sqrt>, budget: &Budget) -> Report {
 
 #[derive(Clone, Debug)]
 pub struct NormIn {
-    v: Vec<f64>,
-    n: usize,
+    pub v: Vec<f64>,
+    pub n: usize,
 }
 
 pub fn norm(port: &Port) -> Entry<NormIn> {
@@ -107,9 +107,9 @@ pub fn norm(port: &Port) -> Entry<NormIn> {
 
 #[derive(Clone, Debug)]
 pub struct DistIn {
-    a: Vec<f64>,
-    b: Vec<f64>,
-    n: usize,
+    pub a: Vec<f64>,
+    pub b: Vec<f64>,
+    pub n: usize,
 }
 
 pub fn dist(port: &Port) -> Entry<DistIn> {
