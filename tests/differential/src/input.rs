@@ -198,8 +198,11 @@ fn contact(rng: &mut Rng, field: Field, aux_count: usize) -> Option<ContactLimit
     Some(ContactLimit { radius, v_max: field.above(rng), a0: a0 as u8, a1: a1 as u8 })
 }
 
-/// A configuration that is accepted, unless the field's size is too much for a derived number.
+/// A configuration that is accepted, unless the field's size is too much for a derived number. Of two, one has limits
+/// that the field's numbers seldom exceed.
 pub fn config(rng: &mut Rng, field: Field) -> FuseConfig {
+    let roomy = rng.one_in(2);
+    let room = if roomy { 32.0 } else { 1.0 };
     let dim = rng.within(1, MAX_D);
     let pos_dim = if rng.one_in(3) { rng.within(1, MAX_D) } else { dim };
     let aux_count = rng.below(6);
@@ -209,10 +212,10 @@ pub fn config(rng: &mut Rng, field: Field) -> FuseConfig {
         pos_dim,
         kind: rng.pick(&KINDS),
         dt: rng.pick(&[0.1, 0.25, 0.5, 1.0, 1.0, 2.0, 0.03]),
-        v_max: 2.0 * field.above(rng),
-        a_max: 4.0 * field.above(rng),
-        j_max: 8.0 * field.above(rng),
-        reach_max: 2.0 * field.above(rng),
+        v_max: 2.0 * room * field.above(rng),
+        a_max: 4.0 * room * field.above(rng),
+        j_max: 8.0 * room * field.above(rng),
+        reach_max: 2.0 * room * field.above(rng),
         margin,
         box_lo: [f64::NAN; 8],
         box_hi: [f64::NEG_INFINITY; 8],
@@ -228,9 +231,9 @@ pub fn config(rng: &mut Rng, field: Field) -> FuseConfig {
         horizon_ticks: 0,
     };
     for i in 0..pos_dim {
-        let at = field.number(rng);
+        let at = if roomy { -9.0 * field.0 } else { field.number(rng) };
         cfg.box_lo[i] = at - margin;
-        cfg.box_hi[i] = if rng.one_in(12) { at + margin } else { at + margin + field.above(rng) };
+        cfg.box_hi[i] = if rng.one_in(12) { at + margin } else { at + margin + room * field.above(rng) };
     }
     for i in 0..dim {
         cfg.norm_center[i] = field.number(rng);

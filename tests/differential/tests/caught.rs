@@ -34,13 +34,13 @@ fn old_velocity(
     let (lo, hi) = (cfg.box_lo[0] + cfg.margin, cfg.box_hi[0] - cfg.margin);
     let (mut p, mut v) = (p0[0], v0[0]);
     let mut margin = f64::INFINITY;
-    for k in 0..right.count {
+    for (k, slack) in slacks[..right.count].iter_mut().enumerate() {
         let a = action(&ch, from + k / b.substeps as usize)[0];
         let acc = b.k_p * (a - p) - b.k_v * v;
         p += v * b.dt;
         v += acc * b.dt;
-        slacks[k] = min(p - lo, hi - p);
-        margin = min(margin, slacks[k]);
+        *slack = min(p - lo, hi - p);
+        margin = min(margin, *slack);
     }
     Ok(BrakeOut { margin, feasible: margin >= 0.0, ..right })
 }

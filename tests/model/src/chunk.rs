@@ -61,3 +61,19 @@ pub fn row(h: u16, d: u16, len: usize, i: usize) -> Range<usize> {
 pub fn action<'a>(v: &ChunkView<'a>, i: usize) -> &'a [f64] {
     &v.data[row(v.horizon, v.dim, v.data.len(), i)]
 }
+
+/// The part of the buffer's own numbers.
+pub fn row_mut(buf: &mut ChunkBuf, i: usize) -> &mut [f64] {
+    let part = row(buf.horizon, buf.dim, buf.data.len(), i);
+    &mut buf.data[part]
+}
+
+/// The header and the rows of a filled buffer; an unfilled one has sizes 0.
+pub fn view(buf: &ChunkBuf) -> ChunkView<'_> {
+    let (seq, t_emit) = (buf.seq, buf.t_emit);
+    if buf.filled {
+        ChunkView { seq, t_emit, horizon: buf.horizon, dim: buf.dim, exec_steps: buf.exec_steps, data: buf.rows() }
+    } else {
+        ChunkView { seq, t_emit, horizon: 0, dim: 0, exec_steps: 0, data: &[] }
+    }
+}

@@ -2,12 +2,12 @@
 
 use model::{chunk as rule, ChunkBuf, MAX_D};
 
-use super::{accepted, none, nothing, numbers};
+use super::{accepted, count, none, nothing, numbers};
 use crate::{
     input::{chunk, chunk_buf, ChunkIn},
     number::Field,
     part::Part,
-    port::{CopyFrom, Fill, Port},
+    port::{CopyFrom, Fill, Port, RowMut, View},
     rng::Rng,
     run::{Entry, Outcome, Shown},
 };
@@ -20,8 +20,8 @@ pub fn shown(b: &ChunkBuf) -> Shown {
 
 #[derive(Clone, Debug)]
 pub struct FillIn {
-    buf: ChunkBuf,
-    src: ChunkIn,
+    pub buf: ChunkBuf,
+    pub src: ChunkIn,
 }
 
 fn generate(rng: &mut Rng) -> FillIn {
@@ -104,5 +104,75 @@ pub fn action(port: &Port) -> Entry<ActionIn> {
         model: Box::new(|i| accepted(numbers(rule::action(&i.ch.view(), i.i)))),
         rust: Box::new(|i| Some(accepted(numbers(oracle::action(i.ch.view(), i.i))))),
         port: port.action.map(|f| Box::new(move |i: &ActionIn| accepted(numbers(f(&i.ch.view(), i.i)))) as _),
+    }
+}
+
+#[derive(Clone, Debug)]
+pub struct RowIn {
+    buf: ChunkBuf,
+    i: usize,
+}
+
+fn row_in(rng: &mut Rng) -> RowIn {
+    let dim = rng.within(1, MAX_D);
+    let buf = chunk_buf(rng, Field(1.0), dim);
+    let h = buf.horizon as usize;
+    RowIn { buf, i: rng.pick(&[0, 1, h.saturating_sub(1), h, h + 1, usize::MAX]) }
+}
+
+/// The header's sizes stay such as `fill` gives: at others the Rust, with its larger buffer, may panic.
+fn row_parts(i: &mut RowIn) -> Vec<Part<'_>> {
+    let b = &mut i.buf;
+    vec![Part::Usize(&mut i.i), Part::Table(&mut b.data, 0.0), Part::U32(&mut b.seq), Part::U32(&mut b.t_emit)]
+}
+
+/// The buffer after a number is written all over the row, and the row's length.
+fn row_filled(f: RowMut, i: &RowIn) -> Outcome {
+    let mut buf = i.buf;
+    let row = f(&mut buf, i.i);
+    row.fill(7.0);
+    let answer = Ok(count(row.len() as u64));
+    Outcome { answer, buffers: shown(&buf) }
+}
+
+pub fn row_mut(port: &Port) -> Entry<RowIn> {
+    Entry {
+        name: "row_mut",
+        generate: row_in,
+        parts: row_parts,
+        narrower: none,
+        before: |i| shown(&i.buf),
+        model: Box::new(|i| row_filled(rule::row_mut, i)),
+        rust: Box::new(|i| {
+            let mut buf = i.buf;
+            let answer = Ok(count(oracle::fill_row(&mut buf, i.i, 7.0) as u64));
+            Some(Outcome { answer, buffers: shown(&buf) })
+        }),
+        port: port.row_mut.map(|f| Box::new(move |i: &RowIn| row_filled(f, i)) as _),
+    }
+}
+
+fn viewed(f: View, i: &RowIn) -> Outcome {
+    let v = f(&i.buf);
+    let header = [v.seq as u64, v.t_emit as u64, v.horizon as u64, v.dim as u64, v.exec_steps as u64];
+    // an unfilled view has sizes 0; of its other numbers document 01 says nothing
+    let counts = if i.buf.filled { header.to_vec() } else { header[2..4].to_vec() };
+    accepted(Shown { numbers: v.data.to_vec(), counts })
+}
+
+/// The Rust has no view of an unfilled buffer.
+pub fn view(port: &Port) -> Entry<RowIn> {
+    Entry {
+        name: "view",
+        generate: row_in,
+        parts: row_parts,
+        narrower: none,
+        before: nothing,
+        model: Box::new(|i| viewed(rule::view, i)),
+        rust: Box::new(|i| {
+            let seen = oracle::view(&i.buf)?;
+            Some(viewed(rule::view, &RowIn { buf: seen, i: i.i }))
+        }),
+        port: port.view.map(|f| Box::new(move |i: &RowIn| viewed(f, i)) as _),
     }
 }

@@ -42,6 +42,8 @@ pub fn all(port: &Port) -> Vec<Task> {
         chunk::fill(port).task(),
         chunk::copy_from(port).task(),
         chunk::action(port).task(),
+        chunk::row_mut(port).task(),
+        chunk::view(port).task(),
         fmath::patterns(port),
         fmath::sqrt(port).task(),
         fmath::norm(port).task(),

@@ -25,12 +25,9 @@ pub struct FeaturesIn {
     pub sc: Scores,
 }
 
-/// All of the state and of the scores. A kept chunk that is not filled shows no header, since the Rust's hides it.
+/// All of the state and of the scores.
 fn shown(rt: &Tier1Rt, sc: &Scores) -> Shown {
     let mut s = chunk_shown(&rt.prev);
-    if !rt.prev.filled {
-        s.counts.clear();
-    }
     let t = trail_shown(&rt.trail);
     s.numbers.extend(t.numbers.iter().chain(&rt.held).chain(&sc.f).chain(&sc.z).chain([&sc.s]));
     s.counts.extend(t.counts);

@@ -94,10 +94,10 @@ pub fn chunk_buf(b: &ChunkBuf) -> rust::ChunkBuf {
     r
 }
 
-/// Header and all numbers: a copy of the buffer is given the largest sizes of the port to show them. The header
-/// of an unfilled buffer cannot be read and comes back as that of a new one.
-pub fn chunk_buf_back(r: &rust::ChunkBuf) -> ChunkBuf {
-    let mut b = ChunkBuf::NEW;
+/// Header and all numbers: a copy of the buffer is given the largest sizes of the port to show them. The header of an
+/// unfilled buffer cannot be read; nothing but what fills a buffer writes one, so it is still that of `was`.
+pub fn chunk_buf_back(r: &rust::ChunkBuf, was: &ChunkBuf) -> ChunkBuf {
+    let mut b = ChunkBuf { filled: false, ..*was };
     if let Some(v) = r.view() {
         (b.seq, b.t_emit, b.filled) = (v.seq, v.t_emit, true);
         (b.horizon, b.dim, b.exec_steps) = (v.horizon, v.dim, v.exec_steps);
@@ -119,10 +119,10 @@ pub fn tier1_rt(rt: &Tier1Rt) -> tier1::Tier1Rt {
     }
 }
 
-pub fn tier1_rt_back(r: &tier1::Tier1Rt) -> Tier1Rt {
+pub fn tier1_rt_back(r: &tier1::Tier1Rt, was: &Tier1Rt) -> Tier1Rt {
     let mut held = [0.0; HELD];
     held.copy_from_slice(&by_name_back(&r.held)[..HELD]);
-    let (prev, trail) = (chunk_buf_back(&r.prev), trail::from_rust(&r.trail));
+    let (prev, trail) = (chunk_buf_back(&r.prev, &was.prev), trail::from_rust(&r.trail));
     Tier1Rt { prev, have_prev: r.have_prev, trail, held, held_valid: bits_back(r.held_valid) }
 }
 

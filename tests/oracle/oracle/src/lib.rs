@@ -74,14 +74,35 @@ pub fn dist(a: &[f64], b: &[f64], n: usize) -> f64 {
 pub fn fill(buf: &mut ChunkBuf, seq: u32, t_emit: u32, h: u16, d: u16, exec: u16, src: &[f64]) -> Result<(), u8> {
     let mut b = carry::chunk_buf(buf);
     let answer = b.fill(seq, t_emit, h, d, exec, src).map_err(number_of);
-    *buf = carry::chunk_buf_back(&b);
+    *buf = carry::chunk_buf_back(&b, buf);
     answer
 }
 
 pub fn copy_from(buf: &mut ChunkBuf, v: model::ChunkView<'_>) {
     let mut b = carry::chunk_buf(buf);
     b.copy_from(chunk_view(v));
-    *buf = carry::chunk_buf_back(&b);
+    *buf = carry::chunk_buf_back(&b, buf);
+}
+
+/// The view of a filled buffer: its header and rows.
+pub fn view(buf: &ChunkBuf) -> Option<ChunkBuf> {
+    let b = carry::chunk_buf(buf);
+    let v = b.view()?;
+    let mut seen = ChunkBuf { filled: true, ..ChunkBuf::NEW };
+    seen.data[..v.data.len()].copy_from_slice(v.data);
+    (seen.seq, seen.t_emit, seen.horizon, seen.dim, seen.exec_steps) =
+        (v.seq, v.t_emit, v.horizon, v.dim, v.exec_steps);
+    Some(seen)
+}
+
+/// Writes x in each number of a row; gives the row's length.
+pub fn fill_row(buf: &mut ChunkBuf, i: usize, x: f64) -> usize {
+    let mut b = carry::chunk_buf(buf);
+    let row = b.row_mut(i);
+    row.fill(x);
+    let n = row.len();
+    *buf = carry::chunk_buf_back(&b, buf);
+    n
 }
 
 pub fn action<'a>(v: model::ChunkView<'a>, i: usize) -> &'a [f64] {
@@ -147,7 +168,7 @@ pub fn features(
     let mut scores = carry::scores(sc);
     let cfg = config(cfg);
     watch(|| tier1::features(&cfg, &mut r, obs(pos, &[], ext), new.map(chunk_view), 0, &mut scores));
-    *rt = carry::tier1_rt_back(&r);
+    *rt = carry::tier1_rt_back(&r, rt);
     *sc = carry::scores_back(&scores);
 }
 
