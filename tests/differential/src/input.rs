@@ -198,11 +198,23 @@ fn contact(rng: &mut Rng, field: Field, aux_count: usize) -> Option<ContactLimit
     Some(ContactLimit { radius, v_max: field.above(rng), a0: a0 as u8, a1: a1 as u8 })
 }
 
+/// The box over pos_dim and the norm over dim; with room the box holds most of the field's numbers.
+fn fill_axes(rng: &mut Rng, field: Field, cfg: &mut FuseConfig, room: f64) {
+    for i in 0..cfg.pos_dim {
+        let at = if room > 1.0 { -9.0 * field.0 } else { field.number(rng) };
+        cfg.box_lo[i] = at - cfg.margin;
+        cfg.box_hi[i] = if rng.one_in(12) { at + cfg.margin } else { at + cfg.margin + room * field.above(rng) };
+    }
+    for i in 0..cfg.dim {
+        cfg.norm_center[i] = field.number(rng);
+        cfg.norm_scale[i] = if rng.one_in(2) { 1.0 } else { field.above(rng) };
+    }
+}
+
 /// A configuration that is accepted, unless the field's size is too much for a derived number. Of two, one has limits
 /// that the field's numbers seldom exceed.
 pub fn config(rng: &mut Rng, field: Field) -> FuseConfig {
-    let roomy = rng.one_in(2);
-    let room = if roomy { 32.0 } else { 1.0 };
+    let room = if rng.one_in(2) { 32.0 } else { 1.0 };
     let dim = rng.within(1, MAX_D);
     let pos_dim = if rng.one_in(3) { rng.within(1, MAX_D) } else { dim };
     let aux_count = rng.below(6);
@@ -230,15 +242,7 @@ pub fn config(rng: &mut Rng, field: Field) -> FuseConfig {
         cal: Calibration { tau: f64::INFINITY, mask: u32::MAX, ..Calibration::DISARMED },
         horizon_ticks: 0,
     };
-    for i in 0..pos_dim {
-        let at = if roomy { -9.0 * field.0 } else { field.number(rng) };
-        cfg.box_lo[i] = at - margin;
-        cfg.box_hi[i] = if rng.one_in(12) { at + margin } else { at + margin + room * field.above(rng) };
-    }
-    for i in 0..dim {
-        cfg.norm_center[i] = field.number(rng);
-        cfg.norm_scale[i] = if rng.one_in(2) { 1.0 } else { field.above(rng) };
-    }
+    fill_axes(rng, field, &mut cfg, room);
     if cfg.calibrated {
         cfg.cal = calibration(rng, Field(1.0));
         cfg.horizon_ticks = rng.within(1, 300) as u32;

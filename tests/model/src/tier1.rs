@@ -130,16 +130,9 @@ fn boundary(
     if let Some((s, l)) = overlap(rt, new) {
         let old = normalised(cfg, derived, &rt.prev.rows()[s * d..(s + l) * d])?;
         let rows = normalised(cfg, derived, &new.data[..l * d])?;
-        let mut num = 0.0;
-        for (a, b) in old.iter().zip(&rows) {
-            for c in 0..d {
-                let e = sub(a[c], b[c])?;
-                num = add(num, mul(e, e)?)?;
-            }
-        }
-        let den = squared_steps(&rows, d)?;
+        let num = squared_errors(&old, &rows, d)?;
         set(TCE, root(div(num, (l * d) as f64)?)?);
-        set(ACC, root(div(num, add(den, EPS)?)?)?);
+        set(ACC, root(div(num, add(squared_steps(&rows, d)?, EPS)?)?)?);
     }
     if h >= 2 {
         let rows = normalised(cfg, derived, new.data)?;
@@ -164,6 +157,18 @@ fn overlap(rt: &Tier1Rt, new: &ChunkView<'_>) -> Option<(usize, usize)> {
     let s = (new.t_emit - prev.t_emit) as usize;
     let l = (prev.horizon as usize).checked_sub(s)?.min(new.horizon as usize);
     (l >= 2).then_some((s, l))
+}
+
+/// The sum of the squared differences of two chunks' rows, row by row, coordinate by coordinate.
+fn squared_errors(old: &[Row], new: &[Row], d: usize) -> Checked {
+    let mut sum = 0.0;
+    for (a, b) in old.iter().zip(new) {
+        for c in 0..d {
+            let e = sub(a[c], b[c])?;
+            sum = add(sum, mul(e, e)?)?;
+        }
+    }
+    Ok(sum)
 }
 
 /// The sum of the squared first differences, row by row, coordinate by coordinate.

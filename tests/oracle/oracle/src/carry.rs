@@ -237,15 +237,19 @@ pub fn config(c: &FuseConfig) -> rust::FuseConfig {
         n_operators: 0,
         calib: if c.calibrated { calibration(&c.cal) } else { rust::CalibrationC::DISARMED },
     };
-    for i in 0..pos_dim {
+    derive_axes(c, &mut r);
+    r
+}
+
+fn derive_axes(c: &FuseConfig, r: &mut rust::FuseConfig) {
+    for i in 0..r.pos_dim {
         r.box_lo[i] = c.box_lo[i] + c.margin;
         r.box_hi[i] = c.box_hi[i] - c.margin;
     }
-    for i in 0..dim {
+    for i in 0..r.dim {
         r.inv_norm_scale[i] = 1.0 / c.norm_scale[i];
         r.norm_scale_iso = rust::fmath::min(r.norm_scale_iso, c.norm_scale[i]);
     }
-    r
 }
 
 /// The derived numbers of a compiled configuration.
