@@ -102,3 +102,40 @@ fn the_leash_to_the_raw_row() {
     let text = failure(Port { check_chunk: Some(raw), ..Port::default() }, "check_chunk");
     assert!(text.contains("horizon: 2"), "a small input");
 }
+
+/// A check whose trips come from limits nudged by one step: a limit that is touched trips, or no longer does.
+macro_rules! nudged {
+    ($change:expr) => {
+        |cfg: &FuseConfig, pos: &[f64], aux: &[f64], ch: ChunkView<'_>, out: &mut [f64]| {
+            let change: fn(&mut FuseConfig) = $change;
+            let mut other = *cfg;
+            change(&mut other);
+            let trips = model::tier0::check_chunk(&other, pos, aux, ch, &mut out.to_vec()).map(|r| r.trips);
+            let r = model::tier0::check_chunk(cfg, pos, aux, ch, out)?;
+            Ok(model::Tier0Out { trips: trips.unwrap_or(r.trips), ..r })
+        }
+    };
+}
+
+fn nudge_zone(cfg: &mut FuseConfig, change: fn(&mut model::ContactLimit)) {
+    if let Some(zone) = &mut cfg.contact {
+        change(zone);
+    }
+}
+
+#[test]
+fn limits_that_trip_when_touched() {
+    let ports: [differential::port::CheckChunk; 8] = [
+        nudged!(|c| c.v_max = c.v_max.next_down()),
+        nudged!(|c| c.a_max = c.a_max.next_down()),
+        nudged!(|c| c.j_max = c.j_max.next_down()),
+        nudged!(|c| c.reach_max = c.reach_max.next_down()),
+        nudged!(|c| c.box_lo = c.box_lo.map(f64::next_up)),
+        nudged!(|c| c.box_hi = c.box_hi.map(f64::next_down)),
+        nudged!(|c| nudge_zone(c, |z| z.radius = z.radius.next_down())),
+        nudged!(|c| nudge_zone(c, |z| z.v_max = z.v_max.next_down())),
+    ];
+    for check in ports {
+        failure(Port { check_chunk: Some(check), ..Port::default() }, "check_chunk");
+    }
+}
