@@ -155,7 +155,13 @@ impl<I: Clone + Debug + 'static> Entry<I> {
             got.answer = Err(Refusal { number: COMPUTED, place: 0 });
         }
         same("the Rust", &got, want)?;
-        Ok(true)
+        // the forecast's entries before its place are the Rust's, too
+        match want.answer {
+            Err(r) if r.place > 0 && !same_shown(&got.buffers, &want.buffers) => {
+                Err(format!("the Rust's slacks are others: {}", first_apart(&got.buffers, &want.buffers)))
+            }
+            _ => Ok(true),
+        }
     }
 
     /// The smallest input found that still fails, with what fails there.

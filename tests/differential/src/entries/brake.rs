@@ -85,7 +85,8 @@ fn forecast(f: BrakeFeasible, i: &ForecastIn) -> Outcome {
 fn rust_forecast(i: &ForecastIn) -> Outcome {
     let (answer, seen, place) = oracle::brake_feasible(&i.cfg, &i.p, &i.v, i.ch.view(), i.from);
     let mut slacks = i.slacks.clone();
-    slacks[..seen.len()].copy_from_slice(&seen);
+    let written = place.map_or(seen.len(), |k| k - 1);
+    slacks[..written].copy_from_slice(&seen[..written]);
     let answer = match place {
         Some(place) => Err(Refusal { number: COMPUTED, place }),
         None => Ok(shown(answer)),
