@@ -1,3 +1,4 @@
 pub mod Told
 pub mod Reach
 pub mod Along
+pub mod Rows
