@@ -7,7 +7,7 @@ use native.Mathlib.Nat.{add-zero, add-assoc}
 use native.Mathlib.Numerals.{add-one}
 use native.Mathlib.Omega.{arith}
 use lib.ListN.{length, set}
-use lib.Ieee.{Float, Format}
+use lib.Ieee.{Float, Format, inf}
 use Rattle.fmath.specs.Each.{all, over}
 use Rattle.fmath.specs.Least.{lesser, least}
 use Rattle.fmath.proofs.Each.{_&&≡_, over-more, all-at, all-from}
@@ -20,9 +20,9 @@ use Rattle.rollout.specs.declared.Law.{Law}
 use Rattle.rollout.specs.declared.Plant.{Plant}
 use Rattle.rollout.specs.declared.Run.{Run}
 use Rattle.rollout.specs.Plant.{Gains, State, substep}
-use Rattle.rollout.specs.Forecast.{Forecast, fine, slackAt, reach}
-use Rattle.rollout.specs.Rule.{Task, aim, after, entry, forecast}
-use Rattle.rollout.specs.Of.{gainsOf, stateOf, Along, Towards, Under}
+use Rattle.rollout.specs.Forecast.{Forecast, fine, slackAt, reach, writtenOf}
+use Rattle.rollout.specs.Rule.{Task, total, aim, after, entry, forecast}
+use Rattle.rollout.specs.Of.{gainsOf, stateOf, plantFrom, Along, Towards, Under, runOf}
 use Rattle.rollout.proofs.Told.{slack-tells}
 use Rattle.rollout.proofs.Reach.{all-next, reach-whole, reach-more, reach-stays}
 
@@ -146,3 +146,21 @@ module _ (f : Format) (t : Task) (l : List Float) (k : ℕ) (r : Run) (out : Lis
 
   pub along-at : (m : ℕ) → m ≡ k → Along f t l m r out → Along f t l k r out
   along-at m e h = subst (λ (m : ℕ). Along f t l m r out) e h
+
+-- ---- the start and the end of a run
+
+pub along-start : (f : Format) (t : Task) (l : List Float) (s : Plant) → stateOf s ≡ t .start → Along f t l 0 (record { plant = s; margin = inf false; done = 0; sound = true }) l
+unfolding reach all least over after
+along-start f t l s e = record { written = refl; whole = refl; stands = e; least = refl; entries = refl }
+
+module _ (f : Format) (t : Task) (l : List Float) (r : Run) (out : List Float) (h : Along f t l (total t) r out) where
+  pub run-is : r ≡ runOf f t
+  run-is =
+      same r (runOf f t) (ap plantFrom (h .stands) ∙ ap (λ (d : ℕ). plantFrom (after f t d)) (h .written)) (h .least ∙ ap (least (slackAt (forecast f t))) (h .written)) (h .written) (h .whole)
+    where
+      same : (r q : Run) → r .plant ≡ q .plant → r .margin ≡ q .margin → r .done ≡ q .done → r .sound ≡ q .sound → r ≡ q
+      same r q a b c d = λ i. record { plant = a i; margin = b i; done = c i; sound = d i }
+
+  pub written-is : out ≡ writtenOf (forecast f t) l
+  unfolding writtenOf
+  written-is = h .entries ∙ ap (over (slackAt (forecast f t)) l) (h .written)

@@ -2,3 +2,4 @@ pub mod Told
 pub mod Reach
 pub mod Along
 pub mod Rows
+pub mod Room

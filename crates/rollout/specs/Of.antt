@@ -67,9 +67,11 @@ pub record Under (t : Task) (g : Law) (w : Workspace) (n : ℕ) : Type 0 where
   pub live : t .n ≡ n
 
 -- what a run needs of its course: eight axes at most, within the rows' width; rows that are all there; a substep or more; room for its entries
-unfoldable pub roomy : Course → ℕ → Task → ℕ → Bool
-roomy c len t room =
-    every (leb (c .live) 8 ∷ leb (c .live) (c .dim) ∷ leb 1 (c .horizon) ∷ eqb len (c .horizon * c .dim) ∷ leb 1 (c .per .0) ∷ leb (total t) room ∷ [])
+unfoldable pub roomy : Course → ℕ → ℕ → Bool
+roomy c len room =
+    every
+    (leb (c .live) 8 ∷ leb (c .live) (c .dim) ∷ leb 1 (c .horizon) ∷ eqb len (c .horizon * c .dim) ∷ leb 1 (c .per .0)
+    ∷ leb ((c .commit .0 - c .from + c .brake .0) * c .per .0) room ∷ [])
 
 -- a run that did not start
 abbrev pub noRun : Plant → Run

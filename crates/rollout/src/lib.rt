@@ -153,3 +153,39 @@ fn push(g: Law, w: Workspace, c: Course, rows: &[f64], run: Run, slack: &mut [f6
     }
     r
 }
+
+fn roomy(c: Course, len: usize, room: usize) -> bool
+    ensures { λ r. ⌜ r ≡ roomy c len room ⌝ }
+{
+    let n = envelope::substeps_in(rows_left(c.commit, c.from), c.brake, c.per);
+    let shape = (c.horizon as usize) * (c.dim as usize);
+    (c.live <= 8) & (c.live <= c.dim as usize) & (1 <= c.horizon) & (len == shape) & (1 <= c.per.0) & (n <= room)
+}
+
+// The whole run, its slacks written in order up to the first number that isn't finite; none where the course has no room.
+pub fn rollout(g: Law, w: Workspace, c: Course, start: Plant, rows: &[f64], slack: &mut [f64]) -> Run
+    ensures { λ r. ⌜ r ≡ (if roomy c (length (now (rows .entry))) (length (now (slack .entry))) then runOf binary64 (taskOf g w c start (now (rows .entry))) else noRun start) ⌝ }
+    ensures { λ r. ⌜ now (slack .exit) ≡ (if roomy c (length (now (rows .entry))) (length (now (slack .entry))) then writtenOf (forecast binary64 (taskOf g w c start (now (rows .entry)))) (now (slack .entry)) else now (slack .entry)) ⌝ }
+{
+    let inf = 1.0 / 0.0;
+    if !roomy(c, rows.len(), slack.len()) {
+        return Run {
+            plant: start,
+            margin: inf,
+            done: 0,
+            sound: false,
+        };
+    }
+    let first = Run {
+        plant: start,
+        margin: inf,
+        done: 0,
+        sound: true,
+    };
+    let pushed = push(g, w, c, rows, first, slack);
+    let plant = pushed.plant;
+    let p = plant.p;
+    let setpoint = workspace::inward(w, p, c.live);
+    let count = envelope::substeps_in(ControlSteps(0), c.brake, c.per);
+    hold(g, w, c.live, &setpoint, count, pushed, slack)
+}
