@@ -1,0 +1,52 @@
+-- `ChunkBuf::fill` meets its contract: by the lent chunk's number, and an accepted chunk fits the buffer.
+use Prim.Native.Nat.{ℕ}
+use mathlib.Core.Path.{_≡_, refl, sym, ap, _∙_}
+use mathlib.Core.Bool.{true}
+use mathlib.Core.List.{List}
+use borrow.Author.Needs.{needs}
+use borrow.Author.Tests.{eq-eqb, ne-eqb}
+use lib.Dec.{eqb}
+use lib.Ieee.{Float}
+use lib.ListN.{length}
+use lib.Seq.{paste}
+use Rattle.refusal.specs.Order.{refusal, if_then_else_}
+use Rattle.chunk.specs.declared.ChunkBuf.{ChunkBuf}
+use Rattle.chunk.specs.declared.Filled.{Filled}
+use Rattle.chunk.specs.Of.{fillOf, heldOf}
+use Rattle.chunk.specs.Refusals.{lentReasons}
+use Rattle.chunk.proofs.Judged.{lent-accepted, accepted-fits}
+use Rattle.chunk.proofs.ChunkBuf.fill.Statement.{statement}
+use Rattle.chunk.proofs.ChunkBuf.fill.Tie as tie
+
+module _ (b : ChunkBuf) (s t h d e n : ℕ) (l : List Float) (is : n ≡ refusal (lentReasons l h d e)) where
+  by-number : fillOf b s t h d e l ≡ (if eqb n 0 then record { number = 0; buf = heldOf b s t h d e l } else record { number = n; buf = b })
+  unfolding fillOf
+  by-number = ap (λ (k : ℕ). if_then_else_ {A = Filled} (eqb k 0) (record { number = 0; buf = heldOf b s t h d e l }) (record { number = k; buf = b })) (sym is)
+
+  refused : (n ≡ 0 → ⊥) → _≡_ {A = Filled} (record { number = n; buf = b }) (fillOf b s t h d e l)
+  refused some = sym (by-number ∙ rw (ne-eqb n 0 some))
+
+  filled : (rows : List Float) → n ≡ 0 → rows ≡ paste (b .«data») 0 l (length l)
+      → _≡_ {A = Filled} (record { number = 0; buf = record { «data» = rows; seq = s; «t_emit» = t; horizon = h; dim = d; «exec_steps» = e; filled = true } }) (fillOf b s t h d e l)
+  filled rows z over = rw over (sym (by-number ∙ rw (eq-eqb n 0 z)))
+
+lent-refusal-requires : tie.Need-lent-refusal-requires
+lent-refusal-requires c κs = search needs
+
+returns : tie.Need-returns
+returns c =
+    let a = c .before .before .before .args in
+    refused (a .self) (a .seq) (a .t-emit) (a .h) (a .d) (a .exec) _ (a .src .now) (c .before .lent-refusal .ensures) (c .if1 .taken)
+
+over-requires : tie.Need-over-requires
+over-requires c κs =
+    let a = c .before .before .before .before .args in
+    accepted-fits (lent-accepted (a .src .now) (a .h) (a .d) (a .exec) (sym (c .before .before .lent-refusal .ensures) ∙ c .before .if1 .left) .0)
+
+returns-2 : tie.Need-returns-2
+returns-2 c =
+    let a = c .before .before .before .before .before .args in
+    filled (a .self) (a .seq) (a .t-emit) (a .h) (a .d) (a .exec) _ (a .src .now) (c .before .before .before .lent-refusal .ensures) _ (c .before .before .if1 .left) (c .over .ensures)
+
+pub fill-spec : {M : Type 1} → statement M
+fill-spec = tie.close (tie.spec lent-refusal-requires returns over-requires returns-2)

@@ -1,0 +1,3 @@
+pub mod Copy
+pub mod Judged
+pub mod Rows

@@ -1,0 +1,66 @@
+-- Laws of a chunk's rows: a place in them fits, which row there is, and what stands in it.
+use Prim.Native.Nat.{ℕ, _+_, _-_, _*_, _^_, _≤_, _<_, min}
+use mathlib.Core.Path.{_≡_, refl, sym, ap, ap₂, _∙_}
+use mathlib.Core.Bool.{Bool, true, false}
+use mathlib.Core.List.{List, []}
+use native.Mathlib.Nat.{lt-of-le-of-lt, mul-le-mul-left, mul-lt-mul-of-pos-right, le-of-lt}
+use native.Mathlib.Omega.{arith}
+use borrow.Author.Tests.{eq-eqb, ne-eqb, le-leb, lt-leb}
+use lib.Ieee.{Float}
+use lib.ListN.{length, take, drop}
+use lib.Pow.{pow-pos}
+use lib.Seq.{paste, getD-take, getD-drop}
+use Rattle.fmath.specs.Each.{at}
+use Rattle.chunk.specs.Rule.{rowStart, rowIn, rowOf, rowSet}
+
+-- two numbers of 16 bits have a product of 32
+pub place-small : {k d : ℕ} → k < 2 ^ 16 → d < 2 ^ 16 → k * d < 2 ^ 32
+place-small {k} {d} hk hd = lt-of-le-of-lt (mul-le-mul-left k (le-of-lt hd)) (mul-lt-mul-of-pos-right hk (pow-pos 16))
+
+module _ (l : List Float) (h d i : ℕ) where
+  no-rows : h ≡ 0 → rowIn l h d i ≡ false
+  no-rows e = rw (eq-eqb h 0 e)
+
+  row-there : (h ≡ 0 → ⊥) → rowStart h d i + d ≤ length l → rowIn l h d i ≡ true
+  row-there f le = rw (ne-eqb h 0 f, le-leb _ _ le)
+
+  row-past : (h ≡ 0 → ⊥) → length l < rowStart h d i + d → rowIn l h d i ≡ false
+  row-past f lt = rw (ne-eqb h 0 f, lt-leb _ _ lt)
+
+  pub row-is-part : rowIn l h d i ≡ true → rowOf l h d i ≡ take d (drop (rowStart h d i) l)
+  unfolding rowOf
+  row-is-part e = rw e
+
+  pub row-is-empty : rowIn l h d i ≡ false → rowOf l h d i ≡ []
+  unfolding rowOf
+  row-is-empty e = rw e
+
+  -- entry c of row i
+  pub row-entry : rowIn l h d i ≡ true → (c : ℕ) → c < d → at (rowOf l h d i) c ≡ at l (rowStart h d i + c)
+  row-entry e c lt = rw (row-is-part e, getD-take, getD-drop)
+
+  same-size : (s : ℕ) → s + d - s ≡ d
+  same-size s = omega arith
+
+  -- the ways out of a function that takes a row: none, the part, and none again
+  pub empty-without-rows : h ≡ 0 → [] ≡ rowOf l h d i
+  empty-without-rows e = sym (row-is-empty (no-rows e))
+
+  pub part-is-row : (s : ℕ) → (h ≡ 0 → ⊥) → s ≡ rowStart h d i → s + d ≤ length l → take (s + d - s) (drop s l) ≡ rowOf l h d i
+  part-is-row s f e le = ap₂ (λ (s n : ℕ). take n (drop s l)) e (same-size s) ∙ sym (row-is-part (row-there f (rw e at le)))
+
+  pub empty-past : (s : ℕ) → (h ≡ 0 → ⊥) → s ≡ rowStart h d i → length l < s + d → [] ≡ rowOf l h d i
+  empty-past s f e lt = sym (row-is-empty (row-past f (rw e at lt)))
+
+  -- .. and of one that writes a row
+  pub kept-without-rows : (r : List Float) → h ≡ 0 → l ≡ rowSet l h d i r
+  unfolding rowSet
+  kept-without-rows r e = rw (no-rows e)
+
+  pub kept-past : (r : List Float) (s : ℕ) → (h ≡ 0 → ⊥) → s ≡ rowStart h d i → length l < s + d → l ≡ rowSet l h d i r
+  unfolding rowSet
+  kept-past r s f e lt = rw (row-past f (rw e at lt))
+
+  pub written-row : (r : List Float) (s n : ℕ) → (h ≡ 0 → ⊥) → s ≡ rowStart h d i → s + d ≤ length l → n ≡ min d (length r) → paste l s r n ≡ rowSet l h d i r
+  unfolding rowSet
+  written-row r s n f e le m = rw (row-there f (rw e at le), e, m)

@@ -1,0 +1,70 @@
+-- `chunk::row_mut` meets its contract, by its three ways out; a place in the rows is a product of two numbers of 16 bits, so it fits.
+use Prim.Native.Nat.{ℕ, _*_}
+use mathlib.Core.Path.{ap}
+use native.Mathlib.Nat.{lt-of-le-of-lt, le-of-lt}
+use native.Mathlib.Omega.{arith}
+use borrow.Author.Needs.{needs}
+use Rattle.chunk.proofs.Rows.{place-small, empty-without-rows, part-is-row, empty-past}
+use Rattle.chunk.proofs.row_mut.Statement.{statement}
+use Rattle.chunk.proofs.row_mut.Tie as tie
+
+slice-aggregate-result : tie.Need-slice-aggregate-result
+slice-aggregate-result c = search needs
+
+returns : tie.Need-returns
+returns c = empty-without-rows _ _ _ _ (c .before .if1 .taken)
+
+sub-lesser : tie.Need-sub-lesser
+sub-lesser c = search needs
+
+lesser-requires : tie.Need-lesser-requires
+lesser-requires c κs = search needs
+
+mul-start : tie.Need-mul-start
+mul-start c = record { fits = lt-of-le-of-lt (le-of-lt (place-small {k = c .lesser .result} (search needs) (search needs))) (search needs) }
+
+add-end : tie.Need-add-end
+add-end c = omega (arith, place-small {k = c .lesser .result} {d = c .before .before .before .args .dim} (search needs) (search needs))
+
+mul-data : tie.Need-mul-data
+mul-data c = search needs
+
+sub-result : tie.Need-sub-result
+sub-result c = search needs
+
+part-data-start : tie.Need-part-data-start
+part-data-start c = search needs
+
+part-data-end : tie.Need-part-data-end
+part-data-end c = search needs
+
+returns-2 : tie.Need-returns-2
+returns-2 c =
+    let a = c .before .before .before .before .before .args in
+    part-is-row (a .«data» .now) (a .horizon) (a .dim) (a .i) _ (c .before .before .before .if1 .left) (ap (λ (k : ℕ). k * a .dim) (c .before .before .lesser .ensures)) (c .before .if2 .taken)
+
+slice-aggregate-result-2 : tie.Need-slice-aggregate-result-2
+slice-aggregate-result-2 c = search needs
+
+returns-3 : tie.Need-returns-3
+returns-3 c =
+    let a = c .before .before .before .before .before .args in
+    empty-past (a .«data» .now) (a .horizon) (a .dim) (a .i) _ (c .before .before .before .if1 .left) (ap (λ (k : ℕ). k * a .dim) (c .before .before .lesser .ensures)) (c .before .if2 .left)
+
+pub row-mut-spec : {M : Type 1} → statement M
+row-mut-spec =
+    tie.close
+    (tie.spec
+    slice-aggregate-result
+    returns
+    sub-lesser
+    lesser-requires
+    mul-start
+    add-end
+    mul-data
+    sub-result
+    part-data-start
+    part-data-end
+    returns-2
+    slice-aggregate-result-2
+    returns-3)

@@ -1,0 +1,44 @@
+-- The rules at the declared structs.
+use Prim.Native.Nat.{ℕ}
+use mathlib.Core.Bool.{Bool, true, false}
+use mathlib.Core.List.{List}
+use lib.Dec.{eqb}
+use lib.Ieee.{Float}
+use lib.ListN.{length, replicate}
+use lib.Seq.{paste}
+use denote.Ref.{RefT}
+use Rattle.fmath.specs.Finite.{+0}
+use Rattle.refusal.specs.Order.{refusal, if_then_else_}
+use Rattle.chunk.specs.declared.ChunkBuf.{ChunkBuf}
+use Rattle.chunk.specs.declared.ChunkView.{ChunkView}
+use Rattle.chunk.specs.declared.Filled.{Filled}
+use Rattle.chunk.specs.Refusals.{lentReasons, heldReasons}
+
+-- a buffer that holds no chunk yet
+abbrev pub newChunk : ChunkBuf
+newChunk = record { «data» = replicate 512 +0; seq = 0; «t_emit» = 0; horizon = 0; dim = 0; «exec_steps» = 0; filled = false }
+
+-- the buffer with a chunk copied in; the numbers past the chunk's own stay
+abbrev pub heldOf : ChunkBuf → ℕ → ℕ → ℕ → ℕ → ℕ → List Float → ChunkBuf
+heldOf b s t h d e l = record { «data» = paste (b .«data») 0 l (length l); seq = s; «t_emit» = t; horizon = h; dim = d; «exec_steps» = e; filled = true }
+
+-- a refused chunk gives its number and leaves the buffer as it was
+unfoldable pub fillOf : ChunkBuf → ℕ → ℕ → ℕ → ℕ → ℕ → List Float → Filled
+fillOf b s t h d e l =
+    if eqb (refusal (lentReasons l h d e)) 0 then record { number = 0; buf = heldOf b s t h d e l } else record { number = refusal (lentReasons l h d e); buf = b }
+
+-- the buffer with no chunk held; all else stays
+abbrev pub clearedOf : ChunkBuf → ChunkBuf
+clearedOf b = record { «data» = b .«data»; seq = b .seq; «t_emit» = b .«t_emit»; horizon = b .horizon; dim = b .dim; «exec_steps» = b .«exec_steps»; filled = false }
+
+-- whether a chunk is held
+abbrev pub isFilledOf : ChunkBuf → Bool
+isFilledOf b = b .filled
+
+-- the number for a held chunk
+unfoldable pub heldRefusalOf : ChunkBuf → ℕ
+heldRefusalOf b = if b .filled then refusal (heldReasons (b .«data») (b .horizon) (b .dim) (b .«exec_steps»)) else 0
+
+-- the view of lent rows
+abbrev pub viewOf : ℕ → ℕ → ℕ → ℕ → ℕ → RefT (List Float) → ChunkView
+viewOf s t h d e r = record { seq = s; «t_emit» = t; horizon = h; dim = d; «exec_steps» = e; «data» = r }

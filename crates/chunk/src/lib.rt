@@ -1,0 +1,289 @@
+// The action chunk: storage that is held whole (`ChunkBuf`), the view of lent rows (`ChunkView`), and one row of either.
+ghost use mathlib.Core.Path.{_≡_};
+ghost use Prim.Native.Nat.{min, _≤_};
+ghost use lib.ListN.{length};
+ghost use lib.Seq.{paste};
+ghost use Rattle.refusal.specs.Order.{refusal};
+ghost use Rattle.chunk.specs.Rule.{rowOf, rowSet, heldRows};
+ghost use Rattle.chunk.specs.Refusals.{chunkReasons, lentReasons};
+ghost use Rattle.chunk.specs.Of.{newChunk, fillOf, clearedOf, isFilledOf, heldRefusalOf, viewOf};
+use refusal::Refusal;
+
+// The numbers of a chunk in row-major order: row i starts at i x dim.
+pub struct ChunkBuf {
+    pub data: [f64; 512],
+    pub seq: u32,
+    pub t_emit: u32,
+    pub horizon: u16,
+    pub dim: u16,
+    pub exec_steps: u16,
+    pub filled: bool,
+}
+
+// The refusal's number, or 0, and the buffer, which is as it was where it is refused.
+pub struct Filled {
+    pub number: u8,
+    pub buf: ChunkBuf,
+}
+
+// A chunk whose rows stay the caller's.
+pub struct ChunkView<'a> {
+    pub seq: u32,
+    pub t_emit: u32,
+    pub horizon: u16,
+    pub dim: u16,
+    pub exec_steps: u16,
+    pub data: &'a [f64],
+}
+
+// The number for a chunk's sizes, in the order of `fill`, where its rows are len numbers; 0 where they are accepted.
+pub fn chunk_refusal(horizon: u16, dim: u16, exec_steps: u16, len: usize) -> u8
+    ensures { λ r. ⌜ r ≡ refusal (chunkReasons horizon dim «exec_steps» len) ⌝ }
+{
+    if (horizon == 0) | (dim == 0) {
+        return Refusal::EMPTY;
+    }
+    if ChunkBuf::MAX_H < horizon {
+        return Refusal::TOO_LONG;
+    }
+    if ChunkBuf::MAX_D < dim {
+        return Refusal::TOO_WIDE;
+    }
+    if horizon < exec_steps {
+        return Refusal::EXEC_EXCEEDS_HORIZON;
+    }
+    if len != (horizon as usize) * (dim as usize) {
+        return Refusal::LEN_MISMATCH;
+    }
+    0
+}
+
+// The number for a lent chunk: its sizes, then its rows' numbers, which have to be finite.
+fn lent_refusal(rows: &[f64], horizon: u16, dim: u16, exec_steps: u16) -> u8
+    ensures { λ r. ⌜ r ≡ refusal (lentReasons (now (rows .entry)) horizon dim «exec_steps») ⌝ }
+{
+    let number = chunk_refusal(horizon, dim, exec_steps, rows.len());
+    if number != 0 {
+        return number;
+    }
+    if fmath::all_finite(rows, rows.len()) {
+        0
+    } else {
+        Refusal::NOT_FINITE
+    }
+}
+
+// The array with the numbers of src over its first ones.
+fn over(data: [f64; 512], src: &[f64]) -> [f64; 512]
+    requires { ⌜ length (now src) ≤ 512 ⌝ }
+    ensures { λ r. ⌜ r ≡ paste «data» 0 (now (src .entry)) (length (now (src .entry))) ⌝ }
+{
+    let mut all = data;
+    let mut i = 0;
+    while i < src.len() {
+        all[i] = src[i];
+        i += 1;
+    }
+    all
+}
+
+impl ChunkBuf {
+    pub const MAX_H: u16 = 64;
+
+    pub const MAX_D: u16 = 8;
+
+    // No chunk yet.
+    pub fn new() -> ChunkBuf
+        ensures { λ r. ⌜ r ≡ newChunk ⌝ }
+    {
+        ChunkBuf {
+            data: [0.0; 512],
+            seq: 0,
+            t_emit: 0,
+            horizon: 0,
+            dim: 0,
+            exec_steps: 0,
+            filled: false,
+        }
+    }
+
+    // The lent chunk, copied in; the numbers past its own stay. A refusal leaves the buffer as it was.
+    pub fn fill(self, seq: u32, t_emit: u32, h: u16, d: u16, exec: u16, src: &[f64]) -> Filled
+        ensures { λ r. ⌜ r ≡ fillOf self seq «t_emit» h d exec (now (src .entry)) ⌝ }
+    {
+        let number = lent_refusal(src, h, d, exec);
+        if number != 0 {
+            return Filled { number, buf: self };
+        }
+        let old = self.data;
+        let data = over(old, src);
+        Filled {
+            number: 0,
+            buf: ChunkBuf {
+                data,
+                seq,
+                t_emit,
+                horizon: h,
+                dim: d,
+                exec_steps: exec,
+                filled: true,
+            },
+        }
+    }
+
+    // The chunk is held no more; its numbers stay.
+    pub fn clear(mut self) -> ChunkBuf
+        ensures { λ r. ⌜ r ≡ clearedOf self ⌝ }
+    {
+        self.filled = false;
+        self
+    }
+
+    // Whether a chunk is held.
+    pub fn is_filled(self) -> bool
+        ensures { λ r. ⌜ r ≡ isFilledOf self ⌝ }
+    {
+        self.filled
+    }
+
+    // The number for the held chunk: 0 where none is held, else as for a lent one.
+    pub fn held_refusal(self) -> u8
+        ensures { λ r. ⌜ r ≡ heldRefusalOf self ⌝ }
+    {
+        if !self.filled {
+            return 0;
+        }
+        let data = self.data;
+        let n = (self.horizon as usize) * (self.dim as usize);
+        let number = chunk_refusal(self.horizon, self.dim, self.exec_steps, n);
+        if number != 0 {
+            return number;
+        }
+        if fmath::all_finite(&data, n) {
+            0
+        } else {
+            Refusal::NOT_FINITE
+        }
+    }
+}
+
+// The lesser of two indices.
+fn lesser(a: usize, b: usize) -> usize
+    ensures { λ r. ⌜ r ≡ min a b ⌝ }
+{
+    if a < b { a } else { b }
+}
+
+// Row i as a part of the rows, the last row at or past the horizon; empty where there are no rows or it runs past the data.
+fn row_of(data: &[f64], horizon: u16, dim: u16, i: usize) -> &[f64]
+    ensures { λ r. ⌜ now r ≡ rowOf (now («data» .entry)) horizon dim i ⌝ }
+{
+    let h = horizon as usize;
+    let d = dim as usize;
+    if h == 0 {
+        return &data[..0];
+    }
+    let start = lesser(i, h - 1) * d;
+    let end = start + d;
+    if end <= data.len() {
+        &data[start..end]
+    } else {
+        &data[..0]
+    }
+}
+
+// The same part, to be written.
+pub fn row_mut(data: &mut [f64], horizon: u16, dim: u16, i: usize) -> &mut [f64]
+    ensures { λ r. ⌜ now r ≡ rowOf (now («data» .entry)) horizon dim i ⌝ }
+{
+    let h = horizon as usize;
+    let d = dim as usize;
+    if h == 0 {
+        return &mut data[..0];
+    }
+    let start = lesser(i, h - 1) * d;
+    let end = start + d;
+    if end <= data.len() {
+        return &mut data[start..end];
+    }
+    &mut data[..0]
+}
+
+// Writes the numbers of row over that part, as many as both have; the rest stays.
+pub fn set_row(data: &mut [f64], horizon: u16, dim: u16, i: usize, row: &[f64])
+    ensures { λ _. ⌜ now («data» .exit) ≡ rowSet (now («data» .entry)) horizon dim i (now (row .entry)) ⌝ }
+{
+    let h = horizon as usize;
+    let d = dim as usize;
+    if h == 0 {
+        return;
+    }
+    let start = lesser(i, h - 1) * d;
+    if data.len() < start + d {
+        return;
+    }
+    let n = lesser(d, row.len());
+    let mut c = 0;
+    while c < n {
+        data[start + c] = row[c];
+        c += 1;
+    }
+}
+
+// The rows that a buffer holds: the first horizon x dim of its numbers; none where no chunk is held or they are not there.
+pub fn held_rows(data: &[f64], horizon: u16, dim: u16, filled: bool) -> &[f64]
+    ensures { λ r. ⌜ now r ≡ heldRows (now («data» .entry)) horizon dim filled ⌝ }
+{
+    let n = (horizon as usize) * (dim as usize);
+    if filled & (n <= data.len()) {
+        &data[..n]
+    } else {
+        &data[..0]
+    }
+}
+
+// The view of lent rows: the caller's numbers, none copied.
+pub fn view<'a>(
+    seq: u32,
+    t_emit: u32,
+    horizon: u16,
+    dim: u16,
+    exec_steps: u16,
+    data: &'a [f64],
+) -> ChunkView<'a>
+    ensures { λ r. ⌜ r ≡ viewOf seq «t_emit» horizon dim «exec_steps» («data» .entry) ⌝ }
+{
+    ChunkView {
+        seq,
+        t_emit,
+        horizon,
+        dim,
+        exec_steps,
+        data,
+    }
+}
+
+impl<'a> ChunkView<'a> {
+    // Row i of the view, as `row_of` gives it.
+    pub fn action(self, i: usize) -> &'a [f64]
+        ensures { λ r. ⌜ now r ≡ rowOf (now (self .entry .«data»)) (self .entry .horizon) (self .entry .dim) i ⌝ }
+    {
+        row_of(self.data, self.horizon, self.dim, i)
+    }
+}
+
+// Row i of lent rows, by way of their view.
+pub fn action(data: &[f64], horizon: u16, dim: u16, i: usize) -> &[f64]
+    ensures { λ r. ⌜ now r ≡ rowOf (now («data» .entry)) horizon dim i ⌝ }
+{
+    view(0, 0, horizon, dim, 0, data).action(i)
+}
+
+impl ChunkBuf {
+    // `fill`, from a view.
+    pub fn copy_from<'a>(self, v: ChunkView<'a>) -> Filled
+        ensures { λ r. ⌜ r ≡ fillOf self (v .entry .seq) (v .entry .«t_emit») (v .entry .horizon) (v .entry .dim) (v .entry .«exec_steps») (now (v .entry .«data»)) ⌝ }
+    {
+        self.fill(v.seq, v.t_emit, v.horizon, v.dim, v.exec_steps, v.data)
+    }
+}
