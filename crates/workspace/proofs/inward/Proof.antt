@@ -1,75 +1,80 @@
+-- `workspace::inward` meets its contract: nothing is put past the eighth axis, and the loop puts one coordinate a turn.
+use Prim.Native.Nat.{ℕ, _+_, _-_, _≤_, _<_, min}
+use mathlib.Core.Path.{_≡_, refl, sym, ap, _∙_}
+use mathlib.Core.Bool.{Bool, true, false, _&&_, _||_}
+use native.Mathlib.Omega.{arith}
+use borrow.Author.Needs.{needs}
+use denote.Ref.{now}
+use lib.ListN.{length, length-set}
+use lib.Ieee.{Float, binary64, ofBits, div}
+use Rattle.fmath.specs.Each.{at, all, some, over}
+use Rattle.fmath.specs.Least.{least, clamped}
+use Rattle.fmath.specs.Checked.{leastOf}
+use Rattle.fmath.proofs.Each.{some-more, over-more, length-over}
+use Rattle.workspace.specs.Rule.{Walls, beyond, outside, inward, between, betweenWithin, gap, gapWithin, slack, slackWithin}
+use Rattle.workspace.specs.Of.{wallsOf}
+use Rattle.workspace.proofs.Gaps.{outside-cut, inward-cut, slack-missing, within-slack-missing, least-of-more}
 use Rattle.workspace.proofs.inward.Statement.{statement}
 use Rattle.workspace.proofs.inward.Tie as tie
-use Rattle.workspace.proofs.inward.Reads as reads
-use Rattle.workspace.proofs.inward.Lts as lts
-use Rattle.fmath.proofs.clamp.Reads as clamp-reads
-use Rattle.workspace.proofs.lesser.Reads as lesser-reads
 
 abbrev Inv-loop : tie.InvT-loop
-Inv-loop n w a m r₀ j₀ r j = ?
+Inv-loop n w a m r₀ j₀ r j = (j ≤ m) × (m ≤ 8) × (r ≡ over (λ (i : ℕ). clamped (at a i) (at (w .lo) i) (at (w .hi) i)) a j)
 
 abbrev μ-loop : tie.MeasureT-loop
-μ-loop n w a m r₀ j₀ r j = ?
+μ-loop n w a m r₀ j₀ r j = m - j
 
--- src/lib.rt:44:9
 lesser-requires : tie.Need-lesser-requires Inv-loop μ-loop
-lesser-requires c κs = ?
+lesser-requires c κs = search needs
 
--- src/lib.rt:47:5
 loop-holds : tie.Need-loop-holds Inv-loop μ-loop
-loop-holds c = ?
+unfolding over
+loop-holds c = (omega arith, omega (arith, c .lesser .ensures), refl)
 
--- src/lib.rt:48:29
 mul-clamp : tie.Need-mul-clamp Inv-loop μ-loop
-mul-clamp c = ?
+mul-clamp c = search needs
 
--- src/lib.rt:48:29
 array-read-clamp : tie.Need-array-read-clamp Inv-loop μ-loop
-array-read-clamp c = ?
+array-read-clamp c = search needs
 
--- src/lib.rt:48:35
 mul-clamp-2 : tie.Need-mul-clamp-2 Inv-loop μ-loop
-mul-clamp-2 c = ?
+mul-clamp-2 c = search needs
 
--- src/lib.rt:48:35
 element-copy-out-clamp : tie.Need-element-copy-out-clamp Inv-loop μ-loop
-element-copy-out-clamp c = ?
+element-copy-out-clamp c = search needs
 
--- src/lib.rt:48:44
 mul-clamp-3 : tie.Need-mul-clamp-3 Inv-loop μ-loop
-mul-clamp-3 c = ?
+mul-clamp-3 c = search needs
 
--- src/lib.rt:48:44
 element-copy-out-clamp-2 : tie.Need-element-copy-out-clamp-2 Inv-loop μ-loop
-element-copy-out-clamp-2 c = ?
+element-copy-out-clamp-2 c = search needs
 
--- src/lib.rt:48:16
 clamp-requires : tie.Need-clamp-requires Inv-loop μ-loop
-clamp-requires c κs = ?
+clamp-requires c κs = search needs
 
--- src/lib.rt:48:9
 mul-r : tie.Need-mul-r Inv-loop μ-loop
-mul-r c = ?
+mul-r c = search needs
 
--- src/lib.rt:48:9
 array-write-r : tie.Need-array-write-r Inv-loop μ-loop
-array-write-r c = ?
+array-write-r c = search needs
 
--- src/lib.rt:49:9
 add-j : tie.Need-add-j Inv-loop μ-loop
-add-j c = ?
+add-j c = search needs
 
--- src/lib.rt:47:5
 loop-less : tie.Need-loop-less Inv-loop μ-loop
-loop-less c = ?
+loop-less c = search needs
 
--- src/lib.rt:47:5
 loop-again : tie.Need-loop-again Inv-loop μ-loop
-loop-again c = ?
+loop-again c =
+    let l = c .before .before .before .before .loop in
+    let s = c .before .before .before .before .before .before .args in
+    (omega arith, l .inv .1, over-more (λ (i : ℕ). clamped (at (s .t2) i) (at (s .t1 .lo) i) (at (s .t1 .hi) i)) (s .t2) (l .r) (l .j) _ (l .inv .2) (c .clamp .ensures))
 
--- src/lib.rt:41:1
 returns : tie.Need-returns Inv-loop μ-loop
-returns c = ?
+returns c =
+    let l = c .before .loop in
+    let s = c .before .before .before .args in
+    let e : l .j ≡ min (s .n) 8 = omega (arith, c .before .before .lesser .ensures) in
+    l .inv .2 ∙ ap (over (λ (i : ℕ). clamped (at (s .t2) i) (at (s .t1 .lo) i) (at (s .t1 .hi) i)) (s .t2)) e ∙ sym (inward-cut (wallsOf (s .t1)) (s .t2) (s .n) (search needs))
 
 pub inward-spec : {M : Type 1} → statement M
 inward-spec =

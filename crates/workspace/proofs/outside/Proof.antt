@@ -1,74 +1,80 @@
+-- `workspace::outside` meets its contract: from the eighth axis and the last coordinate on none lies beyond, and the loop keeps the answer so far.
+use Prim.Native.Nat.{ℕ, _+_, _-_, _≤_, _<_, min}
+use mathlib.Core.Path.{_≡_, refl, sym, ap, _∙_}
+use mathlib.Core.Bool.{Bool, true, false, _&&_, _||_}
+use native.Mathlib.Omega.{arith}
+use borrow.Author.Needs.{needs}
+use denote.Ref.{now}
+use lib.ListN.{length, length-set}
+use lib.Ieee.{Float, binary64, ofBits, div}
+use Rattle.fmath.specs.Each.{at, all, some, over}
+use Rattle.fmath.specs.Least.{least, clamped}
+use Rattle.fmath.specs.Checked.{leastOf}
+use Rattle.fmath.proofs.Each.{some-more, over-more, length-over}
+use Rattle.workspace.specs.Rule.{Walls, beyond, outside, inward, between, betweenWithin, gap, gapWithin, slack, slackWithin}
+use Rattle.workspace.specs.Of.{wallsOf}
+use Rattle.workspace.proofs.Gaps.{outside-cut, inward-cut, slack-missing, within-slack-missing, least-of-more}
 use Rattle.workspace.proofs.outside.Statement.{statement}
 use Rattle.workspace.proofs.outside.Tie as tie
-use Rattle.workspace.proofs.outside.Reads as reads
-use Rattle.workspace.proofs.outside.Lts as lts
-use Rattle.workspace.proofs.lesser.Reads as lesser-reads
 
 abbrev Inv-loop : tie.InvT-loop
-Inv-loop a n w m out₀ j₀ out j = ?
+Inv-loop a n w m out₀ j₀ out j = (j ≤ m) × (m ≤ length a) × (m ≤ 8) × (out ≡ some (beyond (wallsOf w) a) j)
 
 abbrev μ-loop : tie.MeasureT-loop
-μ-loop a n w m out₀ j₀ out j = ?
+μ-loop a n w m out₀ j₀ out j = m - j
 
--- src/lib.rt:30:23
 lesser-requires : tie.Need-lesser-requires Inv-loop μ-loop
-lesser-requires c κs = ?
+lesser-requires c κs = search needs
 
--- src/lib.rt:30:9
 lesser-requires-2 : tie.Need-lesser-requires-2 Inv-loop μ-loop
-lesser-requires-2 c κs = ?
+lesser-requires-2 c κs = search needs
 
--- src/lib.rt:33:5
 loop-holds : tie.Need-loop-holds Inv-loop μ-loop
-loop-holds c = ?
+unfolding some
+loop-holds c = (omega arith, omega (arith, c .lesser2 .ensures, c .before .lesser .ensures), omega (arith, c .lesser2 .ensures, c .before .lesser .ensures), refl)
 
--- src/lib.rt:34:23
 mul-out : tie.Need-mul-out Inv-loop μ-loop
-mul-out c = ?
+mul-out c = search needs
 
--- src/lib.rt:34:23
 shared-slice-read-out : tie.Need-shared-slice-read-out Inv-loop μ-loop
-shared-slice-read-out c = ?
+shared-slice-read-out c = search needs
 
--- src/lib.rt:34:30
 mul-out-2 : tie.Need-mul-out-2 Inv-loop μ-loop
-mul-out-2 c = ?
+mul-out-2 c = search needs
 
--- src/lib.rt:34:30
 element-copy-out-out : tie.Need-element-copy-out-out Inv-loop μ-loop
-element-copy-out-out c = ?
+element-copy-out-out c = search needs
 
--- src/lib.rt:34:42
 mul-out-3 : tie.Need-mul-out-3 Inv-loop μ-loop
-mul-out-3 c = ?
+mul-out-3 c = search needs
 
--- src/lib.rt:34:42
 element-copy-out-out-2 : tie.Need-element-copy-out-out-2 Inv-loop μ-loop
-element-copy-out-out-2 c = ?
+element-copy-out-out-2 c = search needs
 
--- src/lib.rt:34:52
 mul-out-4 : tie.Need-mul-out-4 Inv-loop μ-loop
-mul-out-4 c = ?
+mul-out-4 c = search needs
 
--- src/lib.rt:34:52
 shared-slice-read-out-2 : tie.Need-shared-slice-read-out-2 Inv-loop μ-loop
-shared-slice-read-out-2 c = ?
+shared-slice-read-out-2 c = search needs
 
--- src/lib.rt:35:9
 add-j : tie.Need-add-j Inv-loop μ-loop
-add-j c = ?
+add-j c = search needs
 
--- src/lib.rt:33:5
 loop-less : tie.Need-loop-less Inv-loop μ-loop
-loop-less c = ?
+loop-less c = search needs
 
--- src/lib.rt:33:5
 loop-again : tie.Need-loop-again Inv-loop μ-loop
-loop-again c = ?
+loop-again c =
+    let l = c .before .before .before .before .before .loop in
+    let s = c .before .before .before .before .before .before .before .before .before .args in
+    (omega arith, l .inv .1, l .inv .2, some-more (beyond (wallsOf (s .t1)) (now (s .a))) (l .j) _ _ (l .inv .3) refl)
 
--- src/lib.rt:27:1
 returns : tie.Need-returns Inv-loop μ-loop
-returns c = ?
+returns c =
+    let l = c .before .loop in
+    let s = c .before .before .before .before .before .args in
+    let e : l .j ≡ min (s .n) (min (length (now (s .a))) 8) = omega (arith, c .before .before .lesser2 .ensures, c .before .before .before .lesser .ensures) in
+    l .inv .3 ∙ ap (some (beyond (wallsOf (s .t1)) (now (s .a)))) e ∙ sym (outside-cut (wallsOf (s .t1)) (now (s .a)) (s .n) (search needs) (search needs))
 
 pub outside-spec : {M : Type 1} → statement M
 outside-spec =

@@ -1,71 +1,87 @@
+-- `workspace::slack` meets its contract: a point with fewer coordinates has no slack, and the loop keeps the least so far.
+use Prim.Native.Nat.{ℕ, _+_, _-_, _≤_, _<_, min}
+use mathlib.Core.Path.{_≡_, refl, sym, ap, _∙_}
+use mathlib.Core.Bool.{Bool, true, false, _&&_, _||_}
+use native.Mathlib.Omega.{arith}
+use borrow.Author.Needs.{needs}
+use denote.Ref.{now}
+use lib.ListN.{length, length-set}
+use lib.Ieee.{Float, binary64, ofBits, div}
+use Rattle.fmath.specs.Each.{at, all, some, over}
+use Rattle.fmath.specs.Least.{least, clamped}
+use Rattle.fmath.specs.Checked.{leastOf}
+use Rattle.fmath.proofs.Each.{some-more, over-more, length-over}
+use Rattle.workspace.specs.Rule.{Walls, beyond, outside, inward, between, betweenWithin, gap, gapWithin, slack, slackWithin}
+use Rattle.workspace.specs.declared.Distance.{Distance}
+use Rattle.workspace.specs.Of.{wallsOf}
+use Rattle.workspace.proofs.Gaps.{outside-cut, inward-cut, slack-missing, within-slack-missing, least-of-more}
 use Rattle.workspace.proofs.slack.Statement.{statement}
 use Rattle.workspace.proofs.slack.Tie as tie
-use Rattle.workspace.proofs.slack.Reads as reads
-use Rattle.workspace.proofs.slack.Lts as lts
-use Rattle.fmath.proofs.min.Reads as min-reads
-use Rattle.workspace.proofs.gap.Reads as gap-reads
 
 abbrev Inv-loop : tie.InvT-loop
-Inv-loop n w p least₀ sound₀ j₀ least sound j = ?
+Inv-loop n w p least₀ sound₀ j₀ least sound j = (j ≤ n) × ((least ≡ leastOf (gap binary64 (wallsOf w) p) j .value) × (sound ≡ leastOf (gap binary64 (wallsOf w) p) j .sound))
 
 abbrev μ-loop : tie.MeasureT-loop
-μ-loop n w p least₀ sound₀ j₀ least sound j = ?
+μ-loop n w p least₀ sound₀ j₀ least sound j = n - j
 
--- src/lib.rt:71:9
 returns : tie.Need-returns Inv-loop μ-loop
-returns c = ?
+unfolding ofBits div
+returns c =
+    let s = c .before .args in
+    let long : length (s .t2) ≡ 8 = search needs in
+    let m = slack-missing binary64 (wallsOf (s .t1)) (s .t2) (s .n) (omega arith) in
+    rw (m .0, m .1)
 
--- src/lib.rt:79:5
 loop-holds : tie.Need-loop-holds Inv-loop μ-loop
-loop-holds c = ?
+unfolding leastOf all least ofBits div
+loop-holds c = (omega arith, (refl, refl))
 
--- src/lib.rt:80:21
 mul-gap : tie.Need-mul-gap Inv-loop μ-loop
-mul-gap c = ?
+mul-gap c = search needs
 
--- src/lib.rt:80:21
 element-copy-out-gap : tie.Need-element-copy-out-gap Inv-loop μ-loop
-element-copy-out-gap c = ?
+element-copy-out-gap c = search needs
 
--- src/lib.rt:80:30
 mul-gap-2 : tie.Need-mul-gap-2 Inv-loop μ-loop
-mul-gap-2 c = ?
+mul-gap-2 c = search needs
 
--- src/lib.rt:80:30
 element-copy-out-gap-2 : tie.Need-element-copy-out-gap-2 Inv-loop μ-loop
-element-copy-out-gap-2 c = ?
+element-copy-out-gap-2 c = search needs
 
--- src/lib.rt:80:39
 mul-gap-3 : tie.Need-mul-gap-3 Inv-loop μ-loop
-mul-gap-3 c = ?
+mul-gap-3 c = search needs
 
--- src/lib.rt:80:39
 array-read-gap : tie.Need-array-read-gap Inv-loop μ-loop
-array-read-gap c = ?
+array-read-gap c = search needs
 
--- src/lib.rt:80:13
 gap-requires : tie.Need-gap-requires Inv-loop μ-loop
-gap-requires c κs = ?
+gap-requires c κs = search needs
 
--- src/lib.rt:81:9
 min-requires : tie.Need-min-requires Inv-loop μ-loop
-min-requires c κs = ?
+min-requires c κs = search needs
 
--- src/lib.rt:83:9
 add-j : tie.Need-add-j Inv-loop μ-loop
-add-j c = ?
+add-j c = search needs
 
--- src/lib.rt:79:5
 loop-less : tie.Need-loop-less Inv-loop μ-loop
-loop-less c = ?
+loop-less c = search needs
 
--- src/lib.rt:79:5
 loop-again : tie.Need-loop-again Inv-loop μ-loop
-loop-again c = ?
+loop-again c =
+    let l = c .before .before .before .before .before .before .loop in
+    let s = c .before .before .before .before .before .before .before .before .args in
+    let g = c .before .before .gap in
+    let m =
+    least-of-more (gap binary64 (wallsOf (s .t1)) (s .t2)) (l .j) (l .least) (g .result .least) (l .sound) (g .result .sound) (l .inv .1) (ap (λ (d : Distance). d .least) (g .ensures)) (ap (λ (d : Distance). d .sound) (g .ensures)) in
+    (omega arith, (c .before .min .ensures ∙ m .0, m .1))
 
--- src/lib.rt:67:1
 returns-2 : tie.Need-returns-2 Inv-loop μ-loop
-returns-2 c = ?
+unfolding slack
+returns-2 c =
+    let l = c .before .loop in
+    let s = c .before .before .before .args in
+    let e : l .j ≡ s .n = omega arith in
+    rw (l .inv .1 .0, l .inv .1 .1, e)
 
 pub slack-spec : {M : Type 1} → statement M
 slack-spec =

@@ -1,71 +1,87 @@
+-- `workspace::slack_within` meets its contract: a point with fewer coordinates has no slack, and the loop keeps the least so far.
+use Prim.Native.Nat.{ℕ, _+_, _-_, _≤_, _<_, min}
+use mathlib.Core.Path.{_≡_, refl, sym, ap, _∙_}
+use mathlib.Core.Bool.{Bool, true, false, _&&_, _||_}
+use native.Mathlib.Omega.{arith}
+use borrow.Author.Needs.{needs}
+use denote.Ref.{now}
+use lib.ListN.{length, length-set}
+use lib.Ieee.{Float, binary64, ofBits, div}
+use Rattle.fmath.specs.Each.{at, all, some, over}
+use Rattle.fmath.specs.Least.{least, clamped}
+use Rattle.fmath.specs.Checked.{leastOf}
+use Rattle.fmath.proofs.Each.{some-more, over-more, length-over}
+use Rattle.workspace.specs.Rule.{Walls, beyond, outside, inward, between, betweenWithin, gap, gapWithin, slack, slackWithin}
+use Rattle.workspace.specs.declared.Distance.{Distance}
+use Rattle.workspace.specs.Of.{wallsOf}
+use Rattle.workspace.proofs.Gaps.{outside-cut, inward-cut, slack-missing, within-slack-missing, least-of-more}
 use Rattle.workspace.proofs.slack_within.Statement.{statement}
 use Rattle.workspace.proofs.slack_within.Tie as tie
-use Rattle.workspace.proofs.slack_within.Reads as reads
-use Rattle.workspace.proofs.slack_within.Lts as lts
-use Rattle.fmath.proofs.min.Reads as min-reads
-use Rattle.workspace.proofs.gap_within.Reads as gap-within-reads
 
 abbrev Inv-loop : tie.InvT-loop
-Inv-loop r n w p least₀ sound₀ j₀ least sound j = ?
+Inv-loop r n w p least₀ sound₀ j₀ least sound j = (j ≤ n) × ((least ≡ leastOf (gapWithin binary64 (wallsOf w) r p) j .value) × (sound ≡ leastOf (gapWithin binary64 (wallsOf w) r p) j .sound))
 
 abbrev μ-loop : tie.MeasureT-loop
-μ-loop r n w p least₀ sound₀ j₀ least sound j = ?
+μ-loop r n w p least₀ sound₀ j₀ least sound j = n - j
 
--- src/lib.rt:105:9
 returns : tie.Need-returns Inv-loop μ-loop
-returns c = ?
+unfolding ofBits div
+returns c =
+    let s = c .before .args in
+    let long : length (s .t3) ≡ 8 = search needs in
+    let m = within-slack-missing binary64 (wallsOf (s .t1)) (s .r) (s .t3) (s .n) (omega arith) in
+    rw (m .0, m .1)
 
--- src/lib.rt:113:5
 loop-holds : tie.Need-loop-holds Inv-loop μ-loop
-loop-holds c = ?
+unfolding leastOf all least ofBits div
+loop-holds c = (omega arith, (refl, refl))
 
--- src/lib.rt:114:31
 mul-gap-within : tie.Need-mul-gap-within Inv-loop μ-loop
-mul-gap-within c = ?
+mul-gap-within c = search needs
 
--- src/lib.rt:114:31
 element-copy-out-gap-within : tie.Need-element-copy-out-gap-within Inv-loop μ-loop
-element-copy-out-gap-within c = ?
+element-copy-out-gap-within c = search needs
 
--- src/lib.rt:114:40
 mul-gap-within-2 : tie.Need-mul-gap-within-2 Inv-loop μ-loop
-mul-gap-within-2 c = ?
+mul-gap-within-2 c = search needs
 
--- src/lib.rt:114:40
 element-copy-out-gap-within-2 : tie.Need-element-copy-out-gap-within-2 Inv-loop μ-loop
-element-copy-out-gap-within-2 c = ?
+element-copy-out-gap-within-2 c = search needs
 
--- src/lib.rt:114:49
 mul-gap-within-3 : tie.Need-mul-gap-within-3 Inv-loop μ-loop
-mul-gap-within-3 c = ?
+mul-gap-within-3 c = search needs
 
--- src/lib.rt:114:49
 array-read-gap-within : tie.Need-array-read-gap-within Inv-loop μ-loop
-array-read-gap-within c = ?
+array-read-gap-within c = search needs
 
--- src/lib.rt:114:13
 gap-within-requires : tie.Need-gap-within-requires Inv-loop μ-loop
-gap-within-requires c κs = ?
+gap-within-requires c κs = search needs
 
--- src/lib.rt:115:9
 min-requires : tie.Need-min-requires Inv-loop μ-loop
-min-requires c κs = ?
+min-requires c κs = search needs
 
--- src/lib.rt:117:9
 add-j : tie.Need-add-j Inv-loop μ-loop
-add-j c = ?
+add-j c = search needs
 
--- src/lib.rt:113:5
 loop-less : tie.Need-loop-less Inv-loop μ-loop
-loop-less c = ?
+loop-less c = search needs
 
--- src/lib.rt:113:5
 loop-again : tie.Need-loop-again Inv-loop μ-loop
-loop-again c = ?
+loop-again c =
+    let l = c .before .before .before .before .before .before .loop in
+    let s = c .before .before .before .before .before .before .before .before .args in
+    let g = c .before .before .gap-within in
+    let m =
+    least-of-more (gapWithin binary64 (wallsOf (s .t1)) (s .r) (s .t3)) (l .j) (l .least) (g .result .least) (l .sound) (g .result .sound) (l .inv .1) (ap (λ (d : Distance). d .least) (g .ensures)) (ap (λ (d : Distance). d .sound) (g .ensures)) in
+    (omega arith, (c .before .min .ensures ∙ m .0, m .1))
 
--- src/lib.rt:101:1
 returns-2 : tie.Need-returns-2 Inv-loop μ-loop
-returns-2 c = ?
+unfolding slackWithin
+returns-2 c =
+    let l = c .before .loop in
+    let s = c .before .before .before .args in
+    let e : l .j ≡ s .n = omega arith in
+    rw (l .inv .1 .0, l .inv .1 .1, e)
 
 pub slack-within-spec : {M : Type 1} → statement M
 slack-within-spec =
