@@ -6,3 +6,4 @@ pub mod Judged
 pub mod Ordered
 pub mod Clamping
 pub mod Extremes
+pub mod Copy

@@ -5,7 +5,7 @@ use native.Mathlib.Omega.{arith}
 use borrow.Author.Needs.{needs}
 use lib.ListN.{length, length-set}
 use lib.Seq.{paste, paste-zero}
-use Rattle.chunk.proofs.Copy.{copy-front}
+use Rattle.fmath.proofs.Copy.{copy-front}
 use Rattle.chunk.proofs.over.Statement.{statement}
 use Rattle.chunk.proofs.over.Tie as tie
 
