@@ -3,3 +3,4 @@ pub mod LastPushes
 pub mod TrailJudged
 pub mod TrailTold
 pub mod Ranges
+pub mod LastSamples
