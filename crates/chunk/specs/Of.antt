@@ -1,17 +1,19 @@
 -- The rules at the declared structs.
 use Prim.Native.Nat.{ℕ}
+use mathlib.Core.Path.{_≡_}
 use mathlib.Core.Bool.{Bool, true, false}
 use mathlib.Core.List.{List}
 use lib.Dec.{eqb}
 use lib.Ieee.{Float}
 use lib.ListN.{length, replicate}
 use lib.Seq.{paste}
-use denote.Ref.{RefT}
+use denote.Ref.{RefT, now}
 use Rattle.fmath.specs.Finite.{+0}
 use Rattle.refusal.specs.Order.{refusal, if_then_else_}
 use Rattle.chunk.specs.declared.ChunkBuf.{ChunkBuf}
 use Rattle.chunk.specs.declared.ChunkView.{ChunkView}
 use Rattle.chunk.specs.declared.Filled.{Filled}
+use Rattle.chunk.specs.Rule.{heldSize, heldRows}
 use Rattle.chunk.specs.Refusals.{lentReasons, heldReasons}
 
 -- a buffer that holds no chunk yet
@@ -42,3 +44,13 @@ heldRefusalOf b = if b .filled then refusal (heldReasons (b .«data») (b .horiz
 -- the view of lent rows
 abbrev pub viewOf : ℕ → ℕ → ℕ → ℕ → ℕ → RefT (List Float) → ChunkView
 viewOf s t h d e r = record { seq = s; «t_emit» = t; horizon = h; dim = d; «exec_steps» = e; «data» = r }
+
+-- a view that shows what a buffer holds: sizes 0 and no rows where no chunk is held
+abbrev pub Shows : ChunkView → ℕ → ℕ → ℕ → ℕ → ℕ → Bool → List Float → Type 0
+Shows v s t h d e filled l =
+    (v .seq ≡ s)
+    × ((v .«t_emit» ≡ t)
+    × ((v .horizon ≡ heldSize h filled)
+    × ((v .dim ≡ heldSize d filled)
+    × ((v .«exec_steps» ≡ heldSize e filled)
+    × (now (v .«data») ≡ heldRows l h d filled)))))

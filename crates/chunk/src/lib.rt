@@ -4,9 +4,9 @@ ghost use Prim.Native.Nat.{min, _≤_};
 ghost use lib.ListN.{length};
 ghost use lib.Seq.{paste};
 ghost use Rattle.refusal.specs.Order.{refusal};
-ghost use Rattle.chunk.specs.Rule.{rowOf, rowSet, heldRows};
+ghost use Rattle.chunk.specs.Rule.{rowOf, rowSet, heldSize, heldRows};
 ghost use Rattle.chunk.specs.Refusals.{chunkReasons, lentReasons};
-ghost use Rattle.chunk.specs.Of.{newChunk, fillOf, clearedOf, isFilledOf, heldRefusalOf, viewOf};
+ghost use Rattle.chunk.specs.Of.{newChunk, fillOf, clearedOf, isFilledOf, heldRefusalOf, viewOf, Shows};
 use refusal::Refusal;
 
 // The numbers of a chunk in row-major order: row i starts at i x dim.
@@ -242,6 +242,13 @@ pub fn held_rows(data: &[f64], horizon: u16, dim: u16, filled: bool) -> &[f64]
     }
 }
 
+// A size of a held chunk: 0 where none is held.
+fn held_size(n: u16, filled: bool) -> u16
+    ensures { λ r. ⌜ r ≡ heldSize n filled ⌝ }
+{
+    if filled { n } else { 0 }
+}
+
 // The view of lent rows: the caller's numbers, none copied.
 pub fn view<'a>(
     seq: u32,
@@ -286,4 +293,23 @@ impl ChunkBuf {
     {
         self.fill(v.seq, v.t_emit, v.horizon, v.dim, v.exec_steps, v.data)
     }
+}
+
+// The view of what a buffer holds: sizes 0 and no rows where no chunk is held.
+pub fn view_held<'a>(
+    seq: u32,
+    t_emit: u32,
+    horizon: u16,
+    dim: u16,
+    exec_steps: u16,
+    filled: bool,
+    data: &'a [f64],
+) -> ChunkView<'a>
+    ensures { λ r. ⌜ Shows r seq «t_emit» horizon dim «exec_steps» filled (now («data» .entry)) ⌝ }
+{
+    let h = held_size(horizon, filled);
+    let d = held_size(dim, filled);
+    let e = held_size(exec_steps, filled);
+    let rows = held_rows(data, horizon, dim, filled);
+    view(seq, t_emit, h, d, e, rows)
 }
