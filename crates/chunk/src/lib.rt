@@ -313,3 +313,20 @@ pub fn view_held<'a>(
     let rows = held_rows(data, horizon, dim, filled);
     view(seq, t_emit, h, d, e, rows)
 }
+
+impl ChunkBuf {
+    // The view of the held chunk, as `view_held` gives it.
+    pub fn view<'a>(&'a self) -> ChunkView<'a>
+        ensures { λ r. ⌜ Shows r (now (self .entry) .seq) (now (self .entry) .«t_emit») (now (self .entry) .horizon) (now (self .entry) .dim) (now (self .entry) .«exec_steps») (now (self .entry) .filled) (now (self .entry) .«data») ⌝ }
+    {
+        view_held(
+            self.seq,
+            self.t_emit,
+            self.horizon,
+            self.dim,
+            self.exec_steps,
+            self.filled,
+            &self.data,
+        )
+    }
+}
