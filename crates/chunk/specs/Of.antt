@@ -29,6 +29,10 @@ unfoldable pub fillOf : ChunkBuf → ℕ → ℕ → ℕ → ℕ → ℕ → Lis
 fillOf b s t h d e l =
     if eqb (refusal (lentReasons l h d e)) 0 then record { number = 0; buf = heldOf b s t h d e l } else record { number = refusal (lentReasons l h d e); buf = b }
 
+-- the same for a view
+abbrev pub copyOf : ChunkBuf → ChunkView → Filled
+copyOf b v = fillOf b (v .seq) (v .«t_emit») (v .horizon) (v .dim) (v .«exec_steps») (now (v .«data»))
+
 -- the buffer with no chunk held; all else stays
 abbrev pub clearedOf : ChunkBuf → ChunkBuf
 clearedOf b = record { «data» = b .«data»; seq = b .seq; «t_emit» = b .«t_emit»; horizon = b .horizon; dim = b .dim; «exec_steps» = b .«exec_steps»; filled = false }
@@ -54,3 +58,6 @@ Shows v s t h d e filled l =
     × ((v .dim ≡ heldSize d filled)
     × ((v .«exec_steps» ≡ heldSize e filled)
     × (now (v .«data») ≡ heldRows l h d filled)))))
+
+abbrev pub ShowsHeld : ChunkView → ChunkBuf → Type 0
+ShowsHeld v b = Shows v (b .seq) (b .«t_emit») (b .horizon) (b .dim) (b .«exec_steps») (b .filled) (b .«data»)
