@@ -1,4 +1,10 @@
-# `make test` passes all tests, `make cards` runs the card program on the shipped cards. See README.md.
-.PHONY: test
+# The project's two commands; see README.md.
+.PHONY: test cards
+
+# Passes all tests.
 test:
 	tools/test
+
+# Runs the card program on the shipped cards.
+cards:
+	tools/cards

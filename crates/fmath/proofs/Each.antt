@@ -1,14 +1,15 @@
 -- Laws of `all`, `some`, `every`, `table` and `over`: one turn of a loop that computes each, its end, and what it says of one index.
-use Prim.Native.Nat.{ℕ, zero, suc, _+_, _≤_, _<_}
+use Prim.Native.Nat.{ℕ, zero, suc, _+_, _≤_, _<_, min}
 use mathlib.Core.Path.{_≡_, refl, ap, sym, _∙_}
 use mathlib.Core.Bool.{Bool, true, false, _&&_, _||_, false≢true}
 use mathlib.Core.List.{List, [], _∷_}
-use native.Mathlib.Nat.{le-refl}
+use native.Mathlib.Nat.{le-refl, lt-of-not-le}
+use native.Mathlib.Decide.{decLe}
 use native.Mathlib.Numerals.{add-one}
 use native.Mathlib.Omega.{arith}
 use borrow.Author.Count.{below-more}
 use lib.ListN.{length, getD, take, set, length-set, List·getD-eq-default}
-use lib.Seq.{take-suc-set, take-all}
+use lib.Seq.{take-suc-set, take-all, set-out}
 use lib.Ieee.{Float, nan}
 use Rattle.fmath.specs.Each.{at, all, some, every, every-from, table, over}
 
@@ -66,6 +67,20 @@ pub some-more : (p : ℕ → Bool) (i : ℕ) (so t : Bool) → so ≡ some p i �
 unfolding some
 some-more p i so t h g = rw (h, g, add-one)
 
+-- .. and from some place on none does
+pub some-cut : (p : ℕ → Bool) (n m : ℕ) → ((j : ℕ) → m ≤ j → p j ≡ false) → some p n ≡ some p (min n m)
+unfolding some
+some-cut p zero m h = let e : min 0 m ≡ 0 = omega arith in rw e
+some-cut p (suc n) m h = go (decLe m n) (some-cut p n m h)
+  where
+    or-false : (b : Bool) → b || false ≡ b
+    or-false true = refl
+    or-false false = refl
+
+    go : Dec (m ≤ n) → some p n ≡ some p (min n m) → some p n || p n ≡ some p (min (suc n) m)
+    go (yes l) e = let k : min (suc n) m ≡ min n m = omega arith in rw (h n l, k) (or-false (some p n) ∙ e)
+    go (no l) e = let k : min (suc n) m ≡ suc n = omega (arith, lt-of-not-le l) in rw k
+
 -- ---- every
 
 from-first : (a : Bool) (l : List Bool) → every-from a l ≡ true → a ≡ true
@@ -107,3 +122,15 @@ pub length-over : (g : ℕ → Float) (l : List Float) (n : ℕ) → length (ove
 unfolding over
 length-over g l zero = refl
 length-over g l (suc n) = simp length-set (length-over g l n)
+
+-- nothing is put past the list's end
+pub over-cut : (g : ℕ → Float) (l : List Float) (n : ℕ) → over g l n ≡ over g l (min n (length l))
+unfolding over
+over-cut g l zero = let e : min 0 (length l) ≡ 0 = omega arith in rw e
+over-cut g l (suc n) = go (decLe (length l) n) (over-cut g l n)
+  where
+    go : Dec (length l ≤ n) → over g l n ≡ over g l (min n (length l)) → set (over g l n) n (g n) ≡ over g l (min (suc n) (length l))
+    go (yes h) e =
+        let k : min (suc n) (length l) ≡ min n (length l) = omega arith in
+        rw k (set-out (over g l n) n (g n) (rw (length-over g l n) h) ∙ e)
+    go (no h) e = let k : min (suc n) (length l) ≡ suc n = omega (arith, lt-of-not-le h) in rw k

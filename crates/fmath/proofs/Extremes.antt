@@ -62,6 +62,12 @@ greater-right a b = go (lt b a) refl
     go true e = lt-asymmetric b a e
     go false e = lt-irrefl b
 
+not-below-nan : (x : Float) → cond (lt x nan) x nan ≡ nan
+unfolding lt
+not-below-nan nan = refl
+not-below-nan (inf s) = refl
+not-below-nan (fin s m e) = refl
+
 -- nothing is above infinity
 not-above-inf : (x : Float) → lt (inf false) x ≡ false
 unfolding lt
@@ -75,6 +81,12 @@ module _ (g : ℕ → Float) where
   pub least-more : (i : ℕ) (m x : Float) → m ≡ least g i → x ≡ g i → lesser m x ≡ least g (i + 1)
   unfolding least
   least-more i m x e h = rw (add-one, e, h)
+
+  -- where the members from some place on are no numbers, neither is the least
+  pub least-missing : (m n : ℕ) → m < n → ((j : ℕ) → m ≤ j → g j ≡ nan) → least g n ≡ nan
+  unfolding least lesser
+  least-missing m zero h w = absurd (omega arith)
+  least-missing m (suc n) h w = rw (w n (omega arith)) (not-below-nan (least g n))
 
   pub least-real : (n : ℕ) → ((j : ℕ) → j < n → Real (g j)) → Real (least g n)
   unfolding least isNan

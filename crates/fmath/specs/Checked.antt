@@ -5,7 +5,9 @@ use mathlib.Core.List.{List}
 use lib.ListN.{set}
 use lib.Ieee.{Float, Format, add, sub, mul, div}
 use Rattle.root.specs.Root.{rootOf}
+use Rattle.fmath.specs.Each.{all}
 use Rattle.fmath.specs.Finite.{finite}
+use Rattle.fmath.specs.Least.{least}
 
 pub record Checked (A : Type 0) : Type 0 where
   pub value : A
@@ -54,3 +56,7 @@ each g l (suc j) = do
   k ← each g l j
   x ← g j
   pure (set k j x)
+
+-- the least of g at 0, .., n - 1, each of which is computed; the infinity that it starts from is not
+unfoldable pub leastOf : (ℕ → Checked Float) → ℕ → Checked Float
+leastOf g n = record { value = least (λ (j : ℕ). g j .value) n; sound = all (λ (j : ℕ). g j .sound) n }

@@ -95,9 +95,9 @@ pub fn clamp(x: f64, lo: f64, hi: f64) -> f64
 pub fn sqrt(x: f64) -> Number
     ensures { λ r. ⌜ r ≡ sqrtAnswer binary64 x ⌝ }
 {
-    let r = root::sqrt(x);
-    if finite(r) {
-        return Number::Value(r);
+    let root = root::sqrt(x);
+    if finite(root) {
+        return Number::Value(root);
     }
     Number::Refused(Refusal::of(Refusal::COMPUTED))
 }
@@ -110,10 +110,10 @@ pub fn magnitude(v: &[f64], n: usize) -> f64
         return 0.0 / 0.0;
     }
     let mut s = 0.0;
-    let mut i = 0;
-    while i < n {
-        s += v[i] * v[i];
-        i += 1;
+    let mut c = 0;
+    while c < n {
+        s += v[c] * v[c];
+        c += 1;
     }
     root::sqrt(s)
 }
@@ -129,11 +129,11 @@ pub fn distance(a: &[f64], b: &[f64], n: usize) -> f64
         return 0.0 / 0.0;
     }
     let mut s = 0.0;
-    let mut i = 0;
-    while i < n {
-        let d = a[i] - b[i];
+    let mut j = 0;
+    while j < n {
+        let d = a[j] - b[j];
         s += d * d;
-        i += 1;
+        j += 1;
     }
     root::sqrt(s)
 }
@@ -148,9 +148,9 @@ pub fn norm(v: &[f64], n: usize) -> Number
     if !all_finite(v, v.len()) {
         return Number::Refused(Refusal::of(Refusal::NOT_FINITE));
     }
-    let r = magnitude(v, n);
-    if finite(r) {
-        return Number::Value(r);
+    let length = magnitude(v, n);
+    if finite(length) {
+        return Number::Value(length);
     }
     Number::Refused(Refusal::of(Refusal::COMPUTED))
 }
@@ -166,9 +166,9 @@ pub fn dist(a: &[f64], b: &[f64], n: usize) -> Number
     if !fine {
         return Number::Refused(Refusal::of(Refusal::NOT_FINITE));
     }
-    let r = distance(a, b, n);
-    if finite(r) {
-        return Number::Value(r);
+    let far = distance(a, b, n);
+    if finite(far) {
+        return Number::Value(far);
     }
     Number::Refused(Refusal::of(Refusal::COMPUTED))
 }

@@ -9,9 +9,9 @@ ghost use Rattle.root.specs.Root.{half, nearRoot, rootOf};
 ghost use Rattle.root.specs.Of.{Ranged, rootParts, unpacked, Written};
 
 // The number digits * 2^exponent; the exponent is unbiased, and as low as -1074 where a number is read.
-pub struct Parts {
-    pub digits: u64,
-    pub exponent: i64,
+struct Parts {
+    digits: u64,
+    exponent: i64,
 }
 
 // Half of an exponent, rounded down, also below zero.
@@ -126,7 +126,18 @@ fn root_bits(b: u64) -> u64
     biased(r.exponent, 1074) * 0x10_0000_0000_0000 + r.digits
 }
 
-// The root; a NaN where there is none.
+// The number that the bits of the root stand for; a NaN for the patterns from the infinity's up.
+fn root_of(b: u64) -> f64
+    requires { ⌜ (0 < b) × (b < 2 ^ 64) × (b ≡ 2 ^ 63 → ⊥) ⌝ }
+    ensures { λ r. ⌜ r ≡ rootOf binary64 (ofBits binary64 b) ⌝ }
+{
+    if 0x7ff0_0000_0000_0000 <= b {
+        return 0.0 / 0.0;
+    }
+    f64::from_bits(root_bits(b))
+}
+
+// The root, to nearest; a zero's is that zero, and it is a NaN below zero, at an infinity and at a NaN.
 pub fn sqrt(x: f64) -> f64
     ensures { λ r. ⌜ r ≡ rootOf binary64 x ⌝ }
 {
@@ -134,14 +145,9 @@ pub fn sqrt(x: f64) -> f64
         return x;
     }
     let b = f64::to_bits(x);
-    if b == 0 {
-        return x;
+    if b % 0x8000_0000_0000_0000 == 0 {
+        x
+    } else {
+        root_of(b)
     }
-    if b == 0x8000_0000_0000_0000 {
-        return x;
-    }
-    if 0x7ff0_0000_0000_0000 <= b {
-        return 0.0 / 0.0;
-    }
-    f64::from_bits(root_bits(b))
 }

@@ -14,10 +14,10 @@ use Rattle.fmath.proofs.distance.Statement.{statement}
 use Rattle.fmath.proofs.distance.Tie as tie
 
 abbrev Inv-loop : tie.InvT-loop
-Inv-loop a b n s₀ i₀ s i = (i ≤ n) × (s ≡ sumFrom binary64 +0 (squaredGap binary64 a b) i .value)
+Inv-loop a b n s₀ j₀ s j = (j ≤ n) × (s ≡ sumFrom binary64 +0 (squaredGap binary64 a b) j .value)
 
 abbrev μ-loop : tie.MeasureT-loop
-μ-loop a b n s₀ i₀ s i = n - i
+μ-loop a b n s₀ j₀ s j = n - j
 
 returns : tie.Need-returns Inv-loop μ-loop
 unfolding ofBits div
@@ -43,8 +43,8 @@ mul-d-2 c = search needs
 shared-slice-read-d-2 : tie.Need-shared-slice-read-d-2 Inv-loop μ-loop
 shared-slice-read-d-2 c = search needs
 
-add-i : tie.Need-add-i Inv-loop μ-loop
-add-i c = search needs
+add-j : tie.Need-add-j Inv-loop μ-loop
+add-j c = search needs
 
 loop-less : tie.Need-loop-less Inv-loop μ-loop
 loop-less c = search needs
@@ -54,7 +54,7 @@ unfolding squaredGap
 loop-again c =
     let l = c .before .before .before .loop in
     let s = c .before .before .before .before .before .before .before .before .args in
-    (omega arith, sum-more binary64 +0 (squaredGap binary64 (now (s .a)) (now (s .b))) (l .i) _ _ (l .inv .1) refl)
+    (omega arith, sum-more binary64 +0 (squaredGap binary64 (now (s .a)) (now (s .b))) (l .j) _ _ (l .inv .1) refl)
 
 sqrt-requires : tie.Need-sqrt-requires Inv-loop μ-loop
 sqrt-requires c κs = search needs
@@ -63,7 +63,7 @@ returns-3 : tie.Need-returns-3 Inv-loop μ-loop
 returns-3 c =
     let l = c .before .before .loop in
     let s = c .before .before .before .before .before .before .before .args in
-    dist-done binary64 (now (s .a)) (now (s .b)) (s .n) (l .i) _ _ (l .inv .1) (le-antisymm (l .inv .0) (c .before .loop-test .left)) (c .sqrt .ensures)
+    dist-done binary64 (now (s .a)) (now (s .b)) (s .n) (l .j) _ _ (l .inv .1) (le-antisymm (l .inv .0) (c .before .loop-test .left)) (c .sqrt .ensures)
 
 pub distance-spec : {M : Type 1} → statement M
 distance-spec =
@@ -78,7 +78,7 @@ distance-spec =
     shared-slice-read-d
     mul-d-2
     shared-slice-read-d-2
-    add-i
+    add-j
     loop-less
     loop-again
     sqrt-requires

@@ -14,10 +14,10 @@ use Rattle.fmath.proofs.magnitude.Statement.{statement}
 use Rattle.fmath.proofs.magnitude.Tie as tie
 
 abbrev Inv-loop : tie.InvT-loop
-Inv-loop v n s₀ i₀ s i = (i ≤ n) × (s ≡ sumFrom binary64 +0 (squareAt binary64 v) i .value)
+Inv-loop v n s₀ c₀ s c = (c ≤ n) × (s ≡ sumFrom binary64 +0 (squareAt binary64 v) c .value)
 
 abbrev μ-loop : tie.MeasureT-loop
-μ-loop v n s₀ i₀ s i = n - i
+μ-loop v n s₀ c₀ s c = n - c
 
 returns : tie.Need-returns Inv-loop μ-loop
 unfolding ofBits div
@@ -39,8 +39,8 @@ mul-s-2 c = search needs
 shared-slice-read-s-2 : tie.Need-shared-slice-read-s-2 Inv-loop μ-loop
 shared-slice-read-s-2 c = search needs
 
-add-i : tie.Need-add-i Inv-loop μ-loop
-add-i c = search needs
+add-c : tie.Need-add-c Inv-loop μ-loop
+add-c c = search needs
 
 loop-less : tie.Need-loop-less Inv-loop μ-loop
 loop-less c = search needs
@@ -50,7 +50,7 @@ unfolding squareAt
 loop-again c =
     let l = c .before .before .before .loop in
     let v = now (c .before .before .before .before .before .before .args .v) in
-    (omega arith, sum-more binary64 +0 (squareAt binary64 v) (l .i) _ _ (l .inv .1) refl)
+    (omega arith, sum-more binary64 +0 (squareAt binary64 v) (l .c) _ _ (l .inv .1) refl)
 
 sqrt-requires : tie.Need-sqrt-requires Inv-loop μ-loop
 sqrt-requires c κs = search needs
@@ -59,7 +59,7 @@ returns-2 : tie.Need-returns-2 Inv-loop μ-loop
 returns-2 c =
     let l = c .before .before .loop in
     let s = c .before .before .before .before .before .args in
-    norm-done binary64 (now (s .v)) (s .n) (l .i) _ _ (l .inv .1) (le-antisymm (l .inv .0) (c .before .loop-test .left)) (c .sqrt .ensures)
+    norm-done binary64 (now (s .v)) (s .n) (l .c) _ _ (l .inv .1) (le-antisymm (l .inv .0) (c .before .loop-test .left)) (c .sqrt .ensures)
 
 pub magnitude-spec : {M : Type 1} → statement M
 magnitude-spec =
@@ -73,7 +73,7 @@ magnitude-spec =
     shared-slice-read-s
     mul-s-2
     shared-slice-read-s-2
-    add-i
+    add-c
     loop-less
     loop-again
     sqrt-requires

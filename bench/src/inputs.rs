@@ -1,0 +1,56 @@
+//! The inputs that both sides are timed on. Each is accepted.
+
+use differential::rng::Rng;
+use model::{
+    BrakeModel, Calibration, ChunkBuf, ChunkView, ClampMode, ContactLimit, FuseConfig, Scores, Tier1Rt, Trail,
+};
+
+/// Numbers in [0, 1), the same in every run.
+pub fn numbers(n: usize) -> Vec<f64> {
+    let mut rng = Rng::new(n as u64);
+    (0..n).map(|_| rng.unit()).collect()
+}
+
+pub fn chunk(dim: usize, data: &[f64]) -> ChunkView<'_> {
+    let horizon = (data.len() / dim) as u16;
+    ChunkView { seq: 1, t_emit: 1, horizon, dim: dim as u16, exec_steps: 1, data }
+}
+
+fn boxed(dim: usize) -> FuseConfig {
+    FuseConfig { dim, pos_dim: dim, dt: 0.1, box_lo: [-2.0; 8], box_hi: [2.0; 8], ..FuseConfig::PLAIN }
+}
+
+/// 64 rows of 64 substeps.
+pub fn second_order(dim: usize) -> FuseConfig {
+    let brake =
+        BrakeModel { k_p: 100.0, k_v: 20.0, dt: 0.01, substeps: 64, commit: 64, react: 1, ..FuseConfig::PLAIN.brake };
+    FuseConfig { brake, ..boxed(dim) }
+}
+
+/// Everything armed, the position inside the slow zone, limits that some rows exceed.
+pub fn all_armed(dim: usize) -> FuseConfig {
+    let contact = Some(ContactLimit { radius: 5.0, v_max: 4.0, a0: 0, a1: 1 });
+    FuseConfig { armed: 63, clamp: ClampMode::Project, v_max: 8.0, contact, aux_count: 2, ..boxed(dim) }
+}
+
+/// A kept chunk one step older than the new one, and a full trail.
+pub fn state(data: &[f64]) -> Tier1Rt {
+    let mut rt = Tier1Rt { have_prev: true, ..Tier1Rt::NEW };
+    rt.prev = ChunkBuf { t_emit: 0, horizon: (data.len() / 8) as u16, dim: 8, filled: true, ..ChunkBuf::NEW };
+    rt.prev.data[..data.len()].copy_from_slice(data);
+    rt.trail = Trail { len: 32, ..Trail::NEW };
+    rt.trail.buf.copy_from_slice(&numbers(256));
+    rt
+}
+
+/// Twelve features in four terms.
+pub fn calibration() -> Calibration {
+    let terms = [0x007, 0x038, 0x1c0, 0xe00, 0, 0, 0, 0];
+    Calibration { mask: 0xfff, n_terms: 4, terms, tau: 3.0, ..Calibration::DISARMED }
+}
+
+pub fn scores() -> Scores {
+    let mut sc = Scores { valid: 0xfff, ..Scores::NEW };
+    sc.f.copy_from_slice(&numbers(12));
+    sc
+}

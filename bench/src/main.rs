@@ -1,0 +1,185 @@
+//! Times the port and the published Rust in one process on the same inputs: nanoseconds for a call, the least of
+//! several rounds taken in turn, and the ratio. An entry is listed when the port has it; BENCH_ALL=1 lists the Rust's
+//! half of the others too.
+
+mod inputs;
+
+use std::{env, hint::black_box, time::Instant};
+
+use differential::port::{self, Port};
+use model::{ClampMode, FuseConfig};
+use oracle::rust::{brake, conformal, fmath, tier0, tier1};
+
+const ROUNDS: usize = 15;
+
+/// One side of an entry: some number of calls.
+type Side<'a> = Box<dyn FnMut() + 'a>;
+
+/// Nanoseconds for one of the calls that `side` makes.
+fn time(side: &mut Side<'_>, calls: usize) -> f64 {
+    let start = Instant::now();
+    side();
+    start.elapsed().as_nanos() as f64 / calls as f64
+}
+
+/// One line of the table. Each side makes `calls` calls a round.
+fn line(name: &str, calls: usize, mut rust: Option<Side<'_>>, mut port: Option<Side<'_>>) {
+    if port.is_none() && (rust.is_none() || env::var_os("BENCH_ALL").is_none()) {
+        return;
+    }
+    let (mut r, mut p) = (f64::INFINITY, f64::INFINITY);
+    for _ in 0..ROUNDS {
+        r = rust.as_mut().map_or(r, |side| r.min(time(side, calls)));
+        p = port.as_mut().map_or(p, |side| p.min(time(side, calls)));
+    }
+    let shown = |x: f64| {
+        if x.is_finite() {
+            format!("{x:.1}")
+        } else {
+            "-".into()
+        }
+    };
+    println!("{name:<34} {:>12} {:>12} {:>8}", shown(r), shown(p), shown_ratio(p / r));
+}
+
+fn shown_ratio(ratio: f64) -> String {
+    if ratio.is_finite() && ratio > 0.0 {
+        format!("{ratio:.2}")
+    } else {
+        "-".into()
+    }
+}
+
+/// A side that makes `calls` calls of `f`.
+fn calls<'a, T>(calls: usize, mut f: impl FnMut() -> T + 'a) -> Side<'a> {
+    Box::new(move || {
+        for _ in 0..calls {
+            black_box(f());
+        }
+    })
+}
+
+fn main() {
+    let port = port::linked();
+    println!("{:<34} {:>12} {:>12} {:>8}", "entry", "Rust ns", "port ns", "ratio");
+    root(&port);
+    norm(&port);
+    forecast(&port, 1);
+    forecast(&port, 8);
+    check_chunk(&port);
+    check_action(&port);
+    features(&port, true);
+    features(&port, false);
+    gate(&port);
+    judging(&port);
+}
+
+fn root(port: &Port) {
+    let xs = &inputs::numbers(1024);
+    let rust: Side<'_> = Box::new(|| {
+        for x in xs {
+            black_box(fmath::sqrt(black_box(*x)));
+        }
+    });
+    let ported = port.sqrt.map(|f| -> Side<'_> {
+        Box::new(move || {
+            for x in xs {
+                let _ = black_box(f(black_box(*x)));
+            }
+        })
+    });
+    line("root", xs.len(), Some(rust), ported);
+}
+
+fn norm(port: &Port) {
+    let v = inputs::numbers(8);
+    let rust = calls(1000, || fmath::norm(black_box(&v), 8));
+    let v = &v;
+    let ported = port.norm.map(|f| calls(1000, move || f(black_box(v), 8)));
+    line("norm of 8", 1000, Some(rust), ported);
+}
+
+fn forecast(port: &Port, dim: usize) {
+    let cfg = inputs::second_order(dim);
+    let raw = oracle::config(&cfg);
+    let (p, v, data) = (inputs::numbers(dim), inputs::numbers(dim), inputs::numbers(64 * dim));
+    let ch = inputs::chunk(dim, &data);
+    let rust = calls(10, || brake::brake_feasible(black_box(&raw), &p, &v, oracle::chunk_view(ch), 0));
+    let mut slacks = vec![0.0; 4096];
+    let (cfg, p, v) = (&cfg, &p, &v);
+    let ported = port.brake_feasible.map(|f| calls(10, move || f(black_box(cfg), p, v, ch, 0, &mut slacks)));
+    line(&format!("forecast 4,096 substeps, axes: {dim}"), 10, Some(rust), ported);
+}
+
+fn check_chunk(port: &Port) {
+    let cfg = inputs::all_armed(8);
+    let raw = oracle::config(&cfg);
+    let (pos, aux, data) = (inputs::numbers(8), [0.5, 0.5], inputs::numbers(512));
+    let ch = inputs::chunk(8, &data);
+    let mut buf = oracle::rust::ChunkBuf::new();
+    let rust = calls(100, || {
+        tier0::check_chunk(black_box(&raw), oracle::obs(&pos, &aux, &[]), oracle::chunk_view(ch), &mut buf)
+    });
+    let mut out = vec![0.0; 512];
+    let (cfg, pos, aux) = (&cfg, &pos, &aux);
+    let ported = port.check_chunk.map(|f| calls(100, move || f(black_box(cfg), pos, aux, ch, &mut out)));
+    line("check_chunk 64 x 8, all armed", 100, Some(rust), ported);
+}
+
+fn check_action(port: &Port) {
+    let cfg = inputs::all_armed(8);
+    let raw = oracle::config(&cfg);
+    let (pos, aux, prev, a) = (inputs::numbers(8), [0.5, 0.5], inputs::numbers(8), inputs::numbers(8));
+    let mut to = [0.0; 8];
+    let rust = calls(1000, || tier0::check_action(black_box(&raw), oracle::obs(&pos, &aux, &[]), &prev, &a, &mut to));
+    let mut out = [0.0; 8];
+    let (cfg, pos, aux, prev, a) = (&cfg, &pos, &aux, &prev, &a);
+    let ported = port.check_action.map(|f| calls(1000, move || f(black_box(cfg), pos, aux, prev, a, &mut out)));
+    line("check_action, 8 axes, all armed", 1000, Some(rust), ported);
+}
+
+fn features(port: &Port, with_chunk: bool) {
+    let cfg = inputs::all_armed(8);
+    let raw = oracle::config(&cfg);
+    let (pos, ext, data) = (inputs::numbers(8), inputs::numbers(4), inputs::numbers(128));
+    let ch = with_chunk.then(|| inputs::chunk(8, &data));
+    let (mut rt, mut sc) = (inputs::state(&data), model::Scores::NEW);
+    let (mut raw_rt, mut raw_sc) = (oracle::tier1_rt(&rt), oracle::scores(&sc));
+    let rust = calls(100, || {
+        let obs = oracle::obs(&pos, &[], &ext);
+        tier1::features(black_box(&raw), &mut raw_rt, obs, ch.map(oracle::chunk_view), 0, &mut raw_sc)
+    });
+    let (cfg, pos, ext) = (&cfg, &pos, &ext);
+    let ported = port.features.map(|f| calls(100, move || f(black_box(cfg), &mut rt, pos, ext, ch, &mut sc)));
+    line(if with_chunk { "features, chunk of 16 x 8" } else { "features, no chunk" }, 100, Some(rust), ported);
+}
+
+fn gate(port: &Port) {
+    let cal = inputs::calibration();
+    let raw = oracle::calibration(&cal);
+    let mut sc = inputs::scores();
+    let mut raw_sc = oracle::scores(&sc);
+    let rust = calls(1000, || {
+        conformal::standardise(black_box(&raw), 3, &mut raw_sc);
+        conformal::aggregate(black_box(&raw), &mut raw_sc)
+    });
+    let cal = &cal;
+    let ported = port.standardise.zip(port.aggregate).map(|(standardise, aggregate)| {
+        calls(1000, move || {
+            let _ = standardise(black_box(cal), 3, &mut sc);
+            aggregate(black_box(cal), &mut sc)
+        })
+    });
+    line("standardise and aggregate", 1000, Some(rust), ported);
+}
+
+/// The port's own work on every call; the Rust does it once, in `compile`, and so has no time here.
+fn judging(port: &Port) {
+    let plain = FuseConfig { clamp: ClampMode::Project, ..inputs::all_armed(8) };
+    let calibrated = FuseConfig { calibrated: true, cal: inputs::calibration(), horizon_ticks: 300, ..plain };
+    for (name, cfg) in [("configuration judged", plain), ("configuration judged, calibrated", calibrated)] {
+        let cfg = &cfg;
+        let ported = port.derive.map(|f| calls(1000, move || f(black_box(cfg))));
+        line(name, 1000, None, ported);
+    }
+}

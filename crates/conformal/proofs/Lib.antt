@@ -1,0 +1,4 @@
+pub mod Bits
+pub mod Turns
+pub mod Picked
+pub mod Promises

@@ -1,0 +1,75 @@
+-- `conformal::term` meets its contract: the loop keeps the three folds of the features passed.
+use Prim.Native.Nat.{ℕ, _≤_, _-_}
+use mathlib.Core.Path.{_≡_, refl}
+use mathlib.Core.Bool.{false, not, _||_}
+use native.Mathlib.Omega.{arith}
+use borrow.Author.Needs.{needs}
+use lib.Ieee.{inf, ofBits, div}
+use Rattle.fmath.specs.Each.{all, at}
+use Rattle.fmath.specs.Least.{lesser}
+use Rattle.fmath.proofs.Each.{all-more, some-more}
+use Rattle.conformal.specs.Bits.{bit}
+use Rattle.conformal.specs.Rule.{live, liveTerm, joinWhere, leastWhere, leastOf}
+use Rattle.conformal.proofs.Turns.{join-more}
+use Rattle.conformal.proofs.term.Statement.{statement}
+use Rattle.conformal.proofs.term.Tie as tie
+
+abbrev Inv-loop : tie.InvT-loop
+Inv-loop bits mask valid z some₀ every₀ least₀ j₀ some every least j = (j ≤ 12) × ((some ≡ Rattle.fmath.specs.Each.some (bit bits) j) × ((every ≡ all (λ (k : ℕ). not (bit bits k) || live mask valid k) j) × (least ≡ leastWhere (bit bits) (at z) j)))
+
+abbrev μ-loop : tie.MeasureT-loop
+μ-loop bits mask valid z some₀ every₀ least₀ j₀ some every least j = 12 - j
+
+loop-holds : tie.Need-loop-holds Inv-loop μ-loop
+unfolding all Rattle.fmath.specs.Each.some joinWhere ofBits div
+loop-holds c = (search needs, (refl, (refl, refl)))
+
+bit-requires : tie.Need-bit-requires Inv-loop μ-loop
+bit-requires c κs = omega arith
+
+bit-requires-2 : tie.Need-bit-requires-2 Inv-loop μ-loop
+bit-requires-2 c κs = omega arith
+
+bit-requires-3 : tie.Need-bit-requires-3 Inv-loop μ-loop
+bit-requires-3 c κs = omega arith
+
+mul-lesser-where : tie.Need-mul-lesser-where Inv-loop μ-loop
+mul-lesser-where c = omega arith
+
+element-copy-out-lesser-where : tie.Need-element-copy-out-lesser-where Inv-loop μ-loop
+element-copy-out-lesser-where c = omega arith
+
+lesser-where-requires : tie.Need-lesser-where-requires Inv-loop μ-loop
+lesser-where-requires c κs = search needs
+
+add-j : tie.Need-add-j Inv-loop μ-loop
+add-j c = omega arith
+
+loop-less : tie.Need-loop-less Inv-loop μ-loop
+loop-less c = omega arith
+
+loop-again : tie.Need-loop-again Inv-loop μ-loop
+loop-again c = let l = c .before .before .before .before .before .before .loop .inv in
+    (omega arith, (some-more _ _ _ _ (l .1 .0) (c .before .before .before .before .bit .ensures), (all-more _ _ _ _ (l .1 .1 .0) (rw (c .before .before .before .before .bit .ensures, c .before .before .before .bit2 .ensures, c .before .before .bit3 .ensures)), join-more lesser (inf false) (bit (c .before .before .before .before .before .before .before .args .bits)) (at (c .before .before .before .before .before .before .before .args .z .now)) _ _ _ _ _ (l .1 .1 .1) (c .before .before .before .before .bit .ensures) refl (c .lesser-where .ensures))))
+
+returns : tie.Need-returns Inv-loop μ-loop
+unfolding liveTerm leastOf
+returns c = let e : c .before .loop .j ≡ 12 = omega arith in rw (rw e at (c .before .loop .inv .1 .0), rw e at (c .before .loop .inv .1 .1 .0), rw e at (c .before .loop .inv .1 .1 .1))
+
+pub term-spec : {M : Type 1} → statement M
+term-spec =
+    tie.close
+    (tie.spec
+    Inv-loop
+    μ-loop
+    loop-holds
+    bit-requires
+    bit-requires-2
+    bit-requires-3
+    mul-lesser-where
+    element-copy-out-lesser-where
+    lesser-where-requires
+    add-j
+    loop-less
+    loop-again
+    returns)

@@ -1,0 +1,5 @@
+pub mod Bits
+pub mod Rule
+pub mod Refusals
+pub mod Answer
+pub mod Of

@@ -1,0 +1,27 @@
+-- `envelope::derive_from` meets its contract: its calls are the parts of the rule, and the rest is its arithmetic.
+use borrow.Author.Needs.{needs}
+use lib.Ieee.{ofBits}
+use Rattle.envelope.specs.Derive.{invDt, invDt2, invDt3, stepMax, derivedFrom}
+use Rattle.envelope.proofs.derive_from.Statement.{statement}
+use Rattle.envelope.proofs.derive_from.Tie as tie
+
+low-walls-requires : tie.Need-low-walls-requires
+low-walls-requires c κs = search needs
+
+high-walls-requires : tie.Need-high-walls-requires
+high-walls-requires c κs = search needs
+
+inverses-requires : tie.Need-inverses-requires
+inverses-requires c κs = search needs
+
+isotropic-requires : tie.Need-isotropic-requires
+isotropic-requires c κs = search needs
+
+returns : tie.Need-returns
+unfolding derivedFrom invDt invDt2 invDt3 stepMax ofBits
+returns c = rw (c .before .before .before .before .before .before .before .before .before .before .low-walls .ensures, c .before .before .before .before .before .before .before .high-walls .ensures, c .before .before .before .before .inverses .ensures, c .before .isotropic .ensures)
+
+pub derive-from-spec : {M : Type 1} → statement M
+derive-from-spec =
+    tie.close
+    (tie.spec low-walls-requires high-walls-requires inverses-requires isotropic-requires returns)

@@ -1,0 +1,52 @@
+-- `envelope::numbers_ok` meets its contract: its tests are the definition's.
+use mathlib.Core.Path.{_∙_, ap}
+use borrow.Author.Needs.{needs}
+use Rattle.fmath.specs.Each.{every}
+use Rattle.fmath.proofs.Each.{_&&≡_}
+use Rattle.envelope.specs.Refusals.{derivedOk, numbersOk}
+use Rattle.envelope.proofs.numbers_ok.Statement.{statement}
+use Rattle.envelope.proofs.numbers_ok.Tie as tie
+
+derive-from-requires : tie.Need-derive-from-requires
+derive-from-requires c κs = search needs
+
+limits-ok-requires : tie.Need-limits-ok-requires
+limits-ok-requires c κs = search needs
+
+brake-ok-requires : tie.Need-brake-ok-requires
+brake-ok-requires c κs = search needs
+
+zone-ok-requires : tie.Need-zone-ok-requires
+zone-ok-requires c κs = search needs
+
+norm-ok-requires : tie.Need-norm-ok-requires
+norm-ok-requires c κs = search needs
+
+box-ok-requires : tie.Need-box-ok-requires
+box-ok-requires c κs = search needs
+
+derived-ok-requires : tie.Need-derived-ok-requires
+derived-ok-requires c κs = search needs
+
+calibration-ok-requires : tie.Need-calibration-ok-requires
+calibration-ok-requires c κs = search needs
+
+returns : tie.Need-returns
+unfolding numbersOk every
+returns c = (c .before .before .before .before .before .before .limits-ok .ensures) &&≡ (c .before .before .before .before .before .brake-ok .ensures) &&≡ (c .before .before .before .before .zone-ok .ensures) &&≡ (c .before .before .before .norm-ok .ensures) &&≡ (c .before .before .box-ok .ensures)
+    &&≡ (c .before .derived-ok .ensures ∙ ap derivedOk (c .before .before .before .before .before .before .before .derive-from .ensures))
+    &&≡ (c .calibration-ok .ensures)
+
+pub numbers-ok-spec : {M : Type 1} → statement M
+numbers-ok-spec =
+    tie.close
+    (tie.spec
+    derive-from-requires
+    limits-ok-requires
+    brake-ok-requires
+    zone-ok-requires
+    norm-ok-requires
+    box-ok-requires
+    derived-ok-requires
+    calibration-ok-requires
+    returns)

@@ -1,0 +1,74 @@
+-- What document 01's module 4 derives from a configuration, over the format, in the source's operation order.
+use Prim.Native.Nat.{ℕ, min}
+use mathlib.Core.Bool.{Bool, true, false}
+use mathlib.Core.List.{List}
+use lib.Dec.{ltb}
+use lib.IntN.{pos}
+use lib.Ieee.{Float, Format, fin, add, sub, mul, div}
+use Rattle.refusal.specs.Order.{if_then_else_}
+use Rattle.fmath.specs.Each.{at, table}
+use Rattle.fmath.specs.Finite.{+0}
+use Rattle.fmath.specs.Least.{least}
+use Rattle.envelope.specs.declared.Limits.{Limits}
+use Rattle.envelope.specs.declared.Norm.{Norm}
+use Rattle.envelope.specs.declared.Box.{Box}
+use Rattle.envelope.specs.declared.Derived.{Derived}
+use Rattle.envelope.specs.declared.FuseConfig.{FuseConfig}
+
+abbrev pub one : Float
+one = fin false 1 (pos 0)
+
+-- x where a test holds, else 0.0
+abbrev pub kept : Bool → Float → Float
+kept t x = if t then x else +0
+
+-- ---- the control period
+
+-- 1 / dt, and its second and third power
+unfoldable pub invDt : Format → Float → Float
+invDt f dt = div f one dt
+
+unfoldable pub invDt2 : Format → Float → Float
+invDt2 f dt = mul f (invDt f dt) (invDt f dt)
+
+unfoldable pub invDt3 : Format → Float → Float
+invDt3 f dt = mul f (invDt2 f dt) (invDt f dt)
+
+-- the longest step: v_max x dt
+unfoldable pub stepMax : Format → Float → Float → Float
+stepMax f v dt = mul f v dt
+
+-- ---- the workspace: the box moved inward by the margin on the first n axes, 0..0 past them
+
+unfoldable pub lowWalls : Format → List Float → Float → ℕ → List Float
+lowWalls f lo margin n = table (λ (i : ℕ). kept (ltb i n) (add f (at lo i) margin)) 8
+
+unfoldable pub highWalls : Format → List Float → Float → ℕ → List Float
+highWalls f hi margin n = table (λ (i : ℕ). kept (ltb i n) (sub f (at hi i) margin)) 8
+
+-- ---- the norm
+
+-- 1 / scale on the first n coordinates, 0.0 past them
+unfoldable pub inverses : Format → List Float → ℕ → List Float
+inverses f scale n = table (λ (i : ℕ). kept (ltb i n) (div f one (at scale i))) 8
+
+-- the least of the first n scales
+unfoldable pub isotropic : List Float → ℕ → Float
+isotropic scale n = least (at scale) (min n 8)
+
+-- ---- all of it
+
+unfoldable pub derivedFrom : Format → Limits → Norm → Box → ℕ → ℕ → Derived
+derivedFrom f l norm walls dim pos-dim = record {
+  «inv_dt» = invDt f (l .dt);
+  «inv_dt2» = invDt2 f (l .dt);
+  «inv_dt3» = invDt3 f (l .dt);
+  «step_max» = stepMax f (l .«v_max») (l .dt);
+  «box_lo» = lowWalls f (walls .lo) (l .margin) pos-dim;
+  «box_hi» = highWalls f (walls .hi) (l .margin) pos-dim;
+  «inv_norm_scale» = inverses f (norm .scale) dim;
+  «norm_scale_iso» = isotropic (norm .scale) dim;
+}
+
+abbrev pub derived : Format → FuseConfig → Derived
+derived f c = derivedFrom f (c .limits) (c .norm) (c .walls) (c .dim) (c .«pos_dim»)

@@ -1,0 +1,127 @@
+-- When a configuration is refused: one condition for each number of document 01's table, and the list that is judged.
+use Prim.Native.Nat.{ℕ}
+use mathlib.Core.Bool.{Bool, true, false, not, _&&_, _||_}
+use mathlib.Core.List.{List, [], _∷_}
+use lib.Dec.{leb, ltb, eqb}
+use lib.Ieee.{Float, binary64, lt}
+use Rattle.refusal.specs.Order.{Judged, size, number, steps, channels, _when_}
+use Rattle.fmath.specs.Each.{at, all, every}
+use Rattle.fmath.specs.Finite.{finite, aboveZero, notBelowZero, allFinite, allAboveZero}
+use Rattle.conformal.specs.Refusals as calibration
+use Rattle.conformal.specs.declared.GateSpec.{GateSpec}
+use Rattle.envelope.specs.Derive.{derived}
+use Rattle.envelope.specs.Steps.{substepsIn}
+use Rattle.envelope.specs.declared.BrakeKind.{BrakeKind}
+use Rattle.envelope.specs.declared.BrakeKind.the-variants.{PdSecondOrder, FirstOrderDecay, BoundedAccel, JerkLimited, ZeroVelocityHold}
+use Rattle.envelope.specs.declared.Contact.{Contact}
+use Rattle.envelope.specs.declared.Contact.the-variants.{None, Zone}
+use Rattle.envelope.specs.declared.Limits.{Limits}
+use Rattle.envelope.specs.declared.Norm.{Norm}
+use Rattle.envelope.specs.declared.Box.{Box}
+use Rattle.envelope.specs.declared.BrakeModel.{BrakeModel}
+use Rattle.envelope.specs.declared.Derived.{Derived}
+use Rattle.envelope.specs.declared.FuseConfig.{FuseConfig}
+
+-- ---- 1
+
+-- dim and pos_dim are in 1..8; where the flag is set, the calibration's sizes are right
+unfoldable pub sizesOk : ℕ → ℕ → Bool → GateSpec → ℕ → Bool
+sizesOk dim pos-dim calibrated gate mask =
+    every (leb 1 dim ∷ leb dim 8 ∷ leb 1 pos-dim ∷ leb pos-dim 8 ∷ (not calibrated || calibration.sizesOk gate mask) ∷ [])
+
+-- ---- 2
+
+-- dt and the maxima are above 0, the margin is not below 0
+unfoldable pub limitsOk : Limits → Bool
+limitsOk l =
+    every
+    (aboveZero (l .dt) ∷ aboveZero (l .«v_max») ∷ aboveZero (l .«a_max») ∷ aboveZero (l .«j_max») ∷ aboveZero (l .«reach_max»)
+    ∷ notBelowZero (l .margin) ∷ [])
+
+-- k_p is not below 0, k_v and the brake's dt are above 0
+unfoldable pub gainsOk : Float → Float → Float → Bool
+gainsOk kp kv dt = every (notBelowZero kp ∷ aboveZero kv ∷ aboveZero dt ∷ [])
+
+abbrev pub brakeOk : BrakeKind → Bool
+brakeOk (PdSecondOrder kp kv dt) = gainsOk kp kv dt
+brakeOk (FirstOrderDecay kp kv dt) = gainsOk kp kv dt
+brakeOk (BoundedAccel kp kv dt) = gainsOk kp kv dt
+brakeOk (JerkLimited kp kv dt) = gainsOk kp kv dt
+brakeOk (ZeroVelocityHold kp kv dt) = gainsOk kp kv dt
+
+-- a zone's radius is not below 0, its speed is above 0
+abbrev pub zoneOk : Contact → Bool
+zoneOk None = true
+zoneOk (Zone radius speed i j) = notBelowZero radius && aboveZero speed
+
+-- on the first dim coordinates each center is finite and each scale above 0
+unfoldable pub normOk : Norm → ℕ → Bool
+normOk norm dim = every (allFinite (norm .center) dim ∷ allAboveZero (norm .scale) dim ∷ [])
+
+-- the walls of the first pos_dim axes are finite
+unfoldable pub boxOk : Box → ℕ → Bool
+boxOk walls pos-dim = every (allFinite (walls .lo) pos-dim ∷ allFinite (walls .hi) pos-dim ∷ [])
+
+-- no low wall exceeds its high wall
+unfoldable pub ordered : List Float → List Float → Bool
+ordered lo hi = all (λ (i : ℕ). not (lt (at hi i) (at lo i))) 8
+
+unfoldable pub scalarsOk : Derived → Bool
+scalarsOk d =
+    every
+    (finite (d .«inv_dt») ∷ finite (d .«inv_dt2») ∷ finite (d .«inv_dt3») ∷ finite (d .«step_max»)
+    ∷ finite (d .«norm_scale_iso») ∷ [])
+
+-- what module 4 derives is finite, and the walls that it moved inward have not crossed
+unfoldable pub derivedOk : Derived → Bool
+derivedOk d =
+    every
+    (scalarsOk d ∷ allFinite (d .«box_lo») 8 ∷ allFinite (d .«box_hi») 8 ∷ allFinite (d .«inv_norm_scale») 8
+    ∷ ordered (d .«box_lo») (d .«box_hi») ∷ [])
+
+abbrev pub calibrationOk : FuseConfig → Bool
+calibrationOk c = not (c .calibrated) || calibration.numbersOk (c .calib .center) (c .calib .scale) (c .calib .tau)
+
+unfoldable pub numbersOk : FuseConfig → Bool
+numbersOk c =
+    every
+    (limitsOk (c .limits) ∷ brakeOk (c .brake .kind) ∷ zoneOk (c .contact) ∷ normOk (c .norm) (c .dim)
+    ∷ boxOk (c .walls) (c .«pos_dim») ∷ derivedOk (derived binary64 c) ∷ calibrationOk c ∷ [])
+
+-- ---- 3
+
+-- 1 to 64 substeps, at most 64 committed steps, and at most 4,096 substeps in all
+unfoldable pub countsOk : BrakeModel → Bool
+countsOk b =
+    every
+    (leb 1 (b .substeps .0) ∷ leb (b .substeps .0) 64 ∷ leb (b .commit .0) 64
+    ∷ leb (substepsIn (b .commit) (b .«brake_steps») (b .substeps)) 4096 ∷ [])
+
+-- .. and, where the flag is set, a horizon of a tick or more
+unfoldable pub stepsOk : BrakeModel → Bool → ℕ → Bool
+stepsOk b calibrated ticks = every (countsOk b ∷ (not calibrated || ltb 0 ticks) ∷ [])
+
+-- ---- 4
+
+-- a zone's two channels differ and each is below the declared count
+abbrev pub channelsOk : Contact → ℕ → Bool
+channelsOk None aux = true
+channelsOk (Zone radius speed i j) aux = not (eqb i j) && ltb i aux && ltb j aux
+
+-- ---- what is judged of a configuration
+
+abbrev pub sizesFit : FuseConfig → Bool
+sizesFit c = sizesOk (c .dim) (c .«pos_dim») (c .calibrated) (c .calib .gate) (c .calib .mask)
+
+abbrev pub stepsFit : FuseConfig → Bool
+stepsFit c = stepsOk (c .brake) (c .calibrated) (c .«horizon_ticks»)
+
+abbrev pub channelsFit : FuseConfig → Bool
+channelsFit c = channelsOk (c .contact) (c .«aux_count»)
+
+abbrev pub configJudged : FuseConfig → List Judged
+configJudged c =
+    (size when not (sizesFit c))
+    ∷ (number when not (numbersOk c))
+    ∷ (steps when not (stepsFit c))
+    ∷ (channels when not (channelsFit c)) ∷ []

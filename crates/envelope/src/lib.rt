@@ -1,0 +1,438 @@
+// The guard's configuration, what module 4 derives from it, and why it is refused.
+ghost use mathlib.Core.Path.{_≡_};
+ghost use mathlib.Core.Bool.{not, _||_};
+ghost use mathlib.Core.List.{[], _∷_};
+ghost use Prim.Native.Nat.{min};
+ghost use lib.Ieee.{binary64};
+ghost use Rattle.refusal.specs.Order.{size, number, steps, channels, _when_, refusal};
+ghost use Rattle.conformal.specs.Refusals as calibration;
+ghost use Rattle.envelope.specs.Derive.{kept, lowWalls, highWalls, inverses, isotropic, derivedFrom, derived};
+ghost use Rattle.envelope.specs.Steps.{substepsIn};
+ghost use Rattle.envelope.specs.Refusals.{sizesOk, limitsOk, gainsOk, brakeOk, zoneOk, normOk, boxOk, scalarsOk, ordered, derivedOk, numbersOk, countsOk, stepsOk, channelsOk, configJudged};
+use conformal::Calibration;
+use conformal::GateSpec;
+use refusal::Refusal;
+
+pub enum ActionKind {
+    EePosition,
+    EeDelta,
+    JointPosition,
+    JointVelocity,
+    Other,
+}
+
+pub enum ClampMode {
+    Off,
+    Project,
+}
+
+// Each kind with the gains k_p and k_v and the length dt of a substep.
+pub enum BrakeKind {
+    PdSecondOrder { k_p: f64, k_v: f64, dt: f64 },
+    FirstOrderDecay { k_p: f64, k_v: f64, dt: f64 },
+    BoundedAccel { k_p: f64, k_v: f64, dt: f64 },
+    JerkLimited { k_p: f64, k_v: f64, dt: f64 },
+    ZeroVelocityHold { k_p: f64, k_v: f64, dt: f64 },
+}
+
+// A slow zone round the point that the camera's channels a0 and a1 give, or none.
+pub enum Contact {
+    None,
+    Zone {
+        radius: f64,
+        v_max: f64,
+        a0: u8,
+        a1: u8,
+    },
+}
+
+// Control steps and substeps are counted apart; `substeps_in` alone joins them.
+pub struct ControlSteps(pub u16);
+
+pub struct Substeps(pub u16);
+
+// The bits of the checks.
+pub struct TripMask {}
+
+impl TripMask {
+    pub const WORKSPACE: u32 = 1;
+
+    pub const SPEED: u32 = 2;
+
+    pub const ACCEL: u32 = 4;
+
+    pub const JERK: u32 = 8;
+
+    pub const REACH: u32 = 16;
+
+    pub const CONTACT: u32 = 32;
+}
+
+pub struct Limits {
+    pub dt: f64,
+    pub v_max: f64,
+    pub a_max: f64,
+    pub j_max: f64,
+    pub reach_max: f64,
+    pub margin: f64,
+}
+
+pub struct Norm {
+    pub center: [f64; 8],
+    pub scale: [f64; 8],
+}
+
+pub struct Box {
+    pub lo: [f64; 8],
+    pub hi: [f64; 8],
+}
+
+pub struct BrakeModel {
+    pub kind: BrakeKind,
+    pub substeps: Substeps,
+    pub commit: ControlSteps,
+    pub brake_steps: ControlSteps,
+    pub react_ticks: u16,
+}
+
+// The raw configuration. Where `calibrated` is clear, `calib` and `horizon_ticks` are not judged.
+pub struct FuseConfig {
+    pub kind: ActionKind,
+    pub dim: usize,
+    pub pos_dim: usize,
+    pub limits: Limits,
+    pub norm: Norm,
+    pub walls: Box,
+    pub contact: Contact,
+    pub brake: BrakeModel,
+    pub clamp: ClampMode,
+    pub armed: u32,
+    pub aux_count: usize,
+    pub calibrated: bool,
+    pub calib: Calibration,
+    pub horizon_ticks: u32,
+}
+
+// What module 4 derives.
+pub struct Derived {
+    pub inv_dt: f64,
+    pub inv_dt2: f64,
+    pub inv_dt3: f64,
+    pub step_max: f64,
+    pub box_lo: [f64; 8],
+    pub box_hi: [f64; 8],
+    pub inv_norm_scale: [f64; 8],
+    pub norm_scale_iso: f64,
+}
+
+// ---- what is derived
+
+// x where t holds, else 0.0.
+fn keep(t: bool, x: f64) -> f64
+    ensures { λ r. ⌜ r ≡ kept t x ⌝ }
+{
+    if t { x } else { 0.0 }
+}
+
+// The low walls moved inward on the first n axes, 0.0 past them.
+fn low_walls(lo: &[f64; 8], margin: f64, n: usize) -> [f64; 8]
+    ensures { λ r. ⌜ r ≡ lowWalls binary64 (now (lo .entry)) margin n ⌝ }
+{
+    let mut walls = [0.0; 8];
+    let mut i = 0usize;
+    while i < 8 {
+        walls[i] = keep(i < n, lo[i] + margin);
+        i += 1;
+    }
+    walls
+}
+
+// The high walls moved inward likewise.
+fn high_walls(hi: &[f64; 8], margin: f64, n: usize) -> [f64; 8]
+    ensures { λ r. ⌜ r ≡ highWalls binary64 (now (hi .entry)) margin n ⌝ }
+{
+    let mut walls = [0.0; 8];
+    let mut i = 0usize;
+    while i < 8 {
+        walls[i] = keep(i < n, hi[i] - margin);
+        i += 1;
+    }
+    walls
+}
+
+// 1 / scale on the first n coordinates, 0.0 past them.
+fn inverses(scale: &[f64; 8], n: usize) -> [f64; 8]
+    ensures { λ r. ⌜ r ≡ inverses binary64 (now (scale .entry)) n ⌝ }
+{
+    let mut inv = [0.0; 8];
+    let mut i = 0usize;
+    while i < 8 {
+        inv[i] = keep(i < n, 1.0 / scale[i]);
+        i += 1;
+    }
+    inv
+}
+
+fn at_most_8(n: usize) -> usize
+    ensures { λ r. ⌜ r ≡ min n 8 ⌝ }
+{
+    if n < 8 { n } else { 8 }
+}
+
+// The least of the first n scales, from infinity; of all eight where n is above 8.
+fn isotropic(scale: &[f64; 8], n: usize) -> f64
+    ensures { λ r. ⌜ r ≡ isotropic (now (scale .entry)) n ⌝ }
+{
+    let count = at_most_8(n);
+    let mut least = 1.0 / 0.0;
+    let mut i = 0usize;
+    while i < count {
+        least = fmath::min(least, scale[i]);
+        i += 1;
+    }
+    least
+}
+
+fn derive_from(l: Limits, norm: Norm, walls: Box, dim: usize, pos_dim: usize) -> Derived
+    ensures { λ r. ⌜ r ≡ derivedFrom binary64 l norm walls dim «pos_dim» ⌝ }
+{
+    let inv_dt = 1.0 / l.dt;
+    let inv_dt2 = inv_dt * inv_dt;
+    let box_lo = low_walls(&walls.lo, l.margin, pos_dim);
+    let box_hi = high_walls(&walls.hi, l.margin, pos_dim);
+    let inv_norm_scale = inverses(&norm.scale, dim);
+    let norm_scale_iso = isotropic(&norm.scale, dim);
+    Derived {
+        inv_dt,
+        inv_dt2,
+        inv_dt3: inv_dt2 * inv_dt,
+        step_max: l.v_max * l.dt,
+        box_lo,
+        box_hi,
+        inv_norm_scale,
+        norm_scale_iso,
+    }
+}
+
+// The numbers that the checks use, for any configuration: past dim and pos_dim nothing is read, and a dim or
+// pos_dim above 8 counts as 8.
+pub fn derive(c: FuseConfig) -> Derived
+    ensures { λ r. ⌜ r ≡ derived binary64 c ⌝ }
+{
+    derive_from(c.limits, c.norm, c.walls, c.dim, c.pos_dim)
+}
+
+// ---- 1: sizes
+
+fn sizes_ok(dim: usize, pos_dim: usize, calibrated: bool, gate: GateSpec, mask: u32) -> bool
+    ensures { λ r. ⌜ r ≡ sizesOk dim «pos_dim» calibrated gate mask ⌝ }
+{
+    let k = conformal::sizes_ok(gate, mask);
+    (1 <= dim) & (dim <= 8) & (1 <= pos_dim) & (pos_dim <= 8) & (!calibrated | k)
+}
+
+// ---- 2: numbers
+
+fn limits_ok(l: Limits) -> bool
+    ensures { λ r. ⌜ r ≡ limitsOk l ⌝ }
+{
+    let a = fmath::above_zero(l.dt);
+    let b = fmath::above_zero(l.v_max);
+    let c = fmath::above_zero(l.a_max);
+    let d = fmath::above_zero(l.j_max);
+    let e = fmath::above_zero(l.reach_max);
+    let f = fmath::not_below_zero(l.margin);
+    a & b & c & d & e & f
+}
+
+fn gains_ok(k_p: f64, k_v: f64, dt: f64) -> bool
+    ensures { λ r. ⌜ r ≡ gainsOk «k_p» «k_v» dt ⌝ }
+{
+    let a = fmath::not_below_zero(k_p);
+    let b = fmath::above_zero(k_v);
+    let c = fmath::above_zero(dt);
+    a & b & c
+}
+
+fn brake_ok(kind: BrakeKind) -> bool
+    ensures { λ r. ⌜ r ≡ brakeOk kind ⌝ }
+{
+    match kind {
+        BrakeKind::PdSecondOrder { k_p, k_v, dt } => gains_ok(k_p, k_v, dt),
+        BrakeKind::FirstOrderDecay { k_p, k_v, dt } => gains_ok(k_p, k_v, dt),
+        BrakeKind::BoundedAccel { k_p, k_v, dt } => gains_ok(k_p, k_v, dt),
+        BrakeKind::JerkLimited { k_p, k_v, dt } => gains_ok(k_p, k_v, dt),
+        BrakeKind::ZeroVelocityHold { k_p, k_v, dt } => gains_ok(k_p, k_v, dt),
+    }
+}
+
+fn zone_ok(contact: Contact) -> bool
+    ensures { λ r. ⌜ r ≡ zoneOk contact ⌝ }
+{
+    match contact {
+        Contact::None => true,
+        Contact::Zone {
+            radius,
+            v_max,
+            a0: _,
+            a1: _,
+        } => {
+            let a = fmath::not_below_zero(radius);
+            let b = fmath::above_zero(v_max);
+            a & b
+        }
+    }
+}
+
+fn norm_ok(norm: Norm, dim: usize) -> bool
+    ensures { λ r. ⌜ r ≡ normOk norm dim ⌝ }
+{
+    let a = fmath::all_finite(&norm.center, dim);
+    let b = fmath::all_above_zero(&norm.scale, dim);
+    a & b
+}
+
+fn box_ok(walls: Box, pos_dim: usize) -> bool
+    ensures { λ r. ⌜ r ≡ boxOk walls «pos_dim» ⌝ }
+{
+    let a = fmath::all_finite(&walls.lo, pos_dim);
+    let b = fmath::all_finite(&walls.hi, pos_dim);
+    a & b
+}
+
+fn scalars_ok(d: Derived) -> bool
+    ensures { λ r. ⌜ r ≡ scalarsOk d ⌝ }
+{
+    let a = fmath::finite(d.inv_dt);
+    let b = fmath::finite(d.inv_dt2);
+    let c = fmath::finite(d.inv_dt3);
+    let e = fmath::finite(d.step_max);
+    let f = fmath::finite(d.norm_scale_iso);
+    a & b & c & e & f
+}
+
+// No low wall exceeds its high wall.
+fn ordered<'a>(lo: &'a [f64; 8], hi: &'a [f64; 8]) -> bool
+    ensures { λ r. ⌜ r ≡ ordered (now (lo .entry)) (now (hi .entry)) ⌝ }
+{
+    let mut ok = true;
+    let mut i = 0usize;
+    while i < 8 {
+        ok = ok & !(hi[i] < lo[i]);
+        i += 1;
+    }
+    ok
+}
+
+fn derived_ok(d: Derived) -> bool
+    ensures { λ r. ⌜ r ≡ derivedOk d ⌝ }
+{
+    let a = scalars_ok(d);
+    let b = fmath::all_finite(&d.box_lo, 8);
+    let c = fmath::all_finite(&d.box_hi, 8);
+    let e = fmath::all_finite(&d.inv_norm_scale, 8);
+    let f = ordered(&d.box_lo, &d.box_hi);
+    a & b & c & e & f
+}
+
+// The calibration's numbers, where the flag is set.
+fn calibration_ok(c: FuseConfig) -> bool
+    ensures { λ r. ⌜ r ≡ (not (c .calibrated) || calibration.numbersOk (c .calib .center) (c .calib .scale) (c .calib .tau)) ⌝ }
+{
+    if c.calibrated {
+        conformal::numbers_ok(&c.calib.center, &c.calib.scale, c.calib.tau)
+    } else {
+        true
+    }
+}
+
+fn numbers_ok(c: FuseConfig) -> bool
+    ensures { λ r. ⌜ r ≡ numbersOk c ⌝ }
+{
+    let brake = c.brake;
+    let kind = brake.kind;
+    let contact = c.contact;
+    let d = derive_from(c.limits, c.norm, c.walls, c.dim, c.pos_dim);
+    let e = limits_ok(c.limits);
+    let f = brake_ok(kind);
+    let g = zone_ok(contact);
+    let h = norm_ok(c.norm, c.dim);
+    let i = box_ok(c.walls, c.pos_dim);
+    let j = derived_ok(d);
+    let k = calibration_ok(c);
+    e & f & g & h & i & j & k
+}
+
+// ---- 3: steps
+
+// How many substeps lie in the committed rows and the braking steps after them: the one place where the two meet.
+pub fn substeps_in(rows: ControlSteps, brake: ControlSteps, per: Substeps) -> usize
+    ensures { λ r. ⌜ r ≡ substepsIn rows brake per ⌝ }
+{
+    (rows.0 as usize + brake.0 as usize) * (per.0 as usize)
+}
+
+fn counts_ok(brake: BrakeModel) -> bool
+    ensures { λ r. ⌜ r ≡ countsOk brake ⌝ }
+{
+    let n = substeps_in(brake.commit, brake.brake_steps, brake.substeps);
+    let per = brake.substeps.0;
+    (1 <= per) & (per <= 64) & (brake.commit.0 <= 64) & (n <= 4096)
+}
+
+fn steps_ok(brake: BrakeModel, calibrated: bool, horizon_ticks: u32) -> bool
+    ensures { λ r. ⌜ r ≡ stepsOk brake calibrated «horizon_ticks» ⌝ }
+{
+    let a = counts_ok(brake);
+    a & (!calibrated | (0 < horizon_ticks))
+}
+
+// ---- 4: channels
+
+fn channels_ok(contact: Contact, aux_count: usize) -> bool
+    ensures { λ r. ⌜ r ≡ channelsOk contact «aux_count» ⌝ }
+{
+    match contact {
+        Contact::None => true,
+        Contact::Zone {
+            radius: _,
+            v_max: _,
+            a0,
+            a1,
+        } => (a0 != a1) & ((a0 as usize) < aux_count) & ((a1 as usize) < aux_count),
+    }
+}
+
+// ---- the refusal
+
+// The first refusal of four in the order of judging.
+fn first_of(sizes: bool, numbers: bool, counts: bool, apart: bool) -> u8
+    ensures { λ r. ⌜ r ≡ refusal ((size when not sizes) ∷ (number when not numbers) ∷ (steps when not counts) ∷ (channels when not apart) ∷ []) ⌝ }
+{
+    if !sizes {
+        return Refusal::SIZE;
+    }
+    if !numbers {
+        return Refusal::NUMBER;
+    }
+    if !counts {
+        return Refusal::STEPS;
+    }
+    if !apart {
+        return Refusal::CHANNELS;
+    }
+    0
+}
+
+// The number of document 01's table that a configuration is refused with, 0 where it is accepted.
+pub fn config_refusal(c: FuseConfig) -> u8
+    ensures { λ r. ⌜ r ≡ refusal (configJudged c) ⌝ }
+{
+    let contact = c.contact;
+    let gate = c.calib.gate;
+    let a = sizes_ok(c.dim, c.pos_dim, c.calibrated, gate, c.calib.mask);
+    let b = numbers_ok(c);
+    let d = steps_ok(c.brake, c.calibrated, c.horizon_ticks);
+    let e = channels_ok(contact, c.aux_count);
+    first_of(a, b, d, e)
+}

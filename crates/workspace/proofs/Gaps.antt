@@ -1,0 +1,103 @@
+-- Laws of the workspace: what lies past the eight axes, what one test tells of a gap, and that a point moved inward lies between its walls.
+use mathlib.Core.Path.{_≡_, refl, sym, ap, _∙_}
+use mathlib.Core.Bool.{Bool, true, false, _&&_, _||_}
+use mathlib.Core.List.{List}
+use Prim.Native.Nat.{ℕ, zero, suc, _+_, _≤_, _<_, min}
+use native.Mathlib.Nat.{lt-of-not-le, le-refl}
+use native.Mathlib.Decide.{decLe}
+use native.Mathlib.Omega.{arith}
+use lib.ListN.{length, List·getD-eq-default}
+use lib.Ieee.{Float, Format, nan, inf, fin, lt, sub}
+use Rattle.fmath.specs.Each.{at, some, all, over}
+use Rattle.fmath.specs.Finite.{finite}
+use Rattle.fmath.specs.Least.{lesser, least, clamped}
+use Rattle.fmath.specs.Checked.{Checked, leastOf}
+use Rattle.fmath.proofs.Each.{some-cut, over-cut, all-fails, all-more, and-left}
+use Rattle.fmath.proofs.Extremes.{least-missing, least-more}
+use Rattle.fmath.proofs.Absorbing.{sub-nan, nan-sub, fine-sub-left}
+use Rattle.fmath.proofs.Told.{implied}
+use Rattle.workspace.specs.Rule.{Walls, beyond, outside, inward, between, betweenWithin, gap, gapWithin, slack, slackWithin}
+
+-- ---- past the end
+
+past : (l : List Float) (j : ℕ) → length l ≤ j → at l j ≡ nan
+past l j h = List·getD-eq-default l nan h
+
+nan-below : (x : Float) → lt nan x ≡ false
+unfolding lt
+nan-below x = refl
+
+below-nan : (x : Float) → lt x nan ≡ false
+unfolding lt
+below-nan nan = refl
+below-nan (inf s) = refl
+below-nan (fin s m e) = refl
+
+-- a coordinate, or its walls, that are not there: it is not beyond them
+none-beyond : (w : Walls) (a : List Float) (j : ℕ) → length (w .lo) ≡ 8 → length (w .hi) ≡ 8 → min (length a) 8 ≤ j → beyond w a j ≡ false
+none-beyond w a j hl hh h = go (decLe (length a) j)
+  where
+    go : Dec (length a ≤ j) → beyond w a j ≡ false
+    go (yes k) = rw (past a j k, nan-below (at (w .lo) j), below-nan (at (w .hi) j))
+    go (no k) =
+        let g : 8 ≤ j = omega (arith, lt-of-not-le k) in
+        rw (past (w .lo) j (omega arith), past (w .hi) j (omega arith), below-nan (at a j), nan-below (at a j))
+
+pub outside-cut : (w : Walls) (a : List Float) (n : ℕ) → length (w .lo) ≡ 8 → length (w .hi) ≡ 8 → outside w a n ≡ some (beyond w a) (min n (min (length a) 8))
+unfolding outside
+outside-cut w a n hl hh = some-cut (beyond w a) n (min (length a) 8) (λ j h. none-beyond w a j hl hh h)
+
+pub inward-cut : (w : Walls) (a : List Float) (n : ℕ) → length a ≡ 8 → inward w a n ≡ over (λ (j : ℕ). clamped (at a j) (at (w .lo) j) (at (w .hi) j)) a (min n 8)
+unfolding inward
+inward-cut w a n h = over-cut (λ (j : ℕ). clamped (at a j) (at (w .lo) j) (at (w .hi) j)) a n ∙ ap (λ (m : ℕ). over (λ (j : ℕ). clamped (at a j) (at (w .lo) j) (at (w .hi) j)) a (min n m)) h
+
+-- ---- one test of the last number tells of each before it
+
+and-true : (b : Bool) → b && true ≡ b
+and-true true = refl
+and-true false = refl
+
+pub between-tells : (f : Format) (lo hi p : Float) → between f lo hi p .sound ≡ finite (sub f p lo) && finite (sub f hi p)
+unfolding between
+between-tells f lo hi p = ap (λ (b : Bool). finite (sub f p lo) && b) (and-true (finite (sub f hi p)))
+
+-- near, low, far, high: low tells of near, and high of far
+four : (a b c d : Bool) → (b ≡ true → a ≡ true) → (d ≡ true → c ≡ true) → a && (b && (c && (d && true))) ≡ b && d
+four a b c d h g = ap (λ (t : Bool). a && (b && (c && t))) (and-true d) ∙ ap (λ (t : Bool). a && (b && t)) (implied c d g) ∙ implied a (b && d) (λ e. h (and-left b d e))
+
+pub within-tells : (f : Format) (r lo hi p : Float) → betweenWithin f r lo hi p .sound ≡ finite (sub f (sub f p r) lo) && finite (sub f (sub f hi p) r)
+unfolding betweenWithin
+within-tells f r lo hi p =
+    four (finite (sub f p r)) (finite (sub f (sub f p r) lo)) (finite (sub f hi p)) (finite (sub f (sub f hi p) r)) (fine-sub-left f (sub f p r) lo) (fine-sub-left f (sub f hi p) r)
+
+-- ---- a point with too few coordinates has no slack
+
+between-missing : (f : Format) (lo hi : Float) → (between f lo hi nan .value ≡ nan) × (between f lo hi nan .sound ≡ false)
+unfolding between lesser finite lt
+between-missing f lo hi = (rw (nan-sub f lo, sub-nan f hi), rw (nan-sub f lo))
+
+within-missing : (f : Format) (r lo hi : Float) → (betweenWithin f r lo hi nan .value ≡ nan) × (betweenWithin f r lo hi nan .sound ≡ false)
+unfolding betweenWithin lesser finite lt
+within-missing f r lo hi = (rw (nan-sub f r, nan-sub f lo, sub-nan f hi, nan-sub f r), rw (nan-sub f r))
+
+-- no slack at all
+abbrev pub NoSlack : Checked Float → Type 0
+NoSlack x = (x .value ≡ nan) × (x .sound ≡ false)
+
+least-missing-of : (g : ℕ → Checked Float) (m n : ℕ) → m < n → ((j : ℕ) → m ≤ j → NoSlack (g j)) → NoSlack (leastOf g n)
+unfolding leastOf
+least-missing-of g m n h w = (least-missing (λ (j : ℕ). g j .value) m n h (λ j k. w j k .0), all-fails (λ (j : ℕ). g j .sound) n m h (w m (le-refl m) .1))
+
+pub slack-missing : (f : Format) (w : Walls) (p : List Float) (n : ℕ) → length p < n → NoSlack (slack f w p n)
+unfolding slack
+slack-missing f w p n h = least-missing-of (gap f w p) (length p) n h (λ j k. rw (past p j k) (between-missing f (at (w .lo) j) (at (w .hi) j)))
+
+pub within-slack-missing : (f : Format) (w : Walls) (r : Float) (p : List Float) (n : ℕ) → length p < n → NoSlack (slackWithin f w r p n)
+unfolding slackWithin
+within-slack-missing f w r p n h = least-missing-of (gapWithin f w r p) (length p) n h (λ j k. rw (past p j k) (within-missing f r (at (w .lo) j) (at (w .hi) j)))
+
+-- ---- one turn of a loop over the axes
+
+pub least-of-more : (g : ℕ → Checked Float) (i : ℕ) (m x : Float) (s t : Bool) → (m ≡ leastOf g i .value) × (s ≡ leastOf g i .sound) → x ≡ g i .value → t ≡ g i .sound → (lesser m x ≡ leastOf g (i + 1) .value) × (s && t ≡ leastOf g (i + 1) .sound)
+unfolding leastOf
+least-of-more g i m x s t h e k = (least-more (λ (j : ℕ). g j .value) i m x (h .0) e, all-more (λ (j : ℕ). g j .sound) i s t (h .1) k)

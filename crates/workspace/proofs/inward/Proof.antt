@@ -1,0 +1,99 @@
+-- `workspace::inward` meets its contract: nothing is put past the eighth axis, and the loop puts one coordinate a turn.
+use Prim.Native.Nat.{ℕ, _+_, _-_, _≤_, _<_, min}
+use mathlib.Core.Path.{_≡_, refl, sym, ap, _∙_}
+use mathlib.Core.Bool.{Bool, true, false, _&&_, _||_}
+use native.Mathlib.Omega.{arith}
+use borrow.Author.Needs.{needs}
+use denote.Ref.{now}
+use lib.ListN.{length, length-set}
+use lib.Ieee.{Float, binary64, ofBits, div}
+use Rattle.fmath.specs.Each.{at, all, some, over}
+use Rattle.fmath.specs.Least.{least, clamped}
+use Rattle.fmath.specs.Checked.{leastOf}
+use Rattle.fmath.proofs.Each.{some-more, over-more, length-over}
+use Rattle.workspace.specs.Rule.{Walls, beyond, outside, inward, between, betweenWithin, gap, gapWithin, slack, slackWithin}
+use Rattle.workspace.specs.Of.{wallsOf}
+use Rattle.workspace.proofs.Gaps.{outside-cut, inward-cut, slack-missing, within-slack-missing, least-of-more}
+use Rattle.workspace.proofs.inward.Statement.{statement}
+use Rattle.workspace.proofs.inward.Tie as tie
+
+abbrev Inv-loop : tie.InvT-loop
+Inv-loop n w a m r₀ j₀ r j = (j ≤ m) × (m ≤ 8) × (r ≡ over (λ (i : ℕ). clamped (at a i) (at (w .lo) i) (at (w .hi) i)) a j)
+
+abbrev μ-loop : tie.MeasureT-loop
+μ-loop n w a m r₀ j₀ r j = m - j
+
+lesser-requires : tie.Need-lesser-requires Inv-loop μ-loop
+lesser-requires c κs = search needs
+
+loop-holds : tie.Need-loop-holds Inv-loop μ-loop
+unfolding over
+loop-holds c = (omega arith, omega (arith, c .lesser .ensures), refl)
+
+mul-clamp : tie.Need-mul-clamp Inv-loop μ-loop
+mul-clamp c = search needs
+
+array-read-clamp : tie.Need-array-read-clamp Inv-loop μ-loop
+array-read-clamp c = search needs
+
+mul-clamp-2 : tie.Need-mul-clamp-2 Inv-loop μ-loop
+mul-clamp-2 c = search needs
+
+element-copy-out-clamp : tie.Need-element-copy-out-clamp Inv-loop μ-loop
+element-copy-out-clamp c = search needs
+
+mul-clamp-3 : tie.Need-mul-clamp-3 Inv-loop μ-loop
+mul-clamp-3 c = search needs
+
+element-copy-out-clamp-2 : tie.Need-element-copy-out-clamp-2 Inv-loop μ-loop
+element-copy-out-clamp-2 c = search needs
+
+clamp-requires : tie.Need-clamp-requires Inv-loop μ-loop
+clamp-requires c κs = search needs
+
+mul-r : tie.Need-mul-r Inv-loop μ-loop
+mul-r c = search needs
+
+array-write-r : tie.Need-array-write-r Inv-loop μ-loop
+array-write-r c = search needs
+
+add-j : tie.Need-add-j Inv-loop μ-loop
+add-j c = search needs
+
+loop-less : tie.Need-loop-less Inv-loop μ-loop
+loop-less c = search needs
+
+loop-again : tie.Need-loop-again Inv-loop μ-loop
+loop-again c =
+    let l = c .before .before .before .before .loop in
+    let s = c .before .before .before .before .before .before .args in
+    (omega arith, l .inv .1, over-more (λ (i : ℕ). clamped (at (s .t2) i) (at (s .t1 .lo) i) (at (s .t1 .hi) i)) (s .t2) (l .r) (l .j) _ (l .inv .2) (c .clamp .ensures))
+
+returns : tie.Need-returns Inv-loop μ-loop
+returns c =
+    let l = c .before .loop in
+    let s = c .before .before .before .args in
+    let e : l .j ≡ min (s .n) 8 = omega (arith, c .before .before .lesser .ensures) in
+    l .inv .2 ∙ ap (over (λ (i : ℕ). clamped (at (s .t2) i) (at (s .t1 .lo) i) (at (s .t1 .hi) i)) (s .t2)) e ∙ sym (inward-cut (wallsOf (s .t1)) (s .t2) (s .n) (search needs))
+
+pub inward-spec : {M : Type 1} → statement M
+inward-spec =
+    tie.close
+    (tie.spec
+    Inv-loop
+    μ-loop
+    lesser-requires
+    loop-holds
+    mul-clamp
+    array-read-clamp
+    mul-clamp-2
+    element-copy-out-clamp
+    mul-clamp-3
+    element-copy-out-clamp-2
+    clamp-requires
+    mul-r
+    array-write-r
+    add-j
+    loop-less
+    loop-again
+    returns)

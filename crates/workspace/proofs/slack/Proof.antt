@@ -1,0 +1,105 @@
+-- `workspace::slack` meets its contract: a point with fewer coordinates has no slack, and the loop keeps the least so far.
+use Prim.Native.Nat.{ℕ, _+_, _-_, _≤_, _<_, min}
+use mathlib.Core.Path.{_≡_, refl, sym, ap, _∙_}
+use mathlib.Core.Bool.{Bool, true, false, _&&_, _||_}
+use native.Mathlib.Omega.{arith}
+use borrow.Author.Needs.{needs}
+use denote.Ref.{now}
+use lib.ListN.{length, length-set}
+use lib.Ieee.{Float, binary64, ofBits, div}
+use Rattle.fmath.specs.Each.{at, all, some, over}
+use Rattle.fmath.specs.Least.{least, clamped}
+use Rattle.fmath.specs.Checked.{leastOf}
+use Rattle.fmath.proofs.Each.{some-more, over-more, length-over}
+use Rattle.workspace.specs.Rule.{Walls, beyond, outside, inward, between, betweenWithin, gap, gapWithin, slack, slackWithin}
+use Rattle.workspace.specs.declared.Distance.{Distance}
+use Rattle.workspace.specs.Of.{wallsOf}
+use Rattle.workspace.proofs.Gaps.{outside-cut, inward-cut, slack-missing, within-slack-missing, least-of-more}
+use Rattle.workspace.proofs.slack.Statement.{statement}
+use Rattle.workspace.proofs.slack.Tie as tie
+
+abbrev Inv-loop : tie.InvT-loop
+Inv-loop n w p least₀ sound₀ j₀ least sound j = (j ≤ n) × ((least ≡ leastOf (gap binary64 (wallsOf w) p) j .value) × (sound ≡ leastOf (gap binary64 (wallsOf w) p) j .sound))
+
+abbrev μ-loop : tie.MeasureT-loop
+μ-loop n w p least₀ sound₀ j₀ least sound j = n - j
+
+returns : tie.Need-returns Inv-loop μ-loop
+unfolding ofBits div
+returns c =
+    let s = c .before .args in
+    let long : length (s .t2) ≡ 8 = search needs in
+    let m = slack-missing binary64 (wallsOf (s .t1)) (s .t2) (s .n) (omega arith) in
+    rw (m .0, m .1)
+
+loop-holds : tie.Need-loop-holds Inv-loop μ-loop
+unfolding leastOf all least ofBits div
+loop-holds c = (omega arith, (refl, refl))
+
+mul-gap : tie.Need-mul-gap Inv-loop μ-loop
+mul-gap c = search needs
+
+element-copy-out-gap : tie.Need-element-copy-out-gap Inv-loop μ-loop
+element-copy-out-gap c = search needs
+
+mul-gap-2 : tie.Need-mul-gap-2 Inv-loop μ-loop
+mul-gap-2 c = search needs
+
+element-copy-out-gap-2 : tie.Need-element-copy-out-gap-2 Inv-loop μ-loop
+element-copy-out-gap-2 c = search needs
+
+mul-gap-3 : tie.Need-mul-gap-3 Inv-loop μ-loop
+mul-gap-3 c = search needs
+
+array-read-gap : tie.Need-array-read-gap Inv-loop μ-loop
+array-read-gap c = search needs
+
+gap-requires : tie.Need-gap-requires Inv-loop μ-loop
+gap-requires c κs = search needs
+
+min-requires : tie.Need-min-requires Inv-loop μ-loop
+min-requires c κs = search needs
+
+add-j : tie.Need-add-j Inv-loop μ-loop
+add-j c = search needs
+
+loop-less : tie.Need-loop-less Inv-loop μ-loop
+loop-less c = search needs
+
+loop-again : tie.Need-loop-again Inv-loop μ-loop
+loop-again c =
+    let l = c .before .before .before .before .before .before .loop in
+    let s = c .before .before .before .before .before .before .before .before .args in
+    let g = c .before .before .gap in
+    let m =
+    least-of-more (gap binary64 (wallsOf (s .t1)) (s .t2)) (l .j) (l .least) (g .result .least) (l .sound) (g .result .sound) (l .inv .1) (ap (λ (d : Distance). d .least) (g .ensures)) (ap (λ (d : Distance). d .sound) (g .ensures)) in
+    (omega arith, (c .before .min .ensures ∙ m .0, m .1))
+
+returns-2 : tie.Need-returns-2 Inv-loop μ-loop
+unfolding slack
+returns-2 c =
+    let l = c .before .loop in
+    let s = c .before .before .before .args in
+    let e : l .j ≡ s .n = omega arith in
+    rw (l .inv .1 .0, l .inv .1 .1, e)
+
+pub slack-spec : {M : Type 1} → statement M
+slack-spec =
+    tie.close
+    (tie.spec
+    Inv-loop
+    μ-loop
+    returns
+    loop-holds
+    mul-gap
+    element-copy-out-gap
+    mul-gap-2
+    element-copy-out-gap-2
+    mul-gap-3
+    array-read-gap
+    gap-requires
+    min-requires
+    add-j
+    loop-less
+    loop-again
+    returns-2)

@@ -1,0 +1,120 @@
+// The workspace: whether a point is outside, a point moved inside, and the slack that is left. Nothing else reads the walls.
+ghost use mathlib.Core.Path.{_≡_};
+ghost use Prim.Native.Nat.{min};
+ghost use lib.Ieee.{binary64};
+ghost use Rattle.workspace.specs.Rule.{outside, inward, between, betweenWithin, slack, slackWithin};
+ghost use Rattle.workspace.specs.Of.{wallsOf, distanceFrom};
+
+// The walls of the box, moved inward by the margin.
+pub struct Workspace {
+    pub lo: [f64; 8],
+    pub hi: [f64; 8],
+}
+
+// The least distance to a wall, and whether each number computed on the way is finite.
+pub struct Distance {
+    pub least: f64,
+    pub sound: bool,
+}
+
+fn lesser(a: usize, b: usize) -> usize
+    ensures { λ r. ⌜ r ≡ min a b ⌝ }
+{
+    if a < b { a } else { b }
+}
+
+// One of the first n coordinates lies strictly beyond a wall.
+pub fn outside(w: Workspace, a: &[f64], n: usize) -> bool
+    ensures { λ r. ⌜ r ≡ outside (wallsOf w) (now (a .entry)) n ⌝ }
+{
+    let m = lesser(n, lesser(a.len(), 8));
+    let mut out = false;
+    let mut j = 0;
+    while j < m {
+        out = out | ((a[j] < w.lo[j]) | (w.hi[j] < a[j]));
+        j += 1;
+    }
+    out
+}
+
+// The point with its first n coordinates moved inside their walls.
+pub fn inward(w: Workspace, a: [f64; 8], n: usize) -> [f64; 8]
+    ensures { λ r. ⌜ r ≡ inward (wallsOf w) a n ⌝ }
+{
+    let m = lesser(n, 8);
+    let mut r = a;
+    let mut j = 0;
+    while j < m {
+        r[j] = fmath::clamp(a[j], w.lo[j], w.hi[j]);
+        j += 1;
+    }
+    r
+}
+
+fn gap(lo: f64, hi: f64, p: f64) -> Distance
+    ensures { λ r. ⌜ r ≡ distanceFrom (between binary64 lo hi p) ⌝ }
+{
+    let low = p - lo;
+    let high = hi - p;
+    let fine = fmath::finite(low) & fmath::finite(high);
+    Distance {
+        least: fmath::min(low, high),
+        sound: fine,
+    }
+}
+
+// The slack of a point over its first n coordinates.
+pub fn slack(w: Workspace, p: [f64; 8], n: usize) -> Distance
+    ensures { λ r. ⌜ r ≡ distanceFrom (slack binary64 (wallsOf w) p n) ⌝ }
+{
+    if 8 < n {
+        return Distance {
+            least: 0.0 / 0.0,
+            sound: false,
+        };
+    }
+    let mut least = 1.0 / 0.0;
+    let mut sound = true;
+    let mut j = 0;
+    while j < n {
+        let g = gap(w.lo[j], w.hi[j], p[j]);
+        least = fmath::min(least, g.least);
+        sound = sound & g.sound;
+        j += 1;
+    }
+    Distance { least, sound }
+}
+
+fn gap_within(r: f64, lo: f64, hi: f64, p: f64) -> Distance
+    ensures { λ s. ⌜ s ≡ distanceFrom (betweenWithin binary64 r lo hi p) ⌝ }
+{
+    let low = p - r - lo;
+    let high = hi - p - r;
+    let fine = fmath::finite(low) & fmath::finite(high);
+    Distance {
+        least: fmath::min(low, high),
+        sound: fine,
+    }
+}
+
+// .. with a stopping radius taken off.
+pub fn slack_within(w: Workspace, r: f64, p: [f64; 8], n: usize) -> Distance
+    ensures { λ s. ⌜ s ≡ distanceFrom (slackWithin binary64 (wallsOf w) r p n) ⌝ }
+{
+    if 8 < n {
+        return Distance {
+            least: 0.0 / 0.0,
+            sound: false,
+        };
+    }
+    let mut least = 1.0 / 0.0;
+    let mut sound = true;
+    let mut j = 0;
+    while j < n {
+        let g = gap_within(r, w.lo[j], w.hi[j], p[j]);
+        least = fmath::min(least, g.least);
+        sound = sound & g.sound;
+        j += 1;
+    }
+    Distance { least, sound }
+}

@@ -1,0 +1,188 @@
+//! Module 7.
+
+use model::{brake as rule, refusal::COMPUTED, BrakeKind, BrakeOut, FuseConfig, Refusal};
+
+use super::numbers;
+use crate::{
+    input::{at_least, chunk, config, config_parts, narrower_config, ChunkIn},
+    number::{at_limit, filler, Field},
+    part::Part,
+    port::{BrakeAction, BrakeFeasible, HoldAction, Port},
+    rng::Rng,
+    run::{Entry, Outcome, Shown},
+};
+
+#[derive(Clone, Debug)]
+pub struct ForecastIn {
+    pub cfg: FuseConfig,
+    pub p: Vec<f64>,
+    pub v: Vec<f64>,
+    pub ch: ChunkIn,
+    pub from: usize,
+    pub slacks: Vec<f64>,
+}
+
+fn shown(r: BrakeOut) -> Shown {
+    Shown { numbers: vec![r.margin, r.stop_dist], counts: vec![r.count as u64, r.feasible as u64] }
+}
+
+fn generate(rng: &mut Rng) -> ForecastIn {
+    let field = Field::new(rng);
+    let mut cfg = config(rng, field);
+    let from = match rng.below(12) {
+        0 => usize::MAX,
+        1..=3 => rng.within(0, cfg.brake.commit as usize + 1),
+        _ => 0,
+    };
+    let ch = chunk(rng, field, cfg.dim);
+    let (p, v) = (at_least(rng, field, cfg.pos_dim), at_least(rng, field, cfg.pos_dim));
+    let more = rng.pick(&[0, 0, 1, 5]);
+    let slacks = filler(rng, rule::count_of(&cfg, from) + more);
+    if rng.one_in(4) {
+        lay_box(rng, &mut cfg, &p, &v, &ch, from);
+    }
+    ForecastIn { cfg, p, v, ch, from, slacks }
+}
+
+/// A wall of the box where the least slack is, so that the margin is 0 or a step to either side.
+fn lay_box(rng: &mut Rng, cfg: &mut FuseConfig, p: &[f64], v: &[f64], ch: &ChunkIn, from: usize) {
+    let mut slacks = vec![0.0; rule::count_of(cfg, from)];
+    if let Ok(r) = rule::brake_feasible(cfg, p, v, ch.view(), from, &mut slacks) {
+        if r.margin.is_finite() {
+            cfg.margin = 0.0;
+            for c in 0..cfg.pos_dim {
+                cfg.box_lo[c] = at_limit(rng, cfg.box_lo[c] + r.margin);
+                cfg.box_hi[c] = at_limit(rng, cfg.box_hi[c] - r.margin);
+            }
+        }
+    }
+}
+
+fn parts(i: &mut ForecastIn) -> Vec<Part<'_>> {
+    let mut parts = vec![
+        Part::Slice(&mut i.p),
+        Part::Slice(&mut i.v),
+        Part::Chunk(&mut i.ch),
+        Part::Usize(&mut i.from),
+        Part::Slice(&mut i.slacks),
+    ];
+    parts.extend(config_parts(&mut i.cfg));
+    parts
+}
+
+fn narrower(i: &ForecastIn) -> Vec<ForecastIn> {
+    let ch = i.ch.narrower();
+    ch.map(|ch| ForecastIn { cfg: narrower_config(&i.cfg), ch, ..i.clone() }).into_iter().collect()
+}
+
+fn forecast(f: BrakeFeasible, i: &ForecastIn) -> Outcome {
+    let mut slacks = i.slacks.clone();
+    let answer = f(&i.cfg, &i.p, &i.v, i.ch.view(), i.from, &mut slacks);
+    Outcome { answer: answer.map(shown), buffers: numbers(&slacks) }
+}
+
+/// The Rust's answer with the slacks on their way into its margin, or 13 with the place that its flags show.
+fn rust_forecast(i: &ForecastIn) -> Outcome {
+    let (answer, seen, place) = oracle::brake_feasible(&i.cfg, &i.p, &i.v, i.ch.view(), i.from);
+    let mut slacks = i.slacks.clone();
+    let written = place.map_or(seen.len(), |k| k - 1);
+    slacks[..written].copy_from_slice(&seen[..written]);
+    let answer = match place {
+        Some(place) => Err(Refusal { number: COMPUTED, place }),
+        None => Ok(shown(answer)),
+    };
+    Outcome { answer, buffers: numbers(&slacks) }
+}
+
+pub fn brake_feasible(port: &Port) -> Entry<ForecastIn> {
+    Entry {
+        name: "brake_feasible",
+        generate,
+        parts,
+        narrower,
+        before: |i| numbers(&i.slacks),
+        model: Box::new(|i| forecast(rule::brake_feasible, i)),
+        rust: Box::new(|i| Some(rust_forecast(i))),
+        port: port.brake_feasible.map(|f| Box::new(move |i: &ForecastIn| forecast(f, i)) as _),
+    }
+}
+
+#[derive(Clone, Debug)]
+pub struct BrakeIn {
+    pub cfg: FuseConfig,
+    pub p: Vec<f64>,
+    pub v: Vec<f64>,
+    pub out: Vec<f64>,
+}
+
+/// Position and velocity of any length, short ones among them.
+fn generate_action(rng: &mut Rng) -> BrakeIn {
+    let field = Field::new(rng);
+    let mut cfg = config(rng, field);
+    cfg.brake.kind = rng.pick(&[BrakeKind::PdSecondOrder, cfg.brake.kind]);
+    let (np, nv) = (rng.within(0, 10), rng.within(0, 10));
+    let (p, v) = (field.numbers(rng, np), field.numbers(rng, nv));
+    if rng.one_in(4) {
+        cfg.a_max = at_limit(rng, oracle::rust::fmath::norm(&v, nv.min(cfg.dim)) / cfg.dt);
+    }
+    let out = cfg.dim + rng.pick(&[0, 0, 1, 2]);
+    BrakeIn { cfg, p, v, out: filler(rng, out) }
+}
+
+fn action_parts(i: &mut BrakeIn) -> Vec<Part<'_>> {
+    let mut parts = vec![Part::Slice(&mut i.p), Part::Slice(&mut i.v), Part::Slice(&mut i.out)];
+    parts.extend(config_parts(&mut i.cfg));
+    parts
+}
+
+fn narrower_action(i: &BrakeIn) -> Vec<BrakeIn> {
+    vec![BrakeIn { cfg: narrower_config(&i.cfg), ..i.clone() }; (i.cfg.dim > 1) as usize]
+}
+
+fn written(answer: Result<(), Refusal>, out: Vec<f64>) -> Outcome {
+    Outcome { answer: answer.map(|()| Shown::default()), buffers: numbers(&out) }
+}
+
+fn braked(f: BrakeAction, i: &BrakeIn) -> Outcome {
+    let mut out = i.out.clone();
+    written(f(&i.cfg, &i.p, &i.v, &mut out), out)
+}
+
+fn held(f: HoldAction, i: &BrakeIn) -> Outcome {
+    let mut out = i.out.clone();
+    written(f(&i.cfg, &i.p, &mut out), out)
+}
+
+pub fn brake_action(port: &Port) -> Entry<BrakeIn> {
+    Entry {
+        name: "brake_action",
+        generate: generate_action,
+        parts: action_parts,
+        narrower: narrower_action,
+        before: |i| numbers(&i.out),
+        model: Box::new(|i| braked(rule::brake_action, i)),
+        rust: Box::new(|i| {
+            let mut out = i.out.clone();
+            oracle::brake_action(&i.cfg, &i.p, &i.v, &mut out);
+            Some(written(Ok(()), out))
+        }),
+        port: port.brake_action.map(|f| Box::new(move |i: &BrakeIn| braked(f, i)) as _),
+    }
+}
+
+pub fn hold_action(port: &Port) -> Entry<BrakeIn> {
+    Entry {
+        name: "hold_action",
+        generate: generate_action,
+        parts: action_parts,
+        narrower: narrower_action,
+        before: |i| numbers(&i.out),
+        model: Box::new(|i| held(rule::hold_action, i)),
+        rust: Box::new(|i| {
+            let mut out = i.out.clone();
+            oracle::hold_action(&i.cfg, &i.p, &mut out);
+            Some(written(Ok(()), out))
+        }),
+        port: port.hold_action.map(|f| Box::new(move |i: &BrakeIn| held(f, i)) as _),
+    }
+}

@@ -1,0 +1,10 @@
+//! The port, the published Rust and the model of document 01 on the same generated inputs.
+
+pub mod entries;
+pub mod input;
+pub mod number;
+pub mod part;
+pub mod port;
+pub mod rng;
+pub mod run;
+pub mod sample;

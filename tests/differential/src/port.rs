@@ -1,0 +1,75 @@
+//! The port's side: each entry of `bindings/rust` in the shape of the model's, or `None` while it is not there.
+
+use model::{
+    BrakeOut, Calibration, ChunkBuf, ChunkView, Derived, FuseConfig, Refusal, Scores, Tier0Out, Tier1Rt, Trail,
+};
+
+pub type Answer<T> = Result<T, Refusal>;
+
+pub type Sqrt = fn(f64) -> Answer<f64>;
+pub type Norm = fn(&[f64], usize) -> Answer<f64>;
+pub type Dist = fn(&[f64], &[f64], usize) -> Answer<f64>;
+pub type Two = fn(f64, f64) -> f64;
+pub type Clamp = fn(f64, f64, f64) -> f64;
+pub type Fill = fn(&mut ChunkBuf, u32, u32, u16, u16, u16, &[f64]) -> Answer<()>;
+pub type CopyFrom = fn(&mut ChunkBuf, ChunkView<'_>) -> Answer<()>;
+/// The row's numbers.
+pub type Action = for<'a> fn(&ChunkView<'a>, usize) -> &'a [f64];
+pub type RowMut = for<'a> fn(&'a mut ChunkBuf, usize) -> &'a mut [f64];
+pub type View = for<'a> fn(&'a ChunkBuf) -> ChunkView<'a>;
+pub type Mask = fn(u8) -> Answer<u64>;
+pub type Push = fn(u64, bool, u64) -> u64;
+pub type Hits = fn(u64) -> u8;
+pub type TrailPush = fn(&mut Trail, &[f64], usize) -> Answer<()>;
+pub type TrailNumber = fn(&Trail, usize, usize) -> Answer<f64>;
+pub type TrailClear = fn(&mut Trail) -> Answer<()>;
+pub type Derive = fn(&FuseConfig) -> Answer<Derived>;
+pub type CheckChunk = fn(&FuseConfig, &[f64], &[f64], ChunkView<'_>, &mut [f64]) -> Answer<Tier0Out>;
+pub type CheckAction = fn(&FuseConfig, &[f64], &[f64], &[f64], &[f64], &mut [f64]) -> Answer<Tier0Out>;
+pub type Features = fn(&FuseConfig, &mut Tier1Rt, &[f64], &[f64], Option<ChunkView<'_>>, &mut Scores) -> Answer<()>;
+pub type BrakeFeasible = fn(&FuseConfig, &[f64], &[f64], ChunkView<'_>, usize, &mut [f64]) -> Answer<BrakeOut>;
+pub type BrakeAction = fn(&FuseConfig, &[f64], &[f64], &mut [f64]) -> Answer<()>;
+pub type HoldAction = fn(&FuseConfig, &[f64], &mut [f64]) -> Answer<()>;
+pub type Standardise = fn(&Calibration, usize, &mut Scores) -> Answer<()>;
+pub type Aggregate = fn(&Calibration, &mut Scores) -> Answer<f64>;
+pub type Trip = fn(&Calibration, &Scores) -> Answer<bool>;
+pub type TimeBin = fn(u32, u32) -> Answer<usize>;
+
+#[derive(Clone, Copy, Default)]
+pub struct Port {
+    pub sqrt: Option<Sqrt>,
+    pub norm: Option<Norm>,
+    pub dist: Option<Dist>,
+    pub min: Option<Two>,
+    pub max: Option<Two>,
+    pub clamp: Option<Clamp>,
+    pub fill: Option<Fill>,
+    pub copy_from: Option<CopyFrom>,
+    pub action: Option<Action>,
+    pub row_mut: Option<RowMut>,
+    pub view: Option<View>,
+    pub mask: Option<Mask>,
+    pub push: Option<Push>,
+    pub hits: Option<Hits>,
+    pub trail_push: Option<TrailPush>,
+    pub net: Option<TrailNumber>,
+    pub path: Option<TrailNumber>,
+    pub trail_clear: Option<TrailClear>,
+    pub derive: Option<Derive>,
+    pub check_chunk: Option<CheckChunk>,
+    pub check_action: Option<CheckAction>,
+    pub features: Option<Features>,
+    pub brake_feasible: Option<BrakeFeasible>,
+    pub brake_action: Option<BrakeAction>,
+    pub hold_action: Option<HoldAction>,
+    pub standardise: Option<Standardise>,
+    pub aggregate: Option<Aggregate>,
+    pub trip: Option<Trip>,
+    pub time_bin: Option<TimeBin>,
+}
+
+/// What the static library has today. An entry is linked by a function of the type above that takes the model's
+/// arguments over into the binding's and its answer back; it is then compared in every run, and timed by `bench`.
+pub fn linked() -> Port {
+    Port::default()
+}

@@ -1,0 +1,369 @@
+//! The smallest input for each line of docs/DIFFERENCES.md: what the published Rust answers, and what document 01 has
+//! the port answer, by its model.
+
+use std::panic::catch_unwind;
+
+use model::*;
+
+const MAX: f64 = f64::MAX;
+
+fn refused<T>(number: u8) -> Result<T, Refusal> {
+    refused_at(number, 0)
+}
+
+fn refused_at<T>(number: u8, place: usize) -> Result<T, Refusal> {
+    Err(Refusal { number, place })
+}
+
+/// One axis or more in a box of -1..1.
+fn boxed(dim: usize) -> FuseConfig {
+    FuseConfig { dim, pos_dim: dim, box_lo: [-1.0; 8], box_hi: [1.0; 8], ..FuseConfig::PLAIN }
+}
+
+fn rows(dim: usize, data: &[f64]) -> ChunkView<'_> {
+    let horizon = (data.len() / dim) as u16;
+    ChunkView { seq: 0, t_emit: 0, horizon, dim: dim as u16, exec_steps: 0, data }
+}
+
+/// Trips of the Rust, and the model's answer without its rows.
+fn checked(cfg: &FuseConfig, pos: &[f64], aux: &[f64], ch: ChunkView<'_>) -> (u32, Result<u32, Refusal>) {
+    let mut out = [0.0; 64];
+    let rust = oracle::check_chunk(cfg, pos, aux, ch, &mut out).trips;
+    (rust, tier0::check_chunk(cfg, pos, aux, ch, &mut out).map(|r| r.trips))
+}
+
+/// Feasible and margin of the Rust, and the model's answer.
+fn forecast(cfg: &FuseConfig, p: &[f64], v: &[f64], ch: ChunkView<'_>) -> (bool, f64, Result<BrakeOut, Refusal>) {
+    let (rust, _, _) = oracle::brake_feasible(cfg, p, v, ch, 0);
+    (rust.feasible, rust.margin, brake::brake_feasible(cfg, p, v, ch, 0, &mut [0.0; 64]))
+}
+
+// ---- the Rust goes on where a number is not finite: fail-open ----
+
+#[test]
+fn a_feasible_forecast_with_a_nan_axis() {
+    let mut cfg = boxed(2);
+    (cfg.brake.k_p, cfg.brake.k_v, cfg.brake.commit) = (MAX, MAX, 1);
+    let (feasible, margin, model) = forecast(&cfg, &[0.0, 0.0], &[2.0, 0.0], rows(2, &[2.0, 0.0]));
+    assert_eq!((feasible, margin, model), (true, 1.0, refused_at(13, 1)));
+}
+
+#[test]
+fn a_feasible_forecast_from_a_nan_position() {
+    let (feasible, margin, model) = forecast(&boxed(2), &[f64::NAN, 0.0], &[0.0, 0.0], rows(2, &[0.0, 0.0]));
+    assert_eq!((feasible, margin, model), (true, f64::INFINITY, refused(12)));
+    let mut cfg = boxed(2);
+    cfg.brake.commit = 1;
+    let (feasible, margin, model) = forecast(&cfg, &[f64::NAN, 0.0], &[0.0, 0.0], rows(2, &[0.0, 0.0]));
+    assert_eq!((feasible, margin, model), (true, 1.0, refused(12)));
+}
+
+#[test]
+fn a_stopping_distance_lost_under_an_infinite_divisor() {
+    let mut cfg = boxed(1);
+    (cfg.a_max, cfg.brake.kind) = (1e308, BrakeKind::BoundedAccel);
+    let v = 1e154;
+    (cfg.box_lo[0], cfg.box_hi[0]) = (-0.25, 0.25);
+    let (feasible, margin, model) = forecast(&cfg, &[0.0], &[v], rows(1, &[0.0]));
+    assert_eq!(v * v / cfg.a_max / 2.0, 0.5, "what the plant still travels");
+    assert_eq!((feasible, margin, model), (true, 0.25, refused_at(13, 1)));
+}
+
+#[test]
+fn a_brake_that_does_not_brake() {
+    let cfg = FuseConfig { kind: ActionKind::JointVelocity, a_max: MAX, ..boxed(1) };
+    let v = [1e200];
+    let mut out = [0.0];
+    oracle::brake_action(&cfg, &[], &v, &mut out);
+    assert_eq!(out, v, "the speed goes out as it came in, although a_max stops it in one tick");
+    assert_eq!(brake::brake_action(&cfg, &[], &v, &mut out), refused(13));
+}
+
+#[test]
+fn a_nan_row_that_raises_nothing() {
+    let cfg = FuseConfig { armed: 63, ..boxed(1) };
+    assert_eq!(checked(&cfg, &[0.0], &[], rows(1, &[f64::NAN; 3])), (0, refused(12)));
+}
+
+#[test]
+fn a_jerk_that_is_not_raised() {
+    let cfg = FuseConfig { armed: JERK, ..boxed(1) };
+    assert_eq!(checked(&cfg, &[0.0], &[], rows(1, &[1e150, 1e149, 0.0])), (JERK, Ok(JERK)));
+    assert_eq!(checked(&cfg, &[0.0], &[], rows(1, &[MAX, MAX / 2.0, 0.0])), (0, refused(13)));
+}
+
+#[test]
+fn a_slow_zone_that_is_not_seen() {
+    let contact = Some(ContactLimit { radius: 1e250, v_max: 1.0, a0: 0, a1: 1 });
+    let cfg = FuseConfig { armed: CONTACT, contact, aux_count: 2, ..boxed(2) };
+    let (pos, centre) = ([1e200, 0.0], [0.0, 0.0]);
+    assert_eq!(checked(&cfg, &pos, &centre, rows(2, &[1e200, 0.0])), (0, refused(13)));
+    assert_eq!(checked(&cfg, &[1e100, 0.0], &centre, rows(2, &[2e100, 0.0])), (CONTACT, Ok(CONTACT)));
+}
+
+/// A full trail that stands still, and the features of a tick.
+fn stalled(cfg: &FuseConfig) -> (Scores, Result<(), Refusal>) {
+    let mut rt = Tier1Rt { trail: Trail { len: 20, head: 20, ..Trail::NEW }, ..Tier1Rt::NEW };
+    let (mut rust, mut sc) = (Scores::NEW, Scores::NEW);
+    oracle::features(cfg, &mut rt.clone(), &[], &[], None, &mut rust);
+    (rust, tier1::features(cfg, &mut rt, &[], &[], None, &mut sc))
+}
+
+#[test]
+fn a_stall_that_is_a_nan() {
+    let cfg = FuseConfig { dt: 1e20, norm_scale: [1e-308; 8], ..boxed(1) };
+    let (rust, model) = stalled(&cfg);
+    assert!(rust.f[STALL].is_nan() && rust.valid >> STALL & 1 == 1);
+    assert_eq!(model, refused(13));
+}
+
+#[test]
+fn a_gate_that_drops_a_nan() {
+    let cal = Calibration { mask: 3, n_terms: 1, terms: [3, 0, 0, 0, 0, 0, 0, 0], tau: 1.0, ..Calibration::DISARMED };
+    let mut sc = Scores { valid: 3, ..Scores::NEW };
+    sc.z[0] = f64::NAN;
+    assert_eq!(oracle::aggregate(&cal, &mut sc.clone()), 0.0);
+    assert_eq!(conformal::aggregate(&cal, &mut sc), refused(12));
+}
+
+// ---- the Rust's other numbers that are not finite ----
+
+#[test]
+fn a_root_without_a_number() {
+    assert!(oracle::sqrt(-1.0).is_nan());
+    assert_eq!(fmath::sqrt(-1.0), refused(13));
+    assert_eq!(oracle::sqrt(f64::INFINITY), f64::INFINITY);
+    assert_eq!(fmath::sqrt(f64::INFINITY), refused(13));
+}
+
+#[test]
+fn a_norm_of_an_overflow() {
+    assert_eq!(oracle::norm(&[1e200], 1), f64::INFINITY);
+    assert_eq!(fmath::norm(&[1e200], 1), refused(13));
+}
+
+#[test]
+fn a_score_of_an_overflow() {
+    let cal = Calibration { mask: 1, center: [-MAX; 192], ..Calibration::DISARMED };
+    let mut sc = Scores { valid: 1, ..Scores::NEW };
+    sc.f[0] = MAX;
+    let mut rust = sc;
+    oracle::standardise(&cal, 0, &mut rust);
+    assert_eq!(rust.z[0], f64::INFINITY);
+    assert_eq!(conformal::standardise(&cal, 0, &mut sc), refused(13));
+}
+
+// ---- formulas ----
+
+#[test]
+fn clamp_between_crossed_limits_and_at_a_nan() {
+    assert_eq!((oracle::rust::fmath::clamp(5.0, 3.0, 1.0), fmath::clamp(5.0, 3.0, 1.0)), (3.0, 1.0));
+    assert_eq!(oracle::rust::fmath::clamp(f64::NAN, 0.0, 1.0), 1.0);
+    assert!(fmath::clamp(f64::NAN, 0.0, 1.0).is_nan());
+}
+
+// ---- numbers, sizes and shapes ----
+
+#[test]
+fn feature_bits_five_to_seven() {
+    use oracle::rust::Feat;
+    let rust = [Feat::SpeedPeak as usize, Feat::PathIneff as usize, Feat::Stall as usize];
+    assert_eq!((rust, [SPEED_PEAK, PATH_INEFF, STALL]), ([7, 5, 6], [5, 6, 7]));
+}
+
+#[test]
+fn nine_coordinates() {
+    assert_eq!(oracle::fill(&mut ChunkBuf::NEW.clone(), 0, 0, 1, 9, 0, &[0.0; 9]), Ok(()));
+    assert_eq!(chunk::fill(&mut ChunkBuf::NEW.clone(), 0, 0, 1, 9, 0, &[0.0; 9]), refused(7));
+}
+
+#[test]
+fn a_fill_with_a_nan() {
+    assert_eq!(oracle::fill(&mut ChunkBuf::NEW.clone(), 0, 0, 1, 1, 0, &[f64::NAN]), Ok(()));
+    assert_eq!(chunk::fill(&mut ChunkBuf::NEW.clone(), 0, 0, 1, 1, 0, &[f64::NAN]), refused(12));
+}
+
+#[test]
+fn a_copy_of_a_short_view() {
+    let short = ChunkView { horizon: 2, ..rows(1, &[1.0]) };
+    let mut buf = ChunkBuf::NEW;
+    oracle::copy_from(&mut buf, short);
+    assert_eq!((buf.horizon, buf.filled), (2, true));
+    assert_eq!(chunk::copy_from(&mut buf, short), refused(9));
+}
+
+#[test]
+fn a_chunk_of_another_width() {
+    let cfg = FuseConfig { armed: WORKSPACE, ..boxed(2) };
+    assert_eq!(checked(&cfg, &[0.0, 0.0], &[], rows(1, &[0.0])), (0, refused(10)));
+}
+
+#[test]
+fn a_short_position() {
+    let cfg = FuseConfig { armed: WORKSPACE, ..boxed(1) };
+    assert_eq!(checked(&cfg, &[], &[], rows(1, &[9.0])), (0, refused(11)));
+}
+
+#[test]
+fn a_norm_past_its_slice() {
+    assert!(catch_unwind(|| oracle::norm(&[], 1)).is_err());
+    assert_eq!(fmath::norm(&[], 1), refused(11));
+}
+
+#[test]
+fn a_trail_head_out_of_size() {
+    let trail = Trail { head: 32, ..Trail::NEW };
+    assert!(catch_unwind(|| oracle::trail_push(&mut trail.clone(), &[1.0], 1)).is_err());
+    assert_eq!(window::trail_push(&mut trail.clone(), &[1.0], 1), refused(1));
+}
+
+#[test]
+fn nine_terms_and_a_bit_above_eleven() {
+    let nine = Calibration { n_terms: 9, ..Calibration::DISARMED };
+    assert_eq!(oracle::aggregate(&nine, &mut Scores::NEW.clone()), f64::NEG_INFINITY);
+    assert_eq!(conformal::aggregate(&nine, &mut Scores::NEW.clone()), refused(1));
+    let high = Calibration { mask: 1 << 12, ..Calibration::DISARMED };
+    assert_eq!(oracle::aggregate(&high, &mut Scores::NEW.clone()), f64::NEG_INFINITY);
+    assert_eq!(conformal::aggregate(&high, &mut Scores::NEW.clone()), refused(1));
+}
+
+#[test]
+fn a_scale_of_zero_and_an_infinite_tau() {
+    let flat = Calibration { scale: [0.0; 192], mask: 1, ..Calibration::DISARMED };
+    let mut sc = Scores { valid: 1, ..Scores::NEW };
+    let mut rust = sc;
+    oracle::standardise(&flat, 0, &mut rust);
+    assert!(rust.z[0].is_nan());
+    assert_eq!(conformal::standardise(&flat, 0, &mut sc), refused(2));
+    let never = Calibration { tau: f64::INFINITY, ..Calibration::DISARMED };
+    assert!(!oracle::trip(&never, &sc));
+    assert_eq!(conformal::trip(&never, &sc), refused(2));
+}
+
+#[test]
+fn no_ticks_and_a_hundred_bins() {
+    assert_eq!(oracle::time_bin(0, 0), 0);
+    assert_eq!(conformal::time_bin(0, 0), refused(3));
+    assert_eq!((oracle::rust::T_GRID, BINS), (100, 16));
+}
+
+// ---- what `validate` refuses and the port does not ----
+
+/// `compile` refuses what module 4 accepts, and accepts the same with one thing put right.
+fn only_the_rust_refuses(bad: FuseConfig, good: FuseConfig) {
+    assert_eq!(envelope::judge(&bad), None);
+    assert!(oracle::compile(&bad, 1, 1).is_err());
+    assert_eq!(envelope::judge(&good), None);
+    assert_eq!(oracle::compile(&good, 1, 1).err(), None);
+}
+
+/// A configuration that `compile` accepts: the second-order kind with its period kept.
+fn compiled() -> FuseConfig {
+    let mut cfg = boxed(1);
+    cfg.brake.commit = 1;
+    cfg
+}
+
+#[test]
+fn a_box_without_room() {
+    only_the_rust_refuses(FuseConfig { box_lo: [1.0; 8], ..compiled() }, compiled());
+}
+
+#[test]
+fn no_gain_on_position() {
+    let mut bad = compiled();
+    bad.brake.k_p = 0.0;
+    only_the_rust_refuses(bad, compiled());
+}
+
+#[test]
+fn a_zone_without_radius() {
+    let zone = |radius| Some(ContactLimit { radius, v_max: 1.0, a0: 0, a1: 1 });
+    let cfg = |radius| FuseConfig { contact: zone(radius), aux_count: 2, ..compiled() };
+    only_the_rust_refuses(cfg(0.0), cfg(1.0));
+}
+
+#[test]
+fn no_committed_row() {
+    let mut bad = compiled();
+    bad.brake.commit = 0;
+    only_the_rust_refuses(bad, compiled());
+}
+
+#[test]
+fn unequal_dims() {
+    only_the_rust_refuses(FuseConfig { dim: 2, ..compiled() }, FuseConfig { dim: 2, pos_dim: 2, ..compiled() });
+}
+
+#[test]
+fn substeps_that_do_not_fill_the_period() {
+    let mut bad = compiled();
+    bad.brake.substeps = 2;
+    let mut good = bad;
+    good.brake.dt = 0.5;
+    only_the_rust_refuses(bad, good);
+}
+
+#[test]
+fn the_second_order_kind_with_velocity_actions() {
+    only_the_rust_refuses(FuseConfig { kind: ActionKind::JointVelocity, ..compiled() }, compiled());
+}
+
+#[test]
+fn zero_velocity_hold_with_position_actions() {
+    let mut bad = compiled();
+    bad.brake.kind = BrakeKind::ZeroVelocityHold;
+    only_the_rust_refuses(bad, FuseConfig { kind: ActionKind::EeDelta, ..bad });
+}
+
+#[test]
+fn contact_armed_without_a_zone() {
+    only_the_rust_refuses(FuseConfig { armed: CONTACT, ..compiled() }, compiled());
+}
+
+#[test]
+fn seventeen_aux_numbers() {
+    only_the_rust_refuses(FuseConfig { aux_count: 17, ..compiled() }, FuseConfig { aux_count: 16, ..compiled() });
+}
+
+/// The gate's mask is asked for by `compile`; here any mask of the twelve features stands beside any terms.
+#[test]
+fn a_mask_that_is_not_the_gates() {
+    let cal = Calibration { mask: 1, ..Calibration::DISARMED };
+    assert_eq!(envelope::judge_calibration(&cal), None);
+    assert!(oracle::compile_calibrated(&compiled(), &cal).is_err());
+    assert_eq!(oracle::compile_calibrated(&compiled(), &Calibration::DISARMED), Ok(()));
+}
+
+// ---- what the port refuses and `compile` does not ----
+
+/// Module 4 refuses with this number what `compile` accepts.
+fn only_the_port_refuses(cfg: FuseConfig, number: u8) {
+    assert_eq!(envelope::judge(&cfg), Some(number));
+    assert_eq!(oracle::compile(&cfg, 1, 1).err(), None);
+}
+
+#[test]
+fn a_derived_number_that_is_not_finite() {
+    only_the_port_refuses(FuseConfig { norm_scale: [5e-324; 8], ..compiled() }, 2);
+}
+
+#[test]
+fn sixty_five_substeps() {
+    let mut cfg = compiled();
+    (cfg.brake.substeps, cfg.brake.dt) = (65, 1.0 / 65.0);
+    only_the_port_refuses(cfg, 3);
+}
+
+#[test]
+fn more_than_4096_substeps_in_all() {
+    let mut cfg = compiled();
+    cfg.brake.brake_steps = 4096;
+    only_the_port_refuses(cfg, 3);
+}
+
+#[test]
+fn a_zone_with_one_channel_twice() {
+    let contact = Some(ContactLimit { radius: 1.0, v_max: 1.0, a0: 0, a1: 0 });
+    only_the_port_refuses(FuseConfig { contact, aux_count: 1, ..compiled() }, 4);
+}

@@ -1,0 +1,113 @@
+//! The generators reach what matters: every trip on its limit and off it, every kind, every place of 13.
+
+use std::collections::BTreeMap;
+
+use differential::{
+    entries::{brake, tier0, tier1},
+    port::Port,
+};
+use model::{brake::count_of, tier0 as rule, FuseConfig, Refusal, Tier0Out};
+use model::{ACCEL, CONTACT, JERK, NFEAT, REACH, SPEED, SPEED_PEAK, WORKSPACE};
+
+const CALLS: u64 = 60_000;
+
+/// How often each case was met; all of the wanted ones have to be.
+struct Met(BTreeMap<String, u32>);
+
+impl Met {
+    fn new() -> Self {
+        Met(BTreeMap::new())
+    }
+
+    fn note(&mut self, case: String) {
+        *self.0.entry(case).or_default() += 1;
+    }
+
+    fn all(&self, wanted: impl IntoIterator<Item = String>) {
+        println!("{:#?}", self.0);
+        for case in wanted {
+            assert!(self.0.get(&case).is_some_and(|n| *n >= 3), "hardly ever met: {case}");
+        }
+    }
+}
+
+#[test]
+fn the_checks() {
+    let (chunks, actions) = (tier0::check_chunk(&Port::default()), tier0::check_action(&Port::default()));
+    let mut met = Met::new();
+    let mut note = |name: &str, cfg: &FuseConfig, r: Result<Tier0Out, Refusal>| {
+        let Ok(r) = r else { return };
+        for bit in [WORKSPACE, SPEED, ACCEL, JERK, REACH, CONTACT] {
+            if cfg.armed & bit != 0 {
+                met.note(format!("{name} trip {bit} {}", r.trips & bit != 0));
+            }
+        }
+        met.note(format!("{name} {:?} moved {}", cfg.clamp, r.clamped_dims != 0));
+    };
+    for call in 0..CALLS {
+        let i = chunks.input(1, call);
+        note("chunk", &i.cfg, rule::check_chunk(&i.cfg, &i.pos, &i.aux, i.ch.view(), &mut i.out.clone()));
+        let i = actions.input(1, call);
+        note("action", &i.cfg, rule::check_action(&i.cfg, &i.pos, &i.aux, &i.prev, &i.a, &mut i.out.clone()));
+    }
+    let trips = |name: &'static str, bits: &'static [u32]| {
+        bits.iter().flat_map(move |b| [true, false].map(|t| format!("{name} trip {b} {t}")))
+    };
+    met.all(trips("chunk", &[1, 2, 4, 8, 16, 32]).chain(trips("action", &[1, 2, 16, 32])));
+    met.all(["chunk Project moved true", "action Project moved true", "chunk Off moved false"].map(String::from));
+}
+
+#[test]
+fn the_forecast() {
+    let entry = brake::brake_feasible(&Port::default());
+    let mut met = Met::new();
+    for call in 0..CALLS * 3 {
+        let mut i = entry.input(1, call);
+        let kind = format!("{:?}", i.cfg.brake.kind);
+        match model::brake::brake_feasible(&i.cfg, &i.p, &i.v, i.ch.view(), i.from, &mut i.slacks) {
+            Ok(r) => {
+                met.note(format!("{kind} feasible {}", r.feasible));
+                met.note(format!("{kind} {:?}", i.cfg.kind));
+                if r.margin == 0.0 {
+                    met.note(format!("{kind} margin 0"));
+                }
+            }
+            Err(Refusal { number: 13, place }) => {
+                let n = count_of(&i.cfg, i.from);
+                let at = if place == 1 {
+                    "first"
+                } else if place <= n {
+                    "between"
+                } else {
+                    "after the last"
+                };
+                met.note(format!("{kind} 13 {at}"));
+            }
+            Err(_) => (),
+        }
+    }
+    let kinds = differential::part::BRAKES.map(|k| format!("{k:?}"));
+    let cases = ["feasible true", "feasible false", "margin 0", "13 first", "13 between", "13 after the last"];
+    met.all(kinds.iter().flat_map(|k| cases.map(|c| format!("{k} {c}"))));
+    let actions = differential::part::KINDS.map(|k| format!("{k:?}"));
+    met.all(kinds.iter().flat_map(|k| actions.iter().map(move |a| format!("{k} {a}"))));
+}
+
+#[test]
+fn the_features() {
+    let entry = tier1::features(&Port::default());
+    let mut met = Met::new();
+    for call in 0..CALLS {
+        let mut i = entry.input(1, call);
+        let new = i.new.as_ref().map(|c| c.view());
+        if model::tier1::features(&i.cfg, &mut i.rt, &i.pos, &i.ext, new, &mut i.sc).is_ok() {
+            for j in 0..NFEAT {
+                met.note(format!("feature {j} chunk {} valid {}", i.new.is_some(), i.sc.valid >> j & 1));
+            }
+        }
+    }
+    // SpeedPeak is always valid with a chunk
+    let can_miss = (0..NFEAT).filter(|j| *j != SPEED_PEAK);
+    met.all((0..NFEAT).map(|j| format!("feature {j} chunk true valid 1")));
+    met.all(can_miss.map(|j| format!("feature {j} chunk true valid 0")));
+}

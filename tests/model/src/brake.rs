@@ -1,0 +1,241 @@
+//! Module 7.
+
+use crate::{
+    checked::{add, dist, div, mul, norm, sub, Checked, NotFinite},
+    chunk::{self, action},
+    envelope::{self, derive},
+    fmath::{clamp, max, min},
+    refusal::{lowest, not_finite, shorter, when, COMPUTED, SHORT, WIDTH},
+    ActionKind, BrakeKind, BrakeOut, ChunkView, Derived, FuseConfig, Refusal, MAX_POS,
+};
+
+const EPS: f64 = 1e-9;
+
+/// Position and velocity of the live axes.
+#[derive(Clone, Copy)]
+struct Plant {
+    p: [f64; MAX_POS],
+    v: [f64; MAX_POS],
+    n: usize,
+}
+
+/// Committed rows from..commit.
+fn rows_of(cfg: &FuseConfig, from: usize) -> usize {
+    (cfg.brake.commit as usize).saturating_sub(from)
+}
+
+/// The number of slacks that are written if every computed number is finite.
+pub fn count_of(cfg: &FuseConfig, from: usize) -> usize {
+    match cfg.brake.kind {
+        BrakeKind::PdSecondOrder => (rows_of(cfg, from) + cfg.brake.brake_steps as usize) * cfg.brake.substeps as usize,
+        _ => 1 + rows_of(cfg, from),
+    }
+}
+
+pub fn brake_feasible(
+    cfg: &FuseConfig,
+    p0: &[f64],
+    v0: &[f64],
+    ch: ChunkView<'_>,
+    from: usize,
+    slacks: &mut [f64],
+) -> Result<BrakeOut, Refusal> {
+    lowest(&[
+        envelope::judge(cfg),
+        chunk::judge_view(&ch),
+        when(ch.dim as usize != cfg.dim, WIDTH),
+        shorter(p0, cfg.pos_dim),
+        shorter(v0, cfg.pos_dim),
+        when(slacks.len() < count_of(cfg, from), SHORT),
+        not_finite(p0),
+        not_finite(v0),
+        not_finite(ch.data),
+    ])?;
+    let derived = derive(cfg)?;
+    let n = cfg.dim.min(cfg.pos_dim);
+    let mut plant = Plant { p: [0.0; MAX_POS], v: [0.0; MAX_POS], n };
+    plant.p[..n].copy_from_slice(&p0[..n]);
+    plant.v[..n].copy_from_slice(&v0[..n]);
+    let mut list = List { slacks, count: 0 };
+    let done = match cfg.brake.kind {
+        BrakeKind::PdSecondOrder => second_order(cfg, &derived, plant, &ch, from, &mut list, p0),
+        _ => closed(cfg, &derived, plant, &ch, from, &mut list, p0),
+    };
+    let stop_dist = done.map_err(|NotFinite| Refusal { number: COMPUTED, place: list.count + 1 })?;
+    let margin = list.slacks[..list.count].iter().fold(f64::INFINITY, |m, s| min(m, *s));
+    Ok(BrakeOut { count: list.count, feasible: margin >= 0.0, margin, stop_dist })
+}
+
+/// The lent entries and how many of them are written. What fails next has the place after those.
+struct List<'a> {
+    slacks: &'a mut [f64],
+    count: usize,
+}
+
+impl List<'_> {
+    fn write(&mut self, slack: f64) {
+        self.slacks[self.count] = slack;
+        self.count += 1;
+    }
+}
+
+/// The least of p - lo and hi - p over the live axes.
+fn slack(derived: &Derived, plant: &Plant) -> Checked {
+    let mut least = f64::INFINITY;
+    for c in 0..plant.n {
+        let low = sub(plant.p[c], derived.box_lo[c])?;
+        least = min(least, min(low, sub(derived.box_hi[c], plant.p[c])?));
+    }
+    Ok(least)
+}
+
+/// The same in a box that is smaller by the stopping radius r.
+fn slack_within(derived: &Derived, plant: &Plant, r: f64) -> Checked {
+    let mut least = f64::INFINITY;
+    for c in 0..plant.n {
+        let low = sub(sub(plant.p[c], r)?, derived.box_lo[c])?;
+        least = min(least, min(low, sub(sub(derived.box_hi[c], plant.p[c])?, r)?));
+    }
+    Ok(least)
+}
+
+/// acc = k_p(a-p) - k_v v; v = v + acc dt; p = p + v dt with the new v.
+fn substep(cfg: &FuseConfig, plant: &Plant, a: &[f64]) -> Result<Plant, NotFinite> {
+    let b = &cfg.brake;
+    let mut next = *plant;
+    for c in 0..plant.n {
+        let acc = sub(mul(b.k_p, sub(a[c], plant.p[c])?)?, mul(b.k_v, plant.v[c])?)?;
+        next.v[c] = add(plant.v[c], mul(acc, b.dt)?)?;
+        next.p[c] = add(plant.p[c], mul(next.v[c], b.dt)?)?;
+    }
+    Ok(next)
+}
+
+/// The second-order kind: writes a slack after each substep and gives the stop distance.
+fn second_order(
+    cfg: &FuseConfig,
+    derived: &Derived,
+    mut plant: Plant,
+    ch: &ChunkView<'_>,
+    from: usize,
+    list: &mut List<'_>,
+    p0: &[f64],
+) -> Checked {
+    for i in from..from + rows_of(cfg, from) {
+        for _ in 0..cfg.brake.substeps {
+            plant = substep(cfg, &plant, action(ch, i))?;
+            list.write(slack(derived, &plant)?);
+        }
+    }
+    let mut setpoint = [0.0; MAX_POS];
+    for c in 0..plant.n {
+        setpoint[c] = clamp(plant.p[c], derived.box_lo[c], derived.box_hi[c]);
+    }
+    for _ in 0..cfg.brake.brake_steps {
+        for _ in 0..cfg.brake.substeps {
+            plant = substep(cfg, &plant, &setpoint)?;
+            list.write(slack(derived, &plant)?);
+        }
+    }
+    add(dist(&plant.p, p0, plant.n)?, 0.0)
+}
+
+/// What the plant still travels: d_stop and what it goes in the reaction time.
+fn radius(cfg: &FuseConfig, plant: &Plant, react: f64) -> Checked {
+    let nv = norm(&plant.v, plant.n)?;
+    let bounded = || div(mul(nv, nv)?, mul(2.0, cfg.a_max)?);
+    let d_stop = match cfg.brake.kind {
+        BrakeKind::FirstOrderDecay => div(nv, cfg.brake.k_v)?,
+        BrakeKind::BoundedAccel | BrakeKind::ZeroVelocityHold => bounded()?,
+        BrakeKind::JerkLimited => add(bounded()?, div(mul(nv, cfg.a_max)?, mul(2.0, cfg.j_max)?)?)?,
+        BrakeKind::PdSecondOrder => 0.0,
+    };
+    add(d_stop, mul(nv, react)?)
+}
+
+/// The velocity of one coordinate that a row commands, by action kind.
+fn commanded(cfg: &FuseConfig, a: f64, p: f64, g: f64) -> Checked {
+    match cfg.kind {
+        ActionKind::JointVelocity => Ok(a),
+        ActionKind::EeDelta => div(a, cfg.dt),
+        ActionKind::EePosition | ActionKind::JointPosition | ActionKind::Other => mul(g, sub(a, p)?),
+    }
+}
+
+/// A closed kind: writes one slack for the start and one for each row, and gives the stop distance. A row's slack
+/// is written after its Euler step, since both have the row's place.
+fn closed(
+    cfg: &FuseConfig,
+    derived: &Derived,
+    mut plant: Plant,
+    ch: &ChunkView<'_>,
+    from: usize,
+    list: &mut List<'_>,
+    p0: &[f64],
+) -> Checked {
+    let react = mul(cfg.brake.react as f64, cfg.dt)?;
+    let g = div(cfg.brake.k_p, cfg.brake.k_v)?;
+    let start = slack_within(derived, &plant, radius(cfg, &plant, react)?)?;
+    list.write(start);
+    for i in from..from + rows_of(cfg, from) {
+        for c in 0..plant.n {
+            plant.v[c] = commanded(cfg, action(ch, i)[c], plant.p[c], g)?;
+        }
+        let here = slack_within(derived, &plant, radius(cfg, &plant, react)?)?;
+        for c in 0..plant.n {
+            plant.p[c] = add(plant.p[c], mul(plant.v[c], cfg.dt)?)?;
+        }
+        list.write(here);
+    }
+    let end = radius(cfg, &plant, react)?;
+    add(dist(&plant.p, p0, plant.n)?, end)
+}
+
+fn position_kind(kind: ActionKind) -> bool {
+    !matches!(kind, ActionKind::JointVelocity | ActionKind::EeDelta)
+}
+
+/// Each coordinate of p, 0.0 past its end, clamped to its box.
+fn inside(cfg: &FuseConfig, derived: &Derived, p: &[f64], out: &mut [f64]) {
+    for c in 0..cfg.dim {
+        out[c] = clamp(p.get(c).copied().unwrap_or(0.0), derived.box_lo[c], derived.box_hi[c]);
+    }
+}
+
+/// The factor of the ramp to zero, times dt for displacements.
+fn ramp(cfg: &FuseConfig, v: &[f64]) -> Checked {
+    let nv = norm(v, cfg.dim.min(v.len()))?;
+    let f = max(0.0, sub(1.0, div(mul(cfg.a_max, cfg.dt)?, add(nv, EPS)?)?)?);
+    if cfg.kind == ActionKind::EeDelta {
+        mul(f, cfg.dt)
+    } else {
+        Ok(f)
+    }
+}
+
+pub fn brake_action(cfg: &FuseConfig, p: &[f64], v: &[f64], out: &mut [f64]) -> Result<(), Refusal> {
+    lowest(&[envelope::judge(cfg), shorter(out, cfg.dim), not_finite(p), not_finite(v)])?;
+    let derived = derive(cfg)?;
+    if position_kind(cfg.kind) {
+        inside(cfg, &derived, p, out);
+        return Ok(());
+    }
+    let scale = ramp(cfg, v)?;
+    let mut ramped = [0.0; MAX_POS];
+    for (o, x) in ramped[..cfg.dim].iter_mut().zip(v) {
+        *o = mul(*x, scale)?;
+    }
+    out[..cfg.dim].copy_from_slice(&ramped[..cfg.dim]);
+    Ok(())
+}
+
+pub fn hold_action(cfg: &FuseConfig, p: &[f64], out: &mut [f64]) -> Result<(), Refusal> {
+    lowest(&[envelope::judge(cfg), shorter(out, cfg.dim), not_finite(p)])?;
+    let derived = derive(cfg)?;
+    if position_kind(cfg.kind) {
+        inside(cfg, &derived, p, out);
+    } else {
+        out[..cfg.dim].fill(0.0);
+    }
+    Ok(())
+}

@@ -1,0 +1,19 @@
+//! Document 01's rules and its table of refusals, written from the document and not from the port. Each entry
+//! answers `Result<Answer, Refusal>` and leaves every buffer as the document says. Nothing here is made for speed.
+// the rules speak of coordinates by their number
+#![allow(clippy::needless_range_loop)]
+
+pub mod brake;
+pub mod checked;
+pub mod chunk;
+pub mod conformal;
+pub mod envelope;
+pub mod fmath;
+pub mod refusal;
+pub mod tier0;
+pub mod tier1;
+pub mod types;
+pub mod window;
+
+pub use refusal::Refusal;
+pub use types::*;

@@ -1,0 +1,233 @@
+//! Module 5.
+
+use crate::{
+    checked::{add, dist, div, mul, norm, sub, NotFinite},
+    chunk,
+    envelope::{self, derive},
+    fmath::{clamp, max, min},
+    refusal::{lowest, not_finite, shorter, when, WIDTH},
+    ChunkView, ClampMode, Derived, FuseConfig, Refusal, Tier0Out, ACCEL, CONTACT, JERK, MAX_D, REACH, SPEED, WORKSPACE,
+};
+
+/// 1 - 2^-36.
+const SHRINK: f64 = 1.0 - 1.0 / 68719476736.0;
+
+type Row = [f64; MAX_D];
+
+/// What a check reads besides the rows.
+struct Check<'a> {
+    cfg: &'a FuseConfig,
+    derived: Derived,
+    pos: &'a [f64],
+    /// min(dim, pos_dim)
+    nb: usize,
+    /// the contact step, inside an armed zone alone
+    slow: Option<f64>,
+}
+
+impl<'a> Check<'a> {
+    fn new(cfg: &'a FuseConfig, derived: Derived, pos: &'a [f64], aux: &[f64]) -> Result<Self, NotFinite> {
+        let slow = contact_step(cfg, pos, aux)?;
+        Ok(Self { cfg, derived, pos, nb: cfg.dim.min(cfg.pos_dim), slow })
+    }
+
+    fn armed(&self, bit: u32) -> bool {
+        self.cfg.armed & bit != 0
+    }
+
+    fn outside(&self, a: &[f64]) -> bool {
+        (0..self.nb).any(|c| a[c] < self.derived.box_lo[c] || a[c] > self.derived.box_hi[c])
+    }
+
+    /// SPEED, CONTACT and WORKSPACE of a row that is a step of length n away.
+    fn trips_of_step(&self, a: &[f64], n: f64) -> u32 {
+        let mut trips = 0;
+        if self.armed(SPEED) && n > self.derived.step_max {
+            trips |= SPEED;
+        }
+        if self.slow.is_some_and(|step| n > step) {
+            trips |= CONTACT;
+        }
+        if self.armed(WORKSPACE) && self.outside(a) {
+            trips |= WORKSPACE;
+        }
+        trips
+    }
+
+    fn trips_of_reach(&self, a: &[f64]) -> Result<u32, NotFinite> {
+        if self.armed(REACH) && dist(a, self.pos, self.nb)? > self.cfg.reach_max {
+            return Ok(REACH);
+        }
+        Ok(0)
+    }
+
+    /// The least armed leash.
+    fn leash(&self) -> Option<f64> {
+        let speed = self.armed(SPEED).then_some(self.derived.step_max);
+        match (speed, self.slow) {
+            (Some(a), Some(b)) => Some(min(a, b)),
+            (a, b) => a.or(b),
+        }
+    }
+
+    /// A row projected: box, leash towards q, and with `first` the reach pull.
+    fn project(&self, first: bool, q: &[f64], mut a: Row) -> Result<Row, NotFinite> {
+        if self.armed(WORKSPACE) {
+            for c in 0..self.nb {
+                a[c] = clamp(a[c], self.derived.box_lo[c], self.derived.box_hi[c]);
+            }
+        }
+        if let Some(step) = self.leash() {
+            pull(&mut a, q, self.cfg.dim, step)?;
+        }
+        if first && self.armed(REACH) {
+            pull(&mut a, self.pos, self.nb, self.cfg.reach_max)?;
+        }
+        Ok(a)
+    }
+}
+
+/// Shortens the first n coordinates of a - q to the limit where they are longer.
+fn pull(a: &mut Row, q: &[f64], n: usize, limit: f64) -> Result<(), NotFinite> {
+    let length = dist(&a[..], q, n)?;
+    if length > limit {
+        let factor = div(mul(limit, SHRINK)?, length)?;
+        for c in 0..n {
+            a[c] = add(q[c], mul(sub(a[c], q[c])?, factor)?)?;
+        }
+    }
+    Ok(())
+}
+
+/// The zone's speed times dt when CONTACT is armed and configured, the position has two coordinates, aux has both
+/// channels and the distance to the centre is at most the radius.
+fn contact_step(cfg: &FuseConfig, pos: &[f64], aux: &[f64]) -> Result<Option<f64>, NotFinite> {
+    let Some(zone) = cfg.contact.filter(|_| cfg.armed & CONTACT != 0) else {
+        return Ok(None);
+    };
+    let (Some(x), Some(y)) = (aux.get(zone.a0 as usize), aux.get(zone.a1 as usize)) else {
+        return Ok(None);
+    };
+    if pos.len() < 2 || dist(pos, &[*x, *y], 2)? > zone.radius {
+        return Ok(None);
+    }
+    Ok(Some(mul(zone.v_max, cfg.dt)?))
+}
+
+/// A bit for each coordinate that differs as a number.
+fn moved(raw: &[f64], a: &[f64], d: usize) -> u32 {
+    (0..d).filter(|c| a[*c] != raw[*c]).fold(0, |m, c| m | 1 << c)
+}
+
+fn row_of(a: &[f64]) -> Row {
+    let mut row = [0.0; MAX_D];
+    row[..a.len()].copy_from_slice(a);
+    row
+}
+
+pub fn check_chunk(
+    cfg: &FuseConfig,
+    pos: &[f64],
+    aux: &[f64],
+    ch: ChunkView<'_>,
+    out: &mut [f64],
+) -> Result<Tier0Out, Refusal> {
+    lowest(&[
+        envelope::judge(cfg),
+        chunk::judge_view(&ch),
+        when(ch.dim as usize != cfg.dim, WIDTH),
+        shorter(pos, cfg.pos_dim),
+        shorter(out, ch.horizon as usize * cfg.dim),
+        not_finite(pos),
+        not_finite(aux),
+        not_finite(ch.data),
+    ])?;
+    let check = Check::new(cfg, derive(cfg)?, pos, aux)?;
+    let rows: Vec<&[f64]> = ch.data.chunks(cfg.dim).collect();
+    let mut before = row_of(rows[0]);
+    before[..check.nb].copy_from_slice(&pos[..check.nb]);
+
+    let mut res = trips_of_rows(&check, &rows, &before)?;
+    if cfg.clamp == ClampMode::Off {
+        out[..ch.data.len()].copy_from_slice(ch.data);
+        return Ok(res);
+    }
+    let mut projected = Vec::new();
+    let mut q = before;
+    for (i, raw) in rows.iter().enumerate() {
+        q = check.project(i == 0, &q, row_of(raw))?;
+        res.clamped_dims |= moved(raw, &q, cfg.dim);
+        projected.extend_from_slice(&q[..cfg.dim]);
+    }
+    out[..projected.len()].copy_from_slice(&projected);
+    Ok(res)
+}
+
+/// The trips of the raw rows and the greatest step's speed; `before` stands before row 0.
+fn trips_of_rows(check: &Check<'_>, rows: &[&[f64]], before: &Row) -> Result<Tier0Out, NotFinite> {
+    let d = check.cfg.dim;
+    let at = |i: usize| if i == 0 { &before[..d] } else { rows[i - 1] };
+    let mut trips = 0;
+    let mut peak = 0.0;
+    for (i, a) in rows.iter().enumerate() {
+        let n = dist(a, at(i), d)?;
+        peak = max(peak, n);
+        trips |= check.trips_of_step(a, n);
+    }
+    let mut diff = [0.0; MAX_D];
+    if check.armed(ACCEL) {
+        for i in 0..rows.len().saturating_sub(1) {
+            for c in 0..d {
+                diff[c] = add(sub(at(i + 2)[c], mul(2.0, at(i + 1)[c])?)?, at(i)[c])?;
+            }
+            if mul(norm(&diff, d)?, check.derived.inv_dt2)? > check.cfg.a_max {
+                trips |= ACCEL;
+            }
+        }
+    }
+    if check.armed(JERK) {
+        for i in 0..rows.len().saturating_sub(2) {
+            for c in 0..d {
+                let upper = sub(at(i + 3)[c], mul(3.0, at(i + 2)[c])?)?;
+                diff[c] = sub(add(upper, mul(3.0, at(i + 1)[c])?)?, at(i)[c])?;
+            }
+            if mul(norm(&diff, d)?, check.derived.inv_dt3)? > check.cfg.j_max {
+                trips |= JERK;
+            }
+        }
+    }
+    trips |= check.trips_of_reach(rows[0])?;
+    Ok(Tier0Out { trips, clamped_dims: 0, peak_speed: mul(peak, check.derived.inv_dt)? })
+}
+
+pub fn check_action(
+    cfg: &FuseConfig,
+    pos: &[f64],
+    aux: &[f64],
+    prev: &[f64],
+    a: &[f64],
+    out: &mut [f64],
+) -> Result<Tier0Out, Refusal> {
+    lowest(&[
+        envelope::judge(cfg),
+        shorter(pos, cfg.pos_dim),
+        shorter(prev, cfg.dim),
+        shorter(a, cfg.dim),
+        shorter(out, cfg.dim),
+        not_finite(pos),
+        not_finite(aux),
+        not_finite(prev),
+        not_finite(a),
+    ])?;
+    let check = Check::new(cfg, derive(cfg)?, pos, aux)?;
+    let n = dist(a, prev, cfg.dim)?;
+    let trips = check.trips_of_step(a, n) | check.trips_of_reach(a)?;
+    let mut res = Tier0Out { trips, clamped_dims: 0, peak_speed: mul(n, check.derived.inv_dt)? };
+    let mut row = row_of(&a[..cfg.dim]);
+    if cfg.clamp == ClampMode::Project {
+        row = check.project(true, prev, row)?;
+        res.clamped_dims = moved(a, &row, cfg.dim);
+    }
+    out[..cfg.dim].copy_from_slice(&row[..cfg.dim]);
+    Ok(res)
+}

@@ -1,0 +1,270 @@
+//! Every condition of document 01's table on both sides of its edge.
+
+use model::*;
+
+/// Two axes in -1..1, a zone, a calibration: everything that can be judged is there, and accepted.
+fn whole() -> FuseConfig {
+    let mut cal = Calibration { mask: 0xfff, n_terms: 8, terms: [0xfff; 8], tau: 1.0, ..Calibration::DISARMED };
+    cal.center = [0.5; 192];
+    FuseConfig {
+        dim: 2,
+        pos_dim: 2,
+        box_lo: [-1.0; 8],
+        box_hi: [1.0; 8],
+        contact: Some(ContactLimit { radius: 1.0, v_max: 1.0, a0: 0, a1: 1 }),
+        aux_count: 2,
+        calibrated: true,
+        cal,
+        horizon_ticks: 1,
+        ..FuseConfig::PLAIN
+    }
+}
+
+/// What the configuration is answered after one change.
+fn judged(change: impl Fn(&mut FuseConfig)) -> Option<u8> {
+    let mut c = whole();
+    change(&mut c);
+    let number = envelope::judge(&c);
+    assert_eq!(envelope::derive(&c).err().map(|r| r.number), number);
+    number
+}
+
+#[test]
+fn sizes() {
+    for (n, want) in [(0, Some(1)), (1, None), (8, None), (9, Some(1)), (usize::MAX, Some(1))] {
+        assert_eq!(judged(|c| c.dim = n), want);
+        assert_eq!(judged(|c| c.pos_dim = n), want);
+    }
+    for (n, want) in [(0, None), (8, None), (9, Some(1)), (255, Some(1))] {
+        assert_eq!(judged(|c| c.cal.n_terms = n), want);
+    }
+    for (bit, want) in [(11, None), (12, Some(1)), (31, Some(1))] {
+        assert_eq!(judged(|c| c.cal.mask = 1 << bit), want);
+        assert_eq!(judged(|c| c.cal.terms[7] = 1 << bit), want);
+    }
+    assert_eq!(judged(|c| (c.cal.n_terms, c.cal.terms[7]) = (7, 1 << 12)), None, "an uncounted term");
+    for (n, want) in [(0, false), (1, true), (63, true), (64, false), (255, false)] {
+        assert_eq!(window::mask(n).is_ok(), want);
+    }
+}
+
+/// A number of the configuration.
+type Field = fn(&mut FuseConfig) -> &mut f64;
+
+fn zone(c: &mut FuseConfig) -> &mut ContactLimit {
+    c.contact.as_mut().expect("a zone is configured")
+}
+
+#[test]
+fn numbers_above_zero() {
+    let above: [Field; 12] = [
+        |c| &mut c.dt,
+        |c| &mut c.brake.dt,
+        |c| &mut c.brake.k_v,
+        |c| &mut c.v_max,
+        |c| &mut c.a_max,
+        |c| &mut c.j_max,
+        |c| &mut c.reach_max,
+        |c| &mut zone(c).v_max,
+        |c| &mut c.norm_scale[1],
+        |c| &mut c.norm_scale[0],
+        |c| &mut c.cal.scale[0],
+        |c| &mut c.cal.scale[191],
+    ];
+    for (i, field) in above.iter().enumerate() {
+        for bad in [0.0, -0.0, -5e-324, -1.0, f64::NAN, f64::INFINITY, f64::NEG_INFINITY] {
+            assert_eq!(judged(|c| *field(c) = bad), Some(2), "number {i} as {bad}");
+        }
+        assert_eq!(judged(|c| *field(c) = 1e-100), None, "number {i} may be small");
+    }
+}
+
+#[test]
+fn numbers_not_below_zero() {
+    let least: [Field; 3] = [|c| &mut c.brake.k_p, |c| &mut c.margin, |c| &mut zone(c).radius];
+    for field in least {
+        for bad in [-5e-324, -1.0, f64::NAN, f64::INFINITY] {
+            assert_eq!(judged(|c| *field(c) = bad), Some(2));
+        }
+        for good in [0.0, -0.0, 5e-324, 1.0] {
+            assert_eq!(judged(|c| *field(c) = good), None);
+        }
+    }
+}
+
+#[test]
+fn numbers_that_are_finite() {
+    let finite: [Field; 6] = [
+        |c| &mut c.box_lo[1],
+        |c| &mut c.box_hi[1],
+        |c| &mut c.norm_center[1],
+        |c| &mut c.cal.center[0],
+        |c| &mut c.cal.center[191],
+        |c| &mut c.cal.tau,
+    ];
+    for field in finite {
+        for bad in [f64::NAN, f64::INFINITY, f64::NEG_INFINITY] {
+            assert_eq!(judged(|c| *field(c) = bad), Some(2));
+        }
+    }
+    let unread: [Field; 4] =
+        [|c| &mut c.box_lo[2], |c| &mut c.box_hi[2], |c| &mut c.norm_center[2], |c| &mut c.norm_scale[2]];
+    for field in unread {
+        assert_eq!(judged(|c| *field(c) = f64::NAN), None);
+    }
+}
+
+#[test]
+fn derived_numbers() {
+    assert_eq!(judged(|c| c.dt = 1e-102), None);
+    assert_eq!(judged(|c| c.dt = 1e-103), Some(2), "the inverse cubed");
+    assert_eq!(judged(|c| (c.v_max, c.dt) = (f64::MAX, 1.0)), None);
+    assert_eq!(judged(|c| (c.v_max, c.dt) = (f64::MAX, 1f64.next_up())), Some(2), "step_max");
+    let edge = 2f64.powi(-1024);
+    assert_eq!(judged(|c| c.norm_scale[1] = edge), Some(2), "the inverse of a scale");
+    assert_eq!(judged(|c| c.norm_scale[1] = edge.next_up()), None);
+    assert_eq!(judged(|c| c.margin = 1.0), None, "a box without room");
+    assert_eq!(judged(|c| c.margin = 1f64.next_up()), Some(2), "a box turned over");
+    assert_eq!(judged(|c| (c.box_hi[1], c.margin) = (f64::MAX, f64::MAX)), Some(2));
+    assert_eq!(judged(|c| (c.box_lo[1], c.box_hi[1]) = (-f64::MAX, f64::MAX)), None);
+}
+
+#[test]
+fn steps() {
+    for (n, want) in [(0, Some(3)), (1, None), (64, None), (65, Some(3)), (65535, Some(3))] {
+        assert_eq!(judged(|c| c.brake.substeps = n), want);
+    }
+    assert_eq!(judged(|c| c.brake.commit = 64), None);
+    assert_eq!(judged(|c| c.brake.commit = 65), Some(3));
+    assert_eq!(judged(|c| (c.brake.commit, c.brake.brake_steps) = (64, 4032)), None);
+    assert_eq!(judged(|c| (c.brake.commit, c.brake.brake_steps) = (64, 4033)), Some(3));
+    assert_eq!(judged(|c| (c.brake.brake_steps, c.brake.substeps) = (65535, 64)), Some(3));
+    assert_eq!(judged(|c| (c.brake.brake_steps, c.brake.substeps) = (64, 64)), None);
+    assert_eq!(judged(|c| c.horizon_ticks = 0), Some(3));
+}
+
+#[test]
+fn channels() {
+    assert_eq!(judged(|c| zone(c).a0 = 1), Some(4), "equal");
+    assert_eq!(judged(|c| c.aux_count = 1), Some(4), "at the count");
+    assert_eq!(judged(|c| (zone(c).a0, zone(c).a1) = (1, 0)), None);
+    assert_eq!(judged(|c| (c.contact, c.aux_count) = (None, 0)), None);
+    assert_eq!(judged(|c| (zone(c).a0, c.armed) = (1, 0)), Some(4), "armed or not");
+}
+
+#[test]
+fn a_clear_flag_and_the_lowest_number() {
+    let bad = Calibration { tau: f64::NAN, mask: u32::MAX, n_terms: 255, scale: [0.0; 192], ..Calibration::DISARMED };
+    assert_eq!(judged(|c| (c.calibrated, c.cal, c.horizon_ticks) = (false, bad, 0)), None);
+    assert_eq!(judged(|c| (c.cal, c.horizon_ticks) = (bad, 0)), Some(1));
+    assert_eq!(judged(|c| (c.horizon_ticks, c.dt, zone(c).a0) = (0, 0.0, 1)), Some(2));
+    assert_eq!(judged(|c| (c.horizon_ticks, zone(c).a0) = (0, 1)), Some(3));
+}
+
+fn view(h: u16, d: u16, exec: u16, data: &[f64]) -> ChunkView<'_> {
+    ChunkView { seq: 0, t_emit: 0, horizon: h, dim: d, exec_steps: exec, data }
+}
+
+#[test]
+fn chunks() {
+    let zeros = [0.0; 1000];
+    let cases = [
+        (view(0, 1, 0, &[]), Some(5)),
+        (view(1, 0, 0, &[]), Some(5)),
+        (view(64, 8, 64, &zeros[..512]), None),
+        (view(65, 8, 0, &zeros[..520]), Some(6)),
+        (view(65, 9, 66, &[]), Some(6)),
+        (view(64, 9, 0, &zeros[..576]), Some(7)),
+        (view(2, 2, 2, &zeros[..4]), None),
+        (view(2, 2, 3, &zeros[..4]), Some(8)),
+        (view(2, 2, 3, &zeros[..5]), Some(8)),
+        (view(2, 2, 2, &zeros[..3]), Some(9)),
+        (view(2, 2, 2, &zeros[..5]), Some(9)),
+    ];
+    for (v, want) in cases {
+        assert_eq!(chunk::judge_view(&v), want, "{v:?}");
+        let mut buf = ChunkBuf::NEW;
+        assert_eq!(chunk::copy_from(&mut buf, v).err().map(|r| r.number), want);
+        assert_eq!(buf.filled, want.is_none());
+    }
+}
+
+/// The number that `features` gives for a lent chunk and a held one.
+fn featured(new: Option<ChunkView<'_>>, held: ChunkBuf) -> Option<u8> {
+    let mut rt = Tier1Rt { prev: held, ..Tier1Rt::NEW };
+    tier1::features(&whole(), &mut rt, &[], &[], new, &mut Scores::NEW.clone()).err().map(|r| r.number)
+}
+
+#[test]
+fn two_chunks() {
+    let held = ChunkBuf { horizon: 1, dim: 2, filled: true, ..ChunkBuf::NEW };
+    let good = Some(view(1, 2, 0, &[0.0, 0.0]));
+    assert_eq!(featured(good, held), None);
+    assert_eq!(featured(None, ChunkBuf { horizon: 0, ..held }), Some(5));
+    assert_eq!(featured(None, ChunkBuf { horizon: 0, filled: false, ..held }), None);
+    assert_eq!(featured(Some(view(1, 2, 2, &[])), ChunkBuf { dim: 9, ..held }), Some(7), "the held one's is lower");
+    assert_eq!(featured(Some(view(1, 2, 2, &[])), ChunkBuf { exec_steps: 9, ..held }), Some(8));
+    assert_eq!(featured(Some(view(1, 1, 0, &[0.0])), held), Some(10));
+    assert_eq!(featured(good, ChunkBuf { dim: 1, ..held }), None, "a held one may have another width");
+    let mut nan = held;
+    nan.data[1] = f64::NAN;
+    assert_eq!(featured(None, nan), Some(12));
+    assert_eq!(featured(None, ChunkBuf { dim: 1, ..nan }), None, "past its rows");
+    assert_eq!(featured(None, ChunkBuf { filled: false, ..nan }), None);
+}
+
+#[test]
+fn slices_of_a_check() {
+    let cfg = whole();
+    let rows = view(1, 2, 0, &[0.0, 0.0]);
+    let number = |pos: &[f64], aux: &[f64], out: usize| {
+        tier0::check_chunk(&cfg, pos, aux, rows, &mut vec![f64::NAN; out]).err().map(|r| r.number)
+    };
+    assert_eq!(number(&[0.0; 2], &[], 2), None);
+    assert_eq!(number(&[0.0; 1], &[], 2), Some(11));
+    assert_eq!(number(&[0.0; 2], &[], 1), Some(11));
+    assert_eq!(number(&[0.0, 0.0, f64::NAN], &[], 2), Some(12), "the tail of a long position");
+    assert_eq!(number(&[0.0; 2], &[0.0, 0.0, f64::INFINITY], 2), Some(12), "all of aux");
+    assert_eq!(number(&[f64::NAN], &[], 2), Some(11));
+}
+
+#[test]
+fn slack_entries() {
+    let mut cfg = whole();
+    (cfg.brake.commit, cfg.brake.brake_steps, cfg.brake.substeps) = (2, 1, 3);
+    let rows = view(1, 2, 0, &[0.0, 0.0]);
+    let number = |cfg: &FuseConfig, from: usize, room: usize| {
+        brake::brake_feasible(cfg, &[0.0; 2], &[0.0; 2], rows, from, &mut vec![0.0; room]).err().map(|r| r.number)
+    };
+    for (from, need) in [(0, 9), (1, 6), (2, 3), (usize::MAX, 3)] {
+        assert_eq!((number(&cfg, from, need), number(&cfg, from, need - 1)), (None, Some(11)));
+    }
+    cfg.brake.kind = BrakeKind::BoundedAccel;
+    for (from, need) in [(0, 3), (1, 2), (2, 1), (usize::MAX, 1)] {
+        assert_eq!((number(&cfg, from, need), number(&cfg, from, need - 1)), (None, Some(11)));
+    }
+    (cfg.brake.kind, cfg.brake.k_p, cfg.brake.dt) = (BrakeKind::PdSecondOrder, f64::MAX, 4.0);
+    let far = view(1, 2, 0, &[9.0, 9.0]);
+    let r = brake::brake_feasible(&cfg, &[0.0; 2], &[0.0; 2], far, 0, &mut [0.0; 8]);
+    assert_eq!(r, Err(Refusal { number: 11, place: 0 }), "even where 13 would come sooner");
+}
+
+#[test]
+fn scores_and_trails() {
+    let cal = Calibration::DISARMED;
+    let with = |change: fn(&mut Scores)| {
+        let mut sc = Scores::NEW;
+        change(&mut sc);
+        conformal::trip(&cal, &sc).err().map(|r| r.number)
+    };
+    assert_eq!(with(|sc| sc.s = f64::INFINITY), None);
+    assert_eq!(with(|sc| sc.s = f64::NEG_INFINITY), None);
+    assert_eq!(with(|sc| sc.s = f64::NAN), Some(12));
+    assert_eq!(with(|sc| sc.f[11] = f64::INFINITY), Some(12));
+    assert_eq!(with(|sc| sc.z[11] = f64::INFINITY), Some(12));
+    let trail = |head: u8, len: u8| window::net(&Trail { head, len, ..Trail::NEW }, 1, 1).err().map(|r| r.number);
+    assert_eq!([trail(31, 32), trail(32, 32), trail(31, 33)], [None, Some(1), Some(1)]);
+    let mut t = Trail::NEW;
+    t.buf[255] = f64::NAN;
+    assert_eq!(window::path(&t, 1, 2).err().map(|r| r.number), Some(12), "all 256 numbers");
+}
