@@ -1,14 +1,11 @@
 -- What is known of w where none of the tests that make `net` or `path` 0.0 holds.
 use Prim.Native.Nat.{ℕ, _≤_}
-use mathlib.Core.Path.{_≡_, refl, sym}
-use mathlib.Core.Bool.{Bool, true, false, _||_, false≢true}
+use mathlib.Core.Path.{_≡_}
+use mathlib.Core.Bool.{false, _||_}
 use native.Mathlib.Omega.{arith}
 use borrow.Author.Tests.{ltb-false, eqb-false}
 use lib.Dec.{eqb, ltb}
-
-pub neither : (a b : Bool) → a || b ≡ false → (a ≡ false) × (b ≡ false)
-neither true b e = absurd (false≢true (sym e))
-neither false b e = (refl, e)
+use Rattle.fmath.proofs.Each.{neither}
 
 pub net-range : (w len : ℕ) → eqb w 0 || ltb 32 w || ltb len w ≡ false → (1 ≤ w) × (w ≤ 32)
 net-range w len e =

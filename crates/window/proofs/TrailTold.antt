@@ -24,7 +24,7 @@ module _ (f : Format) (l : List Float) (head len d w : ℕ) where
 
   step-tells : (j : ℕ) → Tells (step f l head d (w - 1) j)
   unfolding step
-  step-tells j = dist-tells f (sampleBack l head (w - 1 - j)) (sampleBack l head (w - 1 - j - 1)) (min d 8)
+  step-tells j = dist-tells f _ _ _
 
   zero-fine : finite +0 ≡ true
   unfolding finite

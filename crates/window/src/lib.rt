@@ -298,6 +298,7 @@ impl Trail {
         }
     }
 
+    // How many samples are held.
     pub fn len(self) -> Count
         ensures { λ r. ⌜ r ≡ countOf self ⌝ }
     {
@@ -308,6 +309,7 @@ impl Trail {
         Count::Samples(self.len as usize)
     }
 
+    // Whether none is held.
     pub fn is_empty(self) -> Emptiness
         ensures { λ r. ⌜ r ≡ emptinessOf self ⌝ }
     {

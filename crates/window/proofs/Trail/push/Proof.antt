@@ -10,11 +10,11 @@ use lib.Ieee.{Float}
 use lib.ListN.{length}
 use Rattle.refusal.specs.Order.{refusal, if_then_else_}
 use Rattle.fmath.specs.Finite.{allFinite}
+use Rattle.fmath.proofs.Each.{neither}
 use Rattle.window.specs.declared.Trail.{Trail}
 use Rattle.window.specs.declared.Recorded.{Recorded}
 use Rattle.window.specs.Answer.{outOfSize, unfit, pushReasons}
 use Rattle.window.specs.Of.{recordedOf, pushOf}
-use Rattle.window.proofs.Ranges.{neither}
 use Rattle.window.proofs.TrailJudged.{accepted-in-size}
 use Rattle.window.proofs.Trail.push.Statement.{statement}
 use Rattle.window.proofs.Trail.push.Tie as tie
