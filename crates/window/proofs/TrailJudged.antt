@@ -1,8 +1,8 @@
 -- What an entry that takes a trail answers after each of its tests: 1 first, then 12, then what it computes itself.
 use Prim.Native.Nat.{ℕ}
-use mathlib.Core.Path.{_≡_, refl, sym, _∙_}
+use mathlib.Core.Path.{_≡_, refl}
 use mathlib.Core.Bool.{Bool, true, false, not, _||_}
-use mathlib.Core.List.{List, [], _∷_}
+use mathlib.Core.List.{[], _∷_}
 use native.Mathlib.Omega.{arith}
 use lib.Ieee.{Float}
 use Rattle.refusal.specs.Order.{_when_, size, notFinite, computed, refusal, if_then_else_}

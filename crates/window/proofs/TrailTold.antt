@@ -6,9 +6,8 @@ use mathlib.Core.List.{List}
 use lib.Dec.{eqb, ltb}
 use lib.Ieee.{Float, Format}
 use Rattle.refusal.specs.Order.{if_then_else_}
-use Rattle.fmath.specs.Checked.{Checked, pure, sumFrom}
+use Rattle.fmath.specs.Checked.{Checked, pure}
 use Rattle.fmath.specs.Finite.{finite, +0}
-use Rattle.fmath.specs.Norm.{dist}
 use Rattle.fmath.proofs.Told.{Tells, dist-tells, sum-tells}
 use Rattle.window.specs.Rule.{sampleBack, net, step, path}
 

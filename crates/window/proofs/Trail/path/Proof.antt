@@ -4,7 +4,6 @@ use mathlib.Core.Path.{_≡_, sym, ap, _∙_}
 use native.Mathlib.Nat.{le-of-eq}
 use borrow.Author.Needs.{needs}
 use lib.Ieee.{Float, binary64}
-use lib.ListN.{length}
 use Rattle.fmath.specs.declared.Number.{Number}
 use Rattle.refusal.specs.Order.{refusal}
 use Rattle.window.specs.declared.Trail.{Trail}

@@ -1,5 +1,5 @@
 -- `Trail::push_refusal` meets its contract: the trail is judged first, then the position.
-use mathlib.Core.Path.{_≡_, sym, _∙_}
+use mathlib.Core.Path.{sym, _∙_}
 use borrow.Author.Needs.{needs}
 use lib.ListN.{length}
 use Rattle.fmath.specs.Finite.{allFinite}

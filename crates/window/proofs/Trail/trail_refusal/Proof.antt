@@ -1,5 +1,5 @@
 -- `Trail::trail_refusal` meets its contract, by its two tests.
-use mathlib.Core.Path.{_≡_, sym, _∙_}
+use mathlib.Core.Path.{sym, _∙_}
 use borrow.Author.Needs.{needs}
 use Rattle.window.proofs.Trail.trail_refusal.Statement.{statement}
 use Rattle.window.proofs.Trail.trail_refusal.Tie as tie
