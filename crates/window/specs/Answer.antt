@@ -42,9 +42,11 @@ pushReasons t p = size when outOfSize t ∷ notFinite when (unfit t || someNotFi
 abbrev pub computedFrom : Trail → Checked Float → Number
 computedFrom t x = numberOr (refusal (size when outOfSize t ∷ notFinite when unfit t ∷ computed when not (x .sound) ∷ [])) (x .value)
 
+-- what `net` answers
 unfoldable pub netOf : Format → Trail → ℕ → ℕ → Number
 netOf f t d w = computedFrom t (net f (t .buf) (t .head) (t .len) d w)
 
+-- what `path` answers
 unfoldable pub pathOf : Format → Trail → ℕ → ℕ → Number
 pathOf f t d w = computedFrom t (path f (t .buf) (t .head) (t .len) d w)
 
@@ -52,8 +54,10 @@ pathOf f t d w = computedFrom t (path f (t .buf) (t .head) (t .len) d w)
 abbrev pub numberAfter : ℕ → Float → Number
 numberAfter n x = numberOr (if eqb n 0 then (if finite x then 0 else 13) else n) x
 
+-- how many samples a trail holds
 unfoldable pub countOf : Trail → Count
 countOf t = if eqb (refusal (trailReasons t)) 0 then count.Samples (t .len) else count.Refused (refusedFor (refusal (trailReasons t)))
 
+-- whether a trail holds none
 unfoldable pub emptinessOf : Trail → Emptiness
 emptinessOf t = if eqb (refusal (trailReasons t)) 0 then emptiness.Empty (eqb (t .len) 0) else emptiness.Refused (refusedFor (refusal (trailReasons t)))

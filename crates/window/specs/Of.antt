@@ -33,9 +33,10 @@ recordedOf t p d = record { buf = recordedIn (t .buf) (t .head) p d; head = (t .
 abbrev pub clearedOf : Trail → Trail
 clearedOf t = record { buf = t .buf; head = 0; len = 0 }
 
--- a refused push or clear gives its number and leaves the trail as it was
+-- a refused push gives its number and leaves the trail as it was
 unfoldable pub pushOf : Trail → List Float → ℕ → Recorded
 pushOf t p d = if eqb (refusal (pushReasons t p)) 0 then record { number = 0; trail = recordedOf t p d } else record { number = refusal (pushReasons t p); trail = t }
 
+-- .. and so does a refused clear
 unfoldable pub clearOf : Trail → Recorded
 clearOf t = if eqb (refusal (trailReasons t)) 0 then record { number = 0; trail = clearedOf t } else record { number = refusal (trailReasons t); trail = t }
