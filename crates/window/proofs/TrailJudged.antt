@@ -16,6 +16,15 @@ use Rattle.window.specs.Answer.{numberAfter}
 abbrev pub alone : Bool → Bool → ℕ
 alone a b = refusal (size when a ∷ notFinite when b ∷ [])
 
+pub size-refused : (a b : Bool) → a ≡ true → 1 ≡ alone a b
+size-refused a b e = rw e
+
+pub numbers-refused : (a b : Bool) → a ≡ false → b ≡ true → 12 ≡ alone a b
+numbers-refused a b e h = rw (e, h)
+
+pub trail-accepted : (a b : Bool) → a ≡ false → b ≡ false → 0 ≡ alone a b
+trail-accepted a b e h = rw (e, h)
+
 -- .. with a lent position whose numbers are all finite where ok
 abbrev pub withPosition : Bool → Bool → Bool → ℕ
 withPosition a b ok = refusal (size when a ∷ notFinite when (b || not ok) ∷ [])

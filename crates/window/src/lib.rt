@@ -7,7 +7,7 @@ ghost use lib.Seq.{paste};
 ghost use Rattle.refusal.specs.Order.{refusal};
 ghost use Rattle.fmath.specs.Norm.{dist};
 ghost use Rattle.window.specs.Rule.{hitsIn, slotBack, sampleBack, net, path};
-ghost use Rattle.window.specs.Answer.{maskOf, trailReasons, pushReasons, numberAfter, netOf, pathOf, countOf, emptinessOf};
+ghost use Rattle.window.specs.Answer.{maskOf, outOfSize, unfit, trailReasons, pushReasons, numberAfter, netOf, pathOf, countOf, emptinessOf};
 ghost use Rattle.window.specs.Of.{emptyWindow, pushedOf, newTrail, recordedOf, pushOf, clearOf};
 use fmath::Number;
 use refusal::Refusal;
@@ -196,18 +196,32 @@ impl Trail {
         }
     }
 
-    // The number for a trail: 1 for its head and its count, 12 for its numbers, held or not.
+    // Whether the head is over 31 or the count over 32.
+    pub fn out_of_size(self) -> bool
+        ensures { λ r. ⌜ r ≡ outOfSize self ⌝ }
+    {
+        (31 < self.head) | (32 < self.len)
+    }
+
+    // Whether some of the 256 numbers, held or not, is not finite.
+    pub fn unfit(self) -> bool
+        ensures { λ r. ⌜ r ≡ unfit self ⌝ }
+    {
+        let buf = self.buf;
+        !fmath::all_finite(&buf, 256)
+    }
+
+    // The number for a trail: 1 for its head and its count, 12 for its numbers.
     fn trail_refusal(self) -> u8
         ensures { λ r. ⌜ r ≡ refusal (trailReasons self) ⌝ }
     {
-        if (31 < self.head) | (32 < self.len) {
+        if self.out_of_size() {
             return Refusal::SIZE;
         }
-        let buf = self.buf;
-        if fmath::all_finite(&buf, 256) {
-            return 0;
+        if self.unfit() {
+            return Refusal::NOT_FINITE;
         }
-        Refusal::NOT_FINITE
+        0
     }
 
     // The same with the numbers of a lent position.
@@ -258,13 +272,28 @@ impl Trail {
         Recorded { number: 0, trail }
     }
 
+    // The plain number of `net`, for a caller that has judged the trail. It is finite exactly where each number on the way to it is.
+    pub fn displacement(self, d: usize, w: usize) -> f64
+        ensures { λ r. ⌜ r ≡ net binary64 (self .buf) (self .head) (self .len) d w .value ⌝ }
+    {
+        let buf = self.buf;
+        net_of(&buf, self.head, self.len, d, w)
+    }
+
+    // The plain number of `path`, likewise.
+    pub fn travelled(self, d: usize, w: usize) -> f64
+        ensures { λ r. ⌜ r ≡ path binary64 (self .buf) (self .head) (self .len) d w .value ⌝ }
+    {
+        let buf = self.buf;
+        path_of(&buf, self.head, self.len, d, w)
+    }
+
     // The distance of the newest sample and the one w - 1 before it; 0.0 where w is 0, over 32 or more than the samples held.
     pub fn net(self, d: usize, w: usize) -> Number
         ensures { λ r. ⌜ r ≡ netOf binary64 self d w ⌝ }
     {
         let number = self.trail_refusal();
-        let buf = self.buf;
-        number_after(number, net_of(&buf, self.head, self.len, d, w))
+        number_after(number, self.displacement(d, w))
     }
 
     // The length of the way through the last w samples; 0.0 where w is below 2, over 32 or more than the samples held.
@@ -272,8 +301,7 @@ impl Trail {
         ensures { λ r. ⌜ r ≡ pathOf binary64 self d w ⌝ }
     {
         let number = self.trail_refusal();
-        let buf = self.buf;
-        number_after(number, path_of(&buf, self.head, self.len, d, w))
+        number_after(number, self.travelled(d, w))
     }
 
     // No sample is held; the numbers stay.

@@ -1,7 +1,6 @@
 -- `Trail::net` meets its contract: the trail is judged first, and the test of the last number is a test of all.
 use Prim.Native.Nat.{ℕ}
-use mathlib.Core.Path.{_≡_, sym, ap, _∙_}
-use native.Mathlib.Nat.{le-of-eq}
+use mathlib.Core.Path.{_≡_, ap, _∙_}
 use borrow.Author.Needs.{needs}
 use lib.Ieee.{Float, binary64}
 use Rattle.fmath.specs.declared.Number.{Number}
@@ -22,26 +21,17 @@ answered t d w n x r en ex er =
 trail-refusal-requires : tie.Need-trail-refusal-requires
 trail-refusal-requires c κs = search needs
 
-slice-aggregate-net-of : tie.Need-slice-aggregate-net-of
-slice-aggregate-net-of c = search needs
-
-net-of-requires : tie.Need-net-of-requires
-net-of-requires c κs = search (needs, le-of-eq, sym)
+displacement-requires : tie.Need-displacement-requires
+displacement-requires c κs = search needs
 
 number-after-requires : tie.Need-number-after-requires
 number-after-requires c κs = search needs
 
 returns : tie.Need-returns
 returns c =
-    let a = c .before .before .before .before .before .args in
-    answered (a .self) (a .d) (a .w) _ _ _ (c .before .before .before .before .trail-refusal .ensures) (c .before .net-of .ensures) (c .number-after .ensures)
+    let a = c .before .before .before .args in
+    answered (a .self) (a .d) (a .w) _ _ _ (c .before .before .trail-refusal .ensures) (c .before .displacement .ensures) (c .number-after .ensures)
 
 pub net-spec : {M : Type 1} → statement M
 net-spec =
-    tie.close
-    (tie.spec
-    trail-refusal-requires
-    slice-aggregate-net-of
-    net-of-requires
-    number-after-requires
-    returns)
+    tie.close (tie.spec trail-refusal-requires displacement-requires number-after-requires returns)

@@ -1,7 +1,6 @@
 -- `Trail::path` meets its contract: the trail is judged first, and the test of the last number is a test of all.
 use Prim.Native.Nat.{ℕ}
-use mathlib.Core.Path.{_≡_, sym, ap, _∙_}
-use native.Mathlib.Nat.{le-of-eq}
+use mathlib.Core.Path.{_≡_, ap, _∙_}
 use borrow.Author.Needs.{needs}
 use lib.Ieee.{Float, binary64}
 use Rattle.fmath.specs.declared.Number.{Number}
@@ -22,26 +21,17 @@ answered t d w n x r en ex er =
 trail-refusal-requires : tie.Need-trail-refusal-requires
 trail-refusal-requires c κs = search needs
 
-slice-aggregate-path-of : tie.Need-slice-aggregate-path-of
-slice-aggregate-path-of c = search needs
-
-path-of-requires : tie.Need-path-of-requires
-path-of-requires c κs = search (needs, le-of-eq, sym)
+travelled-requires : tie.Need-travelled-requires
+travelled-requires c κs = search needs
 
 number-after-requires : tie.Need-number-after-requires
 number-after-requires c κs = search needs
 
 returns : tie.Need-returns
 returns c =
-    let a = c .before .before .before .before .before .args in
-    answered (a .self) (a .d) (a .w) _ _ _ (c .before .before .before .before .trail-refusal .ensures) (c .before .path-of .ensures) (c .number-after .ensures)
+    let a = c .before .before .before .args in
+    answered (a .self) (a .d) (a .w) _ _ _ (c .before .before .trail-refusal .ensures) (c .before .travelled .ensures) (c .number-after .ensures)
 
 pub path-spec : {M : Type 1} → statement M
 path-spec =
-    tie.close
-    (tie.spec
-    trail-refusal-requires
-    slice-aggregate-path-of
-    path-of-requires
-    number-after-requires
-    returns)
+    tie.close (tie.spec trail-refusal-requires travelled-requires number-after-requires returns)
