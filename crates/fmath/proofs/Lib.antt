@@ -7,3 +7,4 @@ pub mod Ordered
 pub mod Sign
 pub mod Clamping
 pub mod Extremes
+pub mod Copy
