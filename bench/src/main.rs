@@ -6,7 +6,7 @@ mod inputs;
 
 use std::{env, hint::black_box, time::Instant};
 
-use differential::port::{self, Port};
+use differential::{linked, port::Port};
 use model::{ClampMode, FuseConfig};
 use oracle::rust::{brake, conformal, fmath, tier0, tier1};
 
@@ -60,7 +60,7 @@ fn calls<'a, T>(calls: usize, mut f: impl FnMut() -> T + 'a) -> Side<'a> {
 }
 
 fn main() {
-    let port = port::linked();
+    let port = linked::port();
     println!("{:<34} {:>12} {:>12} {:>8}", "entry", "Rust ns", "port ns", "ratio");
     root(&port);
     norm(&port);

@@ -67,9 +67,3 @@ pub struct Port {
     pub trip: Option<Trip>,
     pub time_bin: Option<TimeBin>,
 }
-
-/// What the static library has today. An entry is linked by a function of the type above that takes the model's
-/// arguments over into the binding's and its answer back; it is then compared in every run, and timed by `bench`.
-pub fn linked() -> Port {
-    Port::default()
-}
