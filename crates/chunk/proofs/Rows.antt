@@ -1,13 +1,13 @@
 -- Laws of a chunk's rows: a place in them fits, which row there is, and what stands in it.
 use Prim.Native.Nat.{ℕ, _+_, _-_, _*_, _^_, _≤_, _<_, min}
-use mathlib.Core.Path.{_≡_, refl, sym, ap, ap₂, _∙_}
+use mathlib.Core.Path.{_≡_, refl, sym, ap, ap₂, _∙_, subst}
 use mathlib.Core.Bool.{Bool, true, false}
 use mathlib.Core.List.{List, []}
-use native.Mathlib.Nat.{lt-of-le-of-lt, mul-le-mul-left, mul-lt-mul-of-pos-right, le-of-lt}
+use native.Mathlib.Nat.{lt-of-le-of-lt, mul-le-mul-left, mul-le-mul-right, suc-mul, mul-lt-mul-of-pos-right, le-of-lt}
 use native.Mathlib.Omega.{arith}
 use borrow.Author.Tests.{eq-eqb, ne-eqb, le-leb, lt-leb}
 use lib.Ieee.{Float}
-use lib.ListN.{length, take, drop}
+use lib.ListN.{length, take, drop, length-take, length-drop}
 use lib.Pow.{pow-pos}
 use lib.Seq.{paste, getD-take, getD-drop}
 use Rattle.fmath.specs.Each.{at}
@@ -38,6 +38,19 @@ module _ (l : List Float) (h d i : ℕ) where
   -- entry c of row i
   pub row-entry : rowIn l h d i ≡ true → (c : ℕ) → c < d → at (rowOf l h d i) c ≡ at l (rowStart h d i + c)
   row-entry e c lt = rw (row-is-part e, getD-take, getD-drop)
+
+  -- rows that are all there: each is d long
+  last-in : 0 < h → length l ≡ h * d → min i (h - 1) * d + d ≤ length l
+  last-in p e = rw e (under (min i (h - 1)) h d (omega arith))
+    where
+      under : (k h d : ℕ) → k < h → k * d + d ≤ h * d
+      under k h d b = subst (λ (y : ℕ). y ≤ h * d) (suc-mul k d) (mul-le-mul-right d b)
+
+  pub row-in : 0 < h → length l ≡ h * d → rowIn l h d i ≡ true
+  row-in p e = row-there (λ z. omega arith) (last-in p e)
+
+  pub row-long : 0 < h → length l ≡ h * d → length (rowOf l h d i) ≡ d
+  row-long p e = let b = last-in p e in rw (row-is-part (row-in p e), length-take, length-drop) (omega arith)
 
   same-size : (s : ℕ) → s + d - s ≡ d
   same-size s = omega arith

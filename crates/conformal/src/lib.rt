@@ -2,7 +2,7 @@
 ghost use mathlib.Core.Path.{_≡_};
 ghost use mathlib.Core.Bool.{not};
 ghost use mathlib.Core.List.{[], _∷_};
-ghost use Prim.Native.Nat.{_<_, _^_, min};
+ghost use Prim.Native.Nat.{_<_, min};
 ghost use lib.Ieee.{binary64, isNan};
 ghost use Rattle.refusal.specs.Order.{size, number, notFinite, computed, _when_, refusal, if_then_else_};
 ghost use Rattle.fmath.specs.Least.{lesser, greater};
@@ -79,11 +79,13 @@ pub struct Scored {
     pub scores: Scores,
 }
 
+// Whether the scores trip, or why that is not said.
 pub enum Verdict {
     Refused(Refusal),
     Trips(bool),
 }
 
+// A time bin from 0 to 15, or why there is none.
 pub enum TimeBin {
     NoBin(Refusal),
     Bin(usize),
@@ -95,11 +97,13 @@ struct AllZ {
     sound: bool,
 }
 
+// z of one feature, likewise.
 struct OneZ {
     z: f64,
     sound: bool,
 }
 
+// A term: whether each feature that it joins is live, and the least of their z.
 struct Joined {
     live: bool,
     least: f64,
@@ -131,6 +135,7 @@ pub fn numbers_ok<'a>(center: &'a [f64; 192], scale: &'a [f64; 192], tau: f64) -
     a & b & c
 }
 
+// A number or an infinity.
 fn not_nan(x: f64) -> bool
     ensures { λ r. ⌜ r ≡ not (isNan x) ⌝ }
 {
@@ -223,6 +228,7 @@ fn standard(live: bool, x: f64, center: f64, scale: f64) -> OneZ
     }
 }
 
+// The bin itself, or the last of 16 for one past it.
 fn last_bin(bin: usize) -> usize
     ensures { λ r. ⌜ r ≡ min bin 15 ⌝ }
 {
@@ -274,12 +280,14 @@ pub fn standardise(cal: Calibration, bin: usize, scores: Scores) -> Scored
 
 // ---- aggregate
 
+// The least with z, where its feature is named.
 fn lesser_where(named: bool, least: f64, z: f64) -> f64
     ensures { λ r. ⌜ r ≡ (if named then lesser least z else least) ⌝ }
 {
     if named { fmath::min(least, z) } else { least }
 }
 
+// The greatest with a term's least, where the term counts.
 fn greater_where(counts: bool, most: f64, least: f64) -> f64
     ensures { λ r. ⌜ r ≡ (if counts then greater most least else most) ⌝ }
 {
@@ -327,6 +335,7 @@ fn greatest(gate: GateSpec, mask: u32, valid: u32, z: &[f64; 12]) -> f64
     s
 }
 
+// The weight of a bit that is set, else 0.
 fn weight(on: bool, w: u32) -> u32
     ensures { λ r. ⌜ r ≡ (if on then w else 0) ⌝ }
 {

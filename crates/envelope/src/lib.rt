@@ -13,6 +13,7 @@ use conformal::Calibration;
 use conformal::GateSpec;
 use refusal::Refusal;
 
+// What an action row commands.
 pub enum ActionKind {
     EePosition,
     EeDelta,
@@ -21,6 +22,7 @@ pub enum ActionKind {
     Other,
 }
 
+// Whether rows are projected.
 pub enum ClampMode {
     Off,
     Project,
@@ -49,6 +51,7 @@ pub enum Contact {
 // Control steps and substeps are counted apart; `substeps_in` alone joins them.
 pub struct ControlSteps(pub u16);
 
+// A part of a control step.
 pub struct Substeps(pub u16);
 
 // The bits of the checks.
@@ -68,6 +71,7 @@ impl TripMask {
     pub const CONTACT: u32 = 32;
 }
 
+// The control period dt, the greatest speed, acceleration, jerk and reach, and the margin off the walls.
 pub struct Limits {
     pub dt: f64,
     pub v_max: f64,
@@ -77,16 +81,19 @@ pub struct Limits {
     pub margin: f64,
 }
 
+// Center and scale of each action coordinate.
 pub struct Norm {
     pub center: [f64; 8],
     pub scale: [f64; 8],
 }
 
+// The walls of each position axis.
 pub struct Box {
     pub lo: [f64; 8],
     pub hi: [f64; 8],
 }
 
+// How the arm brakes, and for how long: committed steps, then braking steps, each of so many substeps.
 pub struct BrakeModel {
     pub kind: BrakeKind,
     pub substeps: Substeps,
@@ -173,6 +180,7 @@ fn inverses(scale: &[f64; 8], n: usize) -> [f64; 8]
     inv
 }
 
+// A count of coordinates, no more than an array has.
 fn at_most_8(n: usize) -> usize
     ensures { λ r. ⌜ r ≡ min n 8 ⌝ }
 {
@@ -193,6 +201,7 @@ fn isotropic(scale: &[f64; 8], n: usize) -> f64
     least
 }
 
+// What is derived, from the parts that it is derived from.
 fn derive_from(l: Limits, norm: Norm, walls: Box, dim: usize, pos_dim: usize) -> Derived
     ensures { λ r. ⌜ r ≡ derivedFrom binary64 l norm walls dim «pos_dim» ⌝ }
 {
@@ -224,6 +233,7 @@ pub fn derive(c: FuseConfig) -> Derived
 
 // ---- 1: sizes
 
+// dim, pos_dim and, where the flag is set, the sizes of the calibration.
 fn sizes_ok(dim: usize, pos_dim: usize, calibrated: bool, gate: GateSpec, mask: u32) -> bool
     ensures { λ r. ⌜ r ≡ sizesOk dim «pos_dim» calibrated gate mask ⌝ }
 {
@@ -233,6 +243,7 @@ fn sizes_ok(dim: usize, pos_dim: usize, calibrated: bool, gate: GateSpec, mask: 
 
 // ---- 2: numbers
 
+// The control period and the maxima are above 0, the margin is not below 0.
 fn limits_ok(l: Limits) -> bool
     ensures { λ r. ⌜ r ≡ limitsOk l ⌝ }
 {
@@ -245,6 +256,7 @@ fn limits_ok(l: Limits) -> bool
     a & b & c & d & e & f
 }
 
+// k_p may be 0; k_v and the substep may not.
 fn gains_ok(k_p: f64, k_v: f64, dt: f64) -> bool
     ensures { λ r. ⌜ r ≡ gainsOk «k_p» «k_v» dt ⌝ }
 {
@@ -254,6 +266,7 @@ fn gains_ok(k_p: f64, k_v: f64, dt: f64) -> bool
     a & b & c
 }
 
+// The gains of whichever kind.
 fn brake_ok(kind: BrakeKind) -> bool
     ensures { λ r. ⌜ r ≡ brakeOk kind ⌝ }
 {
@@ -266,6 +279,7 @@ fn brake_ok(kind: BrakeKind) -> bool
     }
 }
 
+// A zone may have radius 0, but not speed 0. It is judged whether CONTACT is armed or not.
 fn zone_ok(contact: Contact) -> bool
     ensures { λ r. ⌜ r ≡ zoneOk contact ⌝ }
 {
@@ -284,6 +298,7 @@ fn zone_ok(contact: Contact) -> bool
     }
 }
 
+// Entries past dim are not judged.
 fn norm_ok(norm: Norm, dim: usize) -> bool
     ensures { λ r. ⌜ r ≡ normOk norm dim ⌝ }
 {
@@ -292,6 +307,7 @@ fn norm_ok(norm: Norm, dim: usize) -> bool
     a & b
 }
 
+// Entries past pos_dim are not judged.
 fn box_ok(walls: Box, pos_dim: usize) -> bool
     ensures { λ r. ⌜ r ≡ boxOk walls «pos_dim» ⌝ }
 {
@@ -300,6 +316,7 @@ fn box_ok(walls: Box, pos_dim: usize) -> bool
     a & b
 }
 
+// Each single number that is derived is finite.
 fn scalars_ok(d: Derived) -> bool
     ensures { λ r. ⌜ r ≡ scalarsOk d ⌝ }
 {
@@ -324,6 +341,7 @@ fn ordered<'a>(lo: &'a [f64; 8], hi: &'a [f64; 8]) -> bool
     ok
 }
 
+// All that is derived is finite, and the walls have not crossed.
 fn derived_ok(d: Derived) -> bool
     ensures { λ r. ⌜ r ≡ derivedOk d ⌝ }
 {
@@ -346,6 +364,7 @@ fn calibration_ok(c: FuseConfig) -> bool
     }
 }
 
+// All numbers of a configuration, given or derived.
 fn numbers_ok(c: FuseConfig) -> bool
     ensures { λ r. ⌜ r ≡ numbersOk c ⌝ }
 {
@@ -372,6 +391,7 @@ pub fn substeps_in(rows: ControlSteps, brake: ControlSteps, per: Substeps) -> us
     (rows.0 as usize + brake.0 as usize) * (per.0 as usize)
 }
 
+// 1 to 64 substeps, at most 64 committed steps and at most 4,096 substeps in all, for any u16.
 fn counts_ok(brake: BrakeModel) -> bool
     ensures { λ r. ⌜ r ≡ countsOk brake ⌝ }
 {
@@ -380,6 +400,7 @@ fn counts_ok(brake: BrakeModel) -> bool
     (1 <= per) & (per <= 64) & (brake.commit.0 <= 64) & (n <= 4096)
 }
 
+// The counts and, where the flag is set, the horizon.
 fn steps_ok(brake: BrakeModel, calibrated: bool, horizon_ticks: u32) -> bool
     ensures { λ r. ⌜ r ≡ stepsOk brake calibrated «horizon_ticks» ⌝ }
 {
@@ -389,6 +410,7 @@ fn steps_ok(brake: BrakeModel, calibrated: bool, horizon_ticks: u32) -> bool
 
 // ---- 4: channels
 
+// A zone's channels differ, and the camera has both.
 fn channels_ok(contact: Contact, aux_count: usize) -> bool
     ensures { λ r. ⌜ r ≡ channelsOk contact «aux_count» ⌝ }
 {

@@ -61,6 +61,18 @@ all-fails p n j l e = go (all p n) refl
 pub all-missing : (q : Float → Bool) (l : List Float) (n : ℕ) → q nan ≡ false → length l < n → all (λ (i : ℕ). q (at l i)) n ≡ false
 all-missing q l n e h = all-fails (λ (i : ℕ). q (at l i)) n (length l) h (ap q (List·getD-eq-default l nan (le-refl (length l))) ∙ e)
 
+apart : (a b p q : Bool) → (a && b) && (p && q) ≡ (a && p) && (b && q)
+apart true true p q = refl
+apart true false true q = refl
+apart true false false q = refl
+apart false b p q = refl
+
+-- two tests of each, judged one by one or together
+pub all-both : (p q : ℕ → Bool) (n : ℕ) → all p n && all q n ≡ all (λ (i : ℕ). p i && q i) n
+unfolding all
+all-both p q zero = refl
+all-both p q (suc n) = apart (all p n) (p n) (all q n) (q n) ∙ ap (λ (b : Bool). b && (p n && q n)) (all-both p q n)
+
 -- ---- some
 
 pub some-more : (p : ℕ → Bool) (i : ℕ) (so t : Bool) → so ≡ some p i → t ≡ p i → so || t ≡ some p (i + 1)

@@ -51,20 +51,23 @@ pub fn all_finite(v: &[f64], n: usize) -> bool
     ok
 }
 
-// Each of the first n numbers is there, is finite and is above zero.
+// Each of the first n numbers is there, is finite and is above zero. Each test has its own running answer, which is what
+// lets the compiled loop be quick.
 pub fn all_above_zero(v: &[f64], n: usize) -> bool
     ensures { λ r. ⌜ r ≡ allAboveZero (now (v .entry)) n ⌝ }
 {
     if v.len() < n {
         return false;
     }
+    let mut above = true;
     let mut ok = true;
     let mut i = 0;
     while i < n {
-        ok = ok & above_zero(v[i]);
+        above = above & (0.0 < v[i]);
+        ok = ok & finite(v[i]);
         i += 1;
     }
-    ok
+    above & ok
 }
 
 // The first where it is strictly less, else the second.

@@ -48,7 +48,12 @@ loop-again : tie.Need-loop-again Inv-loop μ-loop
 loop-again c = let l = c .before .before .before .before .before .loop in
     let a = c .before .before .before .before .before .before .args in
     let t = c .before .before .term in
-    (omega arith, join-more greater (inf true) (counts (a .t1) (live (a .mask) (a .valid))) (λ (k : ℕ). leastOf (a .z .now) (termAt (a .t1) k)) (l .i) (ltb (l .i) (a .t1 .«n_terms») && t .result .live) (l .s) (t .result .least) _ (l .inv .1) (rw (t .ensures)) (ap (λ (t : Joined). t .least) (t .ensures)) (c .greater-where .ensures))
+    let live-now = live (a .mask) (a .valid) in (
+      omega arith,
+      join-more greater (inf true) (counts (a .t1) live-now) (λ (k : ℕ). leastOf (a .z .now) (termAt (a .t1) k)) (l .i)
+          (ltb (l .i) (a .t1 .«n_terms») && t .result .live) (l .s) (t .result .least) _
+          (l .inv .1) (rw (t .ensures)) (ap (λ (j : Joined). j .least) (t .ensures)) (c .greater-where .ensures),
+    )
 
 returns : tie.Need-returns Inv-loop μ-loop
 unfolding aggregate

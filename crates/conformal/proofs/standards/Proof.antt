@@ -75,14 +75,19 @@ loop-less : tie.Need-loop-less Inv-loop μ-loop
 loop-less c = omega arith
 
 loop-again : tie.Need-loop-again Inv-loop μ-loop
-loop-again c = let l = c .before .before .before .before .before .before .before .before .loop in let a = c .before .before .before .before .before .before .before .before .before .before .args in
-    let e : c .before .standard .result ≡ standardFrom (standardAt binary64 (a .center .now) (a .scale .now) (a .bin) (live (a .mask) (a .valid)) (a .x .now) (l .j)) = (c .before .standard .ensures) ∙ rw (c .before .before .before .before .before .before .bit .ensures, c .before .before .before .before .before .bit2 .ensures, c .before .before .before .before .before .before .before .before .before .last-bin .ensures) in
+loop-again c =
+    let l = c .before .before .before .before .before .before .before .before .loop in
+    let a = c .before .before .before .before .before .before .before .before .before .before .args in
+    let e : c .before .standard .result ≡ standardFrom (standardAt binary64 (a .center .now) (a .scale .now) (a .bin) (live (a .mask) (a .valid)) (a .x .now) (l .j))
+    = (c .before .standard .ensures) ∙ rw (c .before .before .before .before .before .before .bit .ensures, c .before .before .before .before .before .bit2 .ensures, c .before .before .before .before .before .before .before .before .before .last-bin .ensures) in
     (omega arith, (simp length-set (l .inv .1 .0), (table-more _ _ _ _ (omega arith) (l .inv .1 .1 .0) (ap (λ (r : OneZ). r .z) e), all-more _ _ _ _ (l .inv .1 .1 .1) (ap (λ (r : OneZ). r .sound) e))))
 
 returns : tie.Need-returns Inv-loop μ-loop
 unfolding standards
-returns c = let l = c .before .loop in
-    let e : l .j ≡ 12 = omega arith in rw (table-all _ 12 (l .j) (l .z) e (l .inv .1 .0) (l .inv .1 .1 .0), rw e at (l .inv .1 .1 .1))
+returns c =
+    let l = c .before .loop in
+    let e : l .j ≡ 12 = omega arith in
+    rw (table-all _ 12 (l .j) (l .z) e (l .inv .1 .0) (l .inv .1 .1 .0), rw e at (l .inv .1 .1 .1))
 
 pub standards-spec : {M : Type 1} → statement M
 standards-spec =

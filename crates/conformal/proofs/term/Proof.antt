@@ -49,12 +49,26 @@ loop-less : tie.Need-loop-less Inv-loop μ-loop
 loop-less c = omega arith
 
 loop-again : tie.Need-loop-again Inv-loop μ-loop
-loop-again c = let l = c .before .before .before .before .before .before .loop .inv in
-    (omega arith, (some-more _ _ _ _ (l .1 .0) (c .before .before .before .before .bit .ensures), (all-more _ _ _ _ (l .1 .1 .0) (rw (c .before .before .before .before .bit .ensures, c .before .before .before .bit2 .ensures, c .before .before .bit3 .ensures)), join-more lesser (inf false) (bit (c .before .before .before .before .before .before .before .args .bits)) (at (c .before .before .before .before .before .before .before .args .z .now)) _ _ _ _ _ (l .1 .1 .1) (c .before .before .before .before .bit .ensures) refl (c .lesser-where .ensures))))
+loop-again c =
+    let p = c .before .before .before .before in
+    let l = p .before .before .loop .inv in
+    let a = p .before .before .before .args in (
+      omega arith,
+      (
+        some-more _ _ _ _ (l .1 .0) (p .bit .ensures),
+        (
+          all-more _ _ _ _ (l .1 .1 .0) (rw (p .bit .ensures, c .before .before .before .bit2 .ensures, c .before .before .bit3 .ensures)),
+          join-more lesser (inf false) (bit (a .bits)) (at (a .z .now)) _ _ _ _ _ (l .1 .1 .1) (p .bit .ensures) refl (c .lesser-where .ensures),
+        ),
+      ),
+    )
 
 returns : tie.Need-returns Inv-loop μ-loop
 unfolding liveTerm leastOf
-returns c = let e : c .before .loop .j ≡ 12 = omega arith in rw (rw e at (c .before .loop .inv .1 .0), rw e at (c .before .loop .inv .1 .1 .0), rw e at (c .before .loop .inv .1 .1 .1))
+returns c =
+    let l = c .before .loop .inv .1 in
+    let e : c .before .loop .j ≡ 12 = omega arith in
+    rw (rw e at (l .0), rw e at (l .1 .0), rw e at (l .1 .1))
 
 pub term-spec : {M : Type 1} → statement M
 term-spec =

@@ -19,7 +19,11 @@ isotropic-requires c κs = search needs
 
 returns : tie.Need-returns
 unfolding derivedFrom invDt invDt2 invDt3 stepMax ofBits
-returns c = rw (c .before .before .before .before .before .before .before .before .before .before .low-walls .ensures, c .before .before .before .before .before .before .before .high-walls .ensures, c .before .before .before .before .inverses .ensures, c .before .isotropic .ensures)
+returns c =
+    let i = c .before .before .before .before in
+    let h = i .before .before .before in
+    let l = h .before .before .before in
+    rw (l .low-walls .ensures, h .high-walls .ensures, i .inverses .ensures, c .before .isotropic .ensures)
 
 pub derive-from-spec : {M : Type 1} → statement M
 derive-from-spec =

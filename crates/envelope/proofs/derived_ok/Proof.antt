@@ -23,7 +23,12 @@ ordered-requires c κs = search needs
 
 returns : tie.Need-returns
 unfolding derivedOk every
-returns c = (c .before .before .before .before .before .before .before .before .before .before .before .before .before .before .before .before .scalars-ok .ensures) &&≡ (c .before .before .before .before .before .before .before .before .before .before .before .before .all-finite .ensures) &&≡ (c .before .before .before .before .before .before .before .before .all-finite2 .ensures) &&≡ (c .before .before .before .before .all-finite3 .ensures) &&≡ (c .ordered .ensures)
+returns c =
+    let f = c .before .before .before .before in
+    let e = f .before .before .before .before in
+    let d = e .before .before .before .before in
+    let s = d .before .before .before .before in
+    (s .scalars-ok .ensures) &&≡ (d .all-finite .ensures) &&≡ (e .all-finite2 .ensures) &&≡ (f .all-finite3 .ensures) &&≡ (c .ordered .ensures)
 
 pub derived-ok-spec : {M : Type 1} → statement M
 derived-ok-spec =

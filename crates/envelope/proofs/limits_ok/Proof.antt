@@ -26,7 +26,12 @@ not-below-zero-requires c κs = search needs
 
 returns : tie.Need-returns
 unfolding limitsOk every
-returns c = (c .before .before .before .before .before .above-zero .ensures) &&≡ (c .before .before .before .before .above-zero2 .ensures) &&≡ (c .before .before .before .above-zero3 .ensures) &&≡ (c .before .before .above-zero4 .ensures) &&≡ (c .before .above-zero5 .ensures) &&≡ (c .not-below-zero .ensures)
+returns c =
+    let j = c .before .before in
+    let v = j .before .before in
+    (v .before .above-zero .ensures) &&≡ (v .above-zero2 .ensures) &&≡ (j .before .above-zero3 .ensures) &&≡ (j .above-zero4 .ensures)
+    &&≡ (c .before .above-zero5 .ensures)
+    &&≡ (c .not-below-zero .ensures)
 
 pub limits-ok-spec : {M : Type 1} → statement M
 limits-ok-spec =

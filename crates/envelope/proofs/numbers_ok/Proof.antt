@@ -1,9 +1,8 @@
 -- `envelope::numbers_ok` meets its contract: its tests are the definition's.
-use mathlib.Core.Path.{_∙_, ap}
 use borrow.Author.Needs.{needs}
 use Rattle.fmath.specs.Each.{every}
 use Rattle.fmath.proofs.Each.{_&&≡_}
-use Rattle.envelope.specs.Refusals.{derivedOk, numbersOk}
+use Rattle.envelope.specs.Refusals.{numbersOk}
 use Rattle.envelope.proofs.numbers_ok.Statement.{statement}
 use Rattle.envelope.proofs.numbers_ok.Tie as tie
 
@@ -33,8 +32,12 @@ calibration-ok-requires c κs = search needs
 
 returns : tie.Need-returns
 unfolding numbersOk every
-returns c = (c .before .before .before .before .before .before .limits-ok .ensures) &&≡ (c .before .before .before .before .before .brake-ok .ensures) &&≡ (c .before .before .before .before .zone-ok .ensures) &&≡ (c .before .before .before .norm-ok .ensures) &&≡ (c .before .before .box-ok .ensures)
-    &&≡ (c .before .derived-ok .ensures ∙ ap derivedOk (c .before .before .before .before .before .before .before .derive-from .ensures))
+returns c =
+    let n = c .before .before .before in
+    let l = n .before .before .before in
+    (l .limits-ok .ensures) &&≡ (n .before .before .brake-ok .ensures) &&≡ (n .before .zone-ok .ensures) &&≡ (n .norm-ok .ensures)
+    &&≡ (c .before .before .box-ok .ensures)
+    &&≡ (rw (l .before .derive-from .ensures) at (c .before .derived-ok .ensures))
     &&≡ (c .calibration-ok .ensures)
 
 pub numbers-ok-spec : {M : Type 1} → statement M

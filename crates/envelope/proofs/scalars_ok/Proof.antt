@@ -23,7 +23,9 @@ finite-requires-5 c κs = search needs
 
 returns : tie.Need-returns
 unfolding scalarsOk every
-returns c = (c .before .before .before .before .finite .ensures) &&≡ (c .before .before .before .finite2 .ensures) &&≡ (c .before .before .finite3 .ensures) &&≡ (c .before .finite4 .ensures) &&≡ (c .finite5 .ensures)
+returns c =
+    let b = c .before .before .before in
+    (b .before .finite .ensures) &&≡ (b .finite2 .ensures) &&≡ (c .before .before .finite3 .ensures) &&≡ (c .before .finite4 .ensures) &&≡ (c .finite5 .ensures)
 
 pub scalars-ok-spec : {M : Type 1} → statement M
 scalars-ok-spec =

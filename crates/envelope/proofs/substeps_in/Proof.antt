@@ -20,9 +20,7 @@ cast-result-3 : tie.Need-cast-result-3
 cast-result-3 c = search needs
 
 mul-result : tie.Need-mul-result
-mul-result c = let a : c .before .before .before .args .rows .0 + c .before .before .before .args .brake .0 ≤ 131070 = omega arith in
-    let b : c .before .before .before .args .per .0 ≤ 65535 = omega arith in
-    fits-le (mul-le-mul a b) (fits-lit tt)
+mul-result c = fits-le (mul-le-mul {n₂ = 131070} {m₂ = 65535} (omega arith) (omega arith)) (fits-lit tt)
 
 returns : tie.Need-returns
 returns c = search needs

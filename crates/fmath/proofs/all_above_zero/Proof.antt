@@ -1,21 +1,22 @@
--- `fmath::all_above_zero` meets its contract: a number that is not there is not above zero, and the loop keeps the answer so far.
+-- `fmath::all_above_zero` meets its contract: a number that is not there is not above zero, and the loop keeps both answers so far.
 use Prim.Native.Nat.{ℕ, _≤_, _-_}
-use mathlib.Core.Path.{_≡_, refl, sym}
+use mathlib.Core.Path.{_≡_, refl, sym, _∙_}
+use mathlib.Core.Bool.{_&&_}
 use native.Mathlib.Omega.{arith}
 use borrow.Author.Needs.{needs}
 use denote.Ref.{now}
-use lib.Ieee.{lt}
+use lib.Ieee.{lt, ofBits}
 use Rattle.fmath.specs.Each.{all, at}
-use Rattle.fmath.specs.Finite.{aboveZero, allAboveZero}
-use Rattle.fmath.proofs.Each.{all-more, all-missing}
+use Rattle.fmath.specs.Finite.{+0, finite, aboveZero, allAboveZero}
+use Rattle.fmath.proofs.Each.{_&&≡_, all-more, all-both, all-missing}
 use Rattle.fmath.proofs.all_above_zero.Statement.{statement}
 use Rattle.fmath.proofs.all_above_zero.Tie as tie
 
 abbrev Inv-loop : tie.InvT-loop
-Inv-loop v n ok₀ i₀ ok i = (i ≤ n) × (ok ≡ all (λ (k : ℕ). aboveZero (at v k)) i)
+Inv-loop v n above₀ ok₀ i₀ above ok i = (i ≤ n) × ((above ≡ all (λ (k : ℕ). lt +0 (at v k)) i) × (ok ≡ all (λ (k : ℕ). finite (at v k)) i))
 
 abbrev μ-loop : tie.MeasureT-loop
-μ-loop v n ok₀ i₀ ok i = n - i
+μ-loop v n above₀ ok₀ i₀ above ok i = n - i
 
 returns : tie.Need-returns Inv-loop μ-loop
 unfolding allAboveZero aboveZero lt
@@ -23,16 +24,22 @@ returns c = let s = c .before .before .args in sym (all-missing aboveZero (now (
 
 loop-holds : tie.Need-loop-holds Inv-loop μ-loop
 unfolding all
-loop-holds c = (search needs, refl)
+loop-holds c = (search needs, (refl, refl))
 
-mul-above-zero : tie.Need-mul-above-zero Inv-loop μ-loop
-mul-above-zero c = omega arith
+mul-above : tie.Need-mul-above Inv-loop μ-loop
+mul-above c = omega arith
 
-shared-slice-read-above-zero : tie.Need-shared-slice-read-above-zero Inv-loop μ-loop
-shared-slice-read-above-zero c = omega arith
+shared-slice-read-above : tie.Need-shared-slice-read-above Inv-loop μ-loop
+shared-slice-read-above c = omega arith
 
-above-zero-requires : tie.Need-above-zero-requires Inv-loop μ-loop
-above-zero-requires c κs = search needs
+mul-finite : tie.Need-mul-finite Inv-loop μ-loop
+mul-finite c = omega arith
+
+shared-slice-read-finite : tie.Need-shared-slice-read-finite Inv-loop μ-loop
+shared-slice-read-finite c = omega arith
+
+finite-requires : tie.Need-finite-requires Inv-loop μ-loop
+finite-requires c κs = search needs
 
 add-i : tie.Need-add-i Inv-loop μ-loop
 add-i c = omega arith
@@ -41,11 +48,14 @@ loop-less : tie.Need-loop-less Inv-loop μ-loop
 loop-less c = omega arith
 
 loop-again : tie.Need-loop-again Inv-loop μ-loop
-loop-again c = (omega arith, all-more _ _ _ _ (c .before .before .before .loop .inv .1) (c .above-zero .ensures))
+unfolding ofBits
+loop-again c = let l = c .before .before .before .before .loop .inv in (omega arith, (all-more _ _ _ _ (l .1 .0) refl, all-more _ _ _ _ (l .1 .1) (c .finite .ensures)))
 
 returns-2 : tie.Need-returns-2 Inv-loop μ-loop
-unfolding allAboveZero
-returns-2 c = let e : c .before .loop .i ≡ c .before .before .before .before .args .n = omega arith in rw e at (c .before .loop .inv .1)
+unfolding allAboveZero aboveZero
+returns-2 c = let l = c .before .loop in
+    let e : l .i ≡ c .before .before .before .before .args .n = omega arith in
+    (rw e at (l .inv .1 .0)) &&≡ (rw e at (l .inv .1 .1)) ∙ all-both (λ (k : ℕ). lt +0 (at (now (c .before .before .before .before .args .v)) k)) (λ (k : ℕ). finite (at (now (c .before .before .before .before .args .v)) k)) (c .before .before .before .before .args .n)
 
 pub all-above-zero-spec : {M : Type 1} → statement M
 all-above-zero-spec =
@@ -55,9 +65,11 @@ all-above-zero-spec =
     μ-loop
     returns
     loop-holds
-    mul-above-zero
-    shared-slice-read-above-zero
-    above-zero-requires
+    mul-above
+    shared-slice-read-above
+    mul-finite
+    shared-slice-read-finite
+    finite-requires
     add-i
     loop-less
     loop-again

@@ -1,0 +1,5 @@
+pub mod Told
+pub mod Reach
+pub mod Along
+pub mod Rows
+pub mod Room

@@ -1,0 +1,39 @@
+-- How far the finite entries reach, one entry more at a time.
+use mathlib.Core.Path.{_≡_, refl, sym, ap, _∙_}
+use mathlib.Core.Bool.{Bool, true, false, _&&_}
+use Prim.Native.Nat.{ℕ, zero, suc, _+_, _≤_, _<_}
+use native.Mathlib.Numerals.{add-one}
+use native.Mathlib.Omega.{arith}
+use Rattle.refusal.specs.Order.{if_then_else_}
+use Rattle.fmath.specs.Each.{all}
+use Rattle.rollout.specs.Forecast.{reach}
+
+module _ (ok : ℕ → Bool) where
+  pub all-next : (k : ℕ) → all ok (k + 1) ≡ all ok k && ok k
+  unfolding all
+  all-next k = rw add-one
+
+  pub reach-whole : (k : ℕ) → all ok k ≡ true → reach ok k ≡ k
+  unfolding reach
+  reach-whole zero h = refl
+  reach-whole (suc k) h = rw h
+
+  -- one entry more that is finite, and one that is not
+  pub reach-more : (k : ℕ) → all ok (k + 1) ≡ true → reach ok (k + 1) ≡ k + 1
+  reach-more k h = reach-whole (k + 1) h
+
+  pub reach-stays : (k : ℕ) → all ok (k + 1) ≡ false → reach ok (k + 1) ≡ reach ok k
+  unfolding reach
+  reach-stays k h = rw add-one (go (rw add-one at h))
+    where
+      go : all ok (suc k) ≡ false → reach ok (suc k) ≡ reach ok k
+      go e = rw e
+
+  pub reach-le : (n : ℕ) → reach ok n ≤ n
+  unfolding reach
+  reach-le zero = omega arith
+  reach-le (suc n) = go (all ok (suc n)) (reach-le n)
+    where
+      go : (b : Bool) → reach ok n ≤ n → (if b then suc n else reach ok n) ≤ suc n
+      go true h = omega arith
+      go false h = omega arith

@@ -1,0 +1,44 @@
+-- Committed rows and substeps: substep i * per + j goes towards row from + i, and the rows' substeps fit before the braking ones.
+use mathlib.Core.Path.{_≡_, refl, sym, ap, _∙_, subst}
+use mathlib.Core.List.{List}
+use Prim.Native.Nat.{ℕ, zero, suc, _+_, _-_, _*_, _/_, _≤_, _<_}
+use native.Mathlib.Nat.{lt-of-lt-of-le, mul-le-mul-right, suc-mul, add-mul}
+use native.Mathlib.Numerals.{add-one}
+use native.Mathlib.Omega.{arith}
+use borrow.Author.Tests.{lt-ltb, le-ltb}
+use lib.Arith.{digits-div}
+use lib.Ieee.{Float, Format}
+use Rattle.chunk.specs.Rule.{rowOf}
+use Rattle.workspace.specs.Rule.{inward}
+use Rattle.rollout.specs.Plant.{State, substep}
+use Rattle.rollout.specs.Rule.{Task, rowsLeft, pushes, rowAt, pushed, setpoint, aim, after}
+
+-- one row more
+pub row-more : (i per : ℕ) → (i + 1) * per ≡ i * per + per
+row-more i per = ap (λ (y : ℕ). y * per) (add-one i) ∙ suc-mul i per
+
+pub row-fits : (i left per : ℕ) → i < left → i * per + per ≤ left * per
+row-fits i left per h = subst (λ (y : ℕ). y ≤ left * per) (suc-mul i per) (mul-le-mul-right per h)
+
+module _ (f : Format) (t : Task) where
+  pub aims-row : (i j : ℕ) → i < rowsLeft t → j < t .per → aim f t (i * t .per + j) ≡ rowOf (t .rows) (t .horizon) (t .dim) (t .from + i)
+  unfolding aim
+  aims-row i j h b =
+      let l : i * t .per + j < rowsLeft t * t .per = omega (arith, row-fits i (rowsLeft t) (t .per) h) in
+      rw (lt-ltb (i * t .per + j) (rowsLeft t * t .per) l, digits-div i b)
+
+  aim-row : (k : ℕ) → k < pushes t → aim f t k ≡ rowAt t k
+  unfolding aim
+  aim-row k h = rw (lt-ltb k (rowsLeft t * t .per) h)
+
+  -- while rows are committed the plant is where they push it
+  pub after-pushed : (k : ℕ) → k ≤ pushes t → after f t k ≡ pushed f t k
+  unfolding after pushed
+  after-pushed zero h = refl
+  after-pushed (suc k) h =
+      ap (λ (a : List Float). substep f (t .gains) a (t .n) (after f t k) .value) (aim-row k h)
+      ∙ ap (λ (s : State). substep f (t .gains) (rowAt t k) (t .n) s .value) (after-pushed k (omega arith))
+
+  pub aims-setpoint : (k : ℕ) → pushes t ≤ k → aim f t k ≡ inward (t .walls) (after f t (pushes t) .p) (t .n)
+  unfolding aim setpoint
+  aims-setpoint k h = rw (le-ltb k (rowsLeft t * t .per) h, after-pushed (pushes t) (omega arith))

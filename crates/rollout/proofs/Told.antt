@@ -1,0 +1,102 @@
+-- The test of a substep's slack tells of every number that the substep computes: sums, differences and products absorb what isn't finite.
+use mathlib.Core.Path.{_≡_, refl, sym, ap, _∙_}
+use mathlib.Core.Bool.{Bool, true, false, _&&_}
+use mathlib.Core.List.{List}
+use Prim.Native.Nat.{ℕ, zero, suc, _+_, _≤_, _<_}
+use native.Mathlib.Numerals.{add-one}
+use native.Mathlib.Omega.{arith}
+use borrow.Author.Count.{below-more}
+use lib.ListN.{length, set, length-set}
+use lib.Seq.{getD-set-same, getD-set-other}
+use lib.Ieee.{Float, Format, nan, add, sub, mul}
+use Rattle.fmath.specs.Each.{at, all}
+use Rattle.fmath.specs.Finite.{finite}
+use Rattle.fmath.specs.Checked.{Checked, leastOf}
+use Rattle.fmath.proofs.Each.{_&&≡_, and-left, and-right, all-at, all-from}
+use Rattle.fmath.proofs.Absorbing.{fine-add-left, fine-add-right, fine-sub-left, fine-sub-right, fine-mul-left, fine-mul-right}
+use Rattle.fmath.proofs.Told.{implied}
+use Rattle.workspace.specs.Rule.{Walls, between, gap, slack}
+use Rattle.workspace.proofs.Gaps.{between-tells}
+use Rattle.rollout.specs.Plant.{Gains, Motion, State, axis, motionAt, substep}
+
+module _ (f : Format) (g : Gains) where
+  -- a finite place at the end tells of each number on the way
+  pub axis-told : (a : Float) (m : Motion) → finite (axis f g a m .value .p) ≡ true → axis f g a m .sound ≡ true
+  unfolding axis
+  axis-told a m h =
+      let e = sub f a (m .p) in
+      let pull = mul f (g .kp) e in
+      let drag = mul f (g .kv) (m .v) in
+      let acc = sub f pull drag in
+      let dv = mul f acc (g .dt) in
+      let v = add f (m .v) dv in
+      let dp = mul f v (g .dt) in
+      let hdp = fine-add-right f (m .p) dp h in
+      let hv = fine-mul-left f v (g .dt) hdp in
+      let hdv = fine-add-right f (m .v) dv hv in
+      let hacc = fine-mul-left f acc (g .dt) hdv in
+      let hpull = fine-sub-left f pull drag hacc in
+      let hdrag = fine-sub-right f pull drag hacc in
+      let he = fine-mul-right f (g .kp) e hpull in
+      he &&≡ (hpull &&≡ (hdrag &&≡ (hacc &&≡ (hdv &&≡ (hv &&≡ (hdp &&≡ (h &&≡ refl)))))))
+
+  module _ (a : List Float) (s : State) where
+    -- one turn of a loop over the axes
+    pub substep-more : (j : ℕ) (r : State) (m : Motion) → r ≡ substep f g a j s .value → m ≡ axis f g (at a j) (motionAt r j) .value
+        → _≡_ {A = State} (record { p = set (r .p) j (m .p); v = set (r .v) j (m .v) }) (substep f g a (j + 1) s .value)
+    unfolding substep
+    substep-more j r m h e = rw (add-one, e, h)
+
+    -- an axis that is not reached yet is as it was
+    untouched : (n j : ℕ) → n ≤ j → motionAt (substep f g a n s .value) j ≡ motionAt s j
+    unfolding substep
+    untouched zero j h = refl
+    untouched (suc n) j h =
+        let t = substep f g a n s .value in
+        let m = axis f g (at a n) (motionAt t n) .value in
+        let d : j ≡ n → ⊥ = λ e. omega arith in
+        rw (getD-set-other (t .p) n j (m .p) nan d, getD-set-other (t .v) n j (m .v) nan d) (untouched n j (omega arith))
+
+    pub substep-sound : (n : ℕ) → substep f g a n s .sound ≡ all (λ (j : ℕ). axis f g (at a j) (motionAt s j) .sound) n
+    unfolding substep all
+    substep-sound zero = refl
+    substep-sound (suc n) = rw (untouched n n (omega arith), substep-sound n) (ap (λ (b : Bool). all (λ (j : ℕ). axis f g (at a j) (motionAt s j) .sound) n && b) (and-true (axis f g (at a n) (motionAt s n) .sound)))
+      where
+        and-true : (b : Bool) → b && true ≡ b
+        and-true true = refl
+        and-true false = refl
+
+    length-kept : (n : ℕ) → length (substep f g a n s .value .p) ≡ length (s .p)
+    unfolding substep
+    length-kept zero = refl
+    length-kept (suc n) = simp length-set (length-kept n)
+
+    -- where an axis stands afterwards
+    pub substep-at : (n j : ℕ) → j < n → n ≤ length (s .p) → at (substep f g a n s .value .p) j ≡ axis f g (at a j) (motionAt s j) .value .p
+    unfolding substep
+    substep-at zero j h l = absurd (omega arith)
+    substep-at (suc n) j h l =
+        let t = substep f g a n s .value in
+        below-more (λ (i : ℕ). at (set (t .p) n (axis f g (at a n) (motionAt t n) .value .p)) i ≡ axis f g (at a i) (motionAt s i) .value .p) n
+        (λ i b. let d : i ≡ n → ⊥ = λ e. omega arith in rw (getD-set-other (t .p) n i (axis f g (at a n) (motionAt t n) .value .p) nan d) (substep-at n i b (omega arith)))
+        (getD-set-same (t .p) n (axis f g (at a n) (motionAt t n) .value .p) nan (rw (length-kept n) (omega arith)) ∙ ap (λ (m : Motion). axis f g (at a n) m .value .p) (untouched n n (omega arith)))
+        j (omega arith)
+
+    -- the slack's test tells of the substep before it
+    pub slack-tells : (w : Walls) (n : ℕ) → n ≤ length (s .p)
+        → substep f g a n s .sound && slack f w (substep f g a n s .value .p) n .sound ≡ slack f w (substep f g a n s .value .p) n .sound
+    unfolding slack leastOf
+    slack-tells w n l = implied _ _ told
+      where
+        p : List Float
+        p = substep f g a n s .value .p
+
+        told : all (λ (j : ℕ). gap f w p j .sound) n ≡ true → substep f g a n s .sound ≡ true
+        told h =
+            substep-sound n
+            ∙ all-from (λ (j : ℕ). axis f g (at a j) (motionAt s j) .sound) n
+            (λ j b.
+            let q : between f (at (w .lo) j) (at (w .hi) j) (at p j) .sound ≡ true = all-at (λ (j : ℕ). gap f w p j .sound) n h j b in
+            let d : finite (sub f (at p j) (at (w .lo) j)) ≡ true = and-left _ _ (sym (between-tells f (at (w .lo) j) (at (w .hi) j) (at p j)) ∙ q) in
+            let y : finite (at p j) ≡ true = fine-sub-left f (at p j) (at (w .lo) j) d in
+            axis-told (at a j) (motionAt s j) (rw (substep-at n j b l) at y))

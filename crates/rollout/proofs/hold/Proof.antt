@@ -1,0 +1,73 @@
+-- `rollout::hold` meets its contract: the loop comes along one entry a turn.
+use Prim.Native.Nat.{ℕ, _+_, _-_, _≤_, _<_}
+use mathlib.Core.Path.{_≡_, refl, ap, _∙_}
+use mathlib.Core.List.{List}
+use native.Mathlib.Omega.{arith}
+use borrow.Author.Needs.{needs}
+use denote.Ref.{now}
+use lib.ListN.{length}
+use lib.Ieee.{Float, binary64}
+use Rattle.rollout.specs.Rule.{Task}
+use Rattle.rollout.specs.Of.{Along, Towards, Under}
+use Rattle.rollout.proofs.Along.{towards-next, along-zero, along-sum, along-at}
+use Rattle.rollout.proofs.hold.Statement.{statement}
+use Rattle.rollout.proofs.hold.Tie as tie
+
+abbrev Inv-loop : tie.InvT-loop
+Inv-loop g w n a count slack₀ r₀ s₀ slack r s =
+    (s ≤ count)
+    × ((length slack ≡ length slack₀)
+    × ((r .done ≤ r₀ .done + s)
+    × ((t : Task) (l : List Float) (k : ℕ) → Under t g w n → Along binary64 t l k r₀ slack₀ → Towards binary64 t k count a r₀ → Along binary64 t l (k + s) r slack)))
+
+abbrev μ-loop : tie.MeasureT-loop
+μ-loop g w n a count slack₀ r₀ s₀ slack r s = count - s
+
+loop-holds : tie.Need-loop-holds Inv-loop μ-loop
+loop-holds c = (omega arith, (refl, (omega arith, λ t l k u h go. along-zero binary64 t l k _ _ h)))
+
+advance-requires : tie.Need-advance-requires Inv-loop μ-loop
+advance-requires c κs = let s = c .before .before .before .before .before in (s .pre .0, s .pre .1, omega (arith, s .pre .2))
+
+add-s : tie.Need-add-s Inv-loop μ-loop
+add-s c = omega arith
+
+loop-less : tie.Need-loop-less Inv-loop μ-loop
+loop-less c = omega arith
+
+loop-again : tie.Need-loop-again Inv-loop μ-loop
+loop-again c =
+    let s = c .before .before .before .before .before .before .before .before in
+    let i = c .before .before .before .before .before .loop in
+    let call = c .before .before .advance in (
+      omega arith,
+      (call .kept .1 .1 .1 .1 .1 .0 ∙ i .inv .1 .0,
+      (omega (arith, call .ensures .0, i .inv .1 .1 .0),
+      λ t l k u h go.
+          along-sum binary64 t l k _ _ (i .s) 1
+          (call .ensures .1 t l (k + i .s) u (i .inv .1 .1 .1 t l k u h go) (towards-next binary64 t l k (s .args .count) (i .s) (now (s .args .a)) (s .args .run) (i .r) (now (s .args .slack)) (i .slack) h go (i .inv .1 .1 .1 t l k u h go) (omega arith))))),
+    )
+
+same-length : tie.Need-same-length Inv-loop μ-loop
+same-length c = c .before .loop .inv .1 .0
+
+returns : tie.Need-returns Inv-loop μ-loop
+returns c =
+    let s = c .before .before .before .before in
+    let i = c .before .loop in
+    let e : i .s ≡ s .args .count = omega arith in
+    (omega (arith, i .inv .1 .1 .0), λ t l k u h go. along-at binary64 t l (k + s .args .count) _ _ (k + i .s) (ap (λ (m : ℕ). k + m) e) (i .inv .1 .1 .1 t l k u h go))
+
+pub hold-spec : {M : Type 1} → statement M
+hold-spec =
+    tie.close
+    (tie.spec
+    Inv-loop
+    μ-loop
+    loop-holds
+    advance-requires
+    add-s
+    loop-less
+    loop-again
+    same-length
+    returns)

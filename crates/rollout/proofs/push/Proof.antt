@@ -1,0 +1,116 @@
+-- `rollout::push` meets its contract: the loop holds one row a turn, and row i is what its substeps go towards (`Rows`).
+use Prim.Native.Nat.{ℕ, _+_, _-_, _*_, _≤_, _<_}
+use mathlib.Core.Path.{_≡_, refl, sym, ap, _∙_}
+use mathlib.Core.List.{List}
+use native.Mathlib.Nat.{zero-mul}
+use native.Mathlib.Omega.{arith}
+use borrow.Author.Needs.{needs}
+use denote.Ref.{now}
+use lib.ListN.{length}
+use lib.Ieee.{Float, binary64}
+use Rattle.chunk.proofs.Rows.{row-long}
+use Rattle.rollout.specs.declared.Plant.{Plant}
+use Rattle.rollout.specs.Rule.{Task}
+use Rattle.rollout.specs.Of.{taskOf, Along, Towards, Under}
+use Rattle.rollout.proofs.Along.{along-at}
+use Rattle.rollout.proofs.Rows.{row-more, row-fits, aims-row}
+use Rattle.rollout.proofs.push.Statement.{statement}
+use Rattle.rollout.proofs.push.Tie as tie
+
+abbrev Inv-loop : tie.InvT-loop
+Inv-loop g w c rows slack₀ left per r₀ i₀ slack r i =
+    (i ≤ left)
+    × ((left ≡ c .commit .0 - c .from)
+    × ((per ≡ c .per .0)
+    × ((length slack ≡ length slack₀)
+    × ((r .done ≤ r₀ .done + i * per)
+    × ((s : Plant) (l : List Float) → Along binary64 (taskOf g w c s rows) l 0 r₀ slack₀ → Along binary64 (taskOf g w c s rows) l (i * per) r slack)))))
+
+abbrev μ-loop : tie.MeasureT-loop
+μ-loop g w c rows slack₀ left per r₀ i₀ slack r i = left - i
+
+rows-left-requires : tie.Need-rows-left-requires Inv-loop μ-loop
+rows-left-requires c κs = search needs
+
+cast-left : tie.Need-cast-left Inv-loop μ-loop
+cast-left c = search needs
+
+cast-per : tie.Need-cast-per Inv-loop μ-loop
+cast-per c = search needs
+
+loop-holds : tie.Need-loop-holds Inv-loop μ-loop
+loop-holds c =
+    let s = c .before .before .before .before .before in (
+      omega arith,
+      (c .before .before .rows-left .ensures,
+      (refl,
+      (refl,
+      (omega (arith, zero-mul (s .args .c .per .0)),
+      λ q l h. along-at binary64 (taskOf (s .args .g) (s .args .w) (s .args .c) q (now (s .args .rows))) l (0 * s .args .c .per .0) (s .args .run) (now (s .args .slack)) 0 (sym (zero-mul (s .args .c .per .0))) h)))),
+    )
+
+add-action : tie.Need-add-action Inv-loop μ-loop
+add-action c = let i = c .before .before .loop in omega (arith, i .inv .1 .0, c .before .loop-test .taken, c .before .before .before .before .before .before .before .before .good .1 .1 .0)
+
+action-requires : tie.Need-action-requires Inv-loop μ-loop
+action-requires c κs = search needs
+
+hold-requires : tie.Need-hold-requires Inv-loop μ-loop
+hold-requires c κs =
+    let s = c .before .before .before .before .before .before .before .before .before .before in
+    let i = c .before .before .before .before .loop in
+    let long : length (now (c .before .action .result)) ≡ s .args .c .dim =
+    ap length (c .before .action .ensures) ∙ row-long (now (s .args .rows)) (s .args .c .horizon) (s .args .c .dim) (s .args .c .from + i .i) (s .pre .2) (s .pre .3) in
+    (s .pre .0, omega (arith, long, s .pre .1), omega (arith, i .inv .1 .1 .1 .1 .0, i .inv .1 .0, i .inv .1 .1 .1 .0, row-fits (i .i) (s .args .c .commit .0 - s .args .c .from) (s .args .c .per .0) (omega (arith, i .inv .1 .0)), s .pre .4))
+
+add-i : tie.Need-add-i Inv-loop μ-loop
+add-i c = omega arith
+
+loop-less : tie.Need-loop-less Inv-loop μ-loop
+loop-less c = omega arith
+
+still : (c : tie.After-slice-known2 Inv-loop μ-loop) → c .before .before .before .before .before .before .before .loop .i < c .before .before .before .before .before .before .before .before .before .before .before .before .before .args .c .commit .0 - c .before .before .before .before .before .before .before .before .before .before .before .before .before .args .c .from
+still c = omega (arith, c .before .before .before .before .before .before .loop-test .taken, c .before .before .before .before .before .before .before .loop .inv .1 .0)
+
+loop-again : tie.Need-loop-again Inv-loop μ-loop
+loop-again c =
+    let s = c .before .before .before .before .before .before .before .before .before .before .before .before .before in
+    let i = c .before .before .before .before .before .before .before .loop in
+    let call = c .before .before .hold in
+    let per = s .args .c .per .0 in
+    (omega (arith, c .before .before .before .before .before .before .loop-test .taken), (i .inv .1 .0, (refl, (call .kept .1 .1 .1 .1 .1 .1 .0 ∙ i .inv .1 .1 .1 .0, (omega (arith, call .ensures .0, i .inv .1 .1 .1 .1 .0, row-more (i .i) per), λ q l h.
+    let t = taskOf (s .args .g) (s .args .w) (s .args .c) q (now (s .args .rows)) in
+    along-at binary64 t l ((i .i + 1) * per) (call .result) _ (i .i * per + per) (sym (row-more (i .i) per))
+    (call .ensures .1 t l (i .i * per) (record { gains = refl; walls = refl; live = refl }) (i .inv .1 .1 .1 .1 .1 q l h)
+    (λ _ j b. aims-row binary64 t (i .i) j (still c) b ∙ sym (c .before .before .before .before .action .ensures))))))))
+
+same-length : tie.Need-same-length Inv-loop μ-loop
+same-length c = c .before .loop .inv .1 .1 .1 .0
+
+returns : tie.Need-returns Inv-loop μ-loop
+returns c =
+    let s = c .before .before .before .before .before .before .before in
+    let i = c .before .loop in
+    let per = s .args .c .per .0 in
+    let e : i .i ≡ s .args .c .commit .0 - s .args .c .from = omega (arith, i .inv .1 .0) in
+    let m : i .i * per ≡ (s .args .c .commit .0 - s .args .c .from) * per = ap (λ (x : ℕ). x * per) e in
+    (omega (arith, i .inv .1 .1 .1 .1 .0, m), λ q l h. along-at binary64 (taskOf (s .args .g) (s .args .w) (s .args .c) q (now (s .args .rows))) l ((s .args .c .commit .0 - s .args .c .from) * per) _ _ (i .i * per) m (i .inv .1 .1 .1 .1 .1 q l h))
+
+pub push-spec : {M : Type 1} → statement M
+push-spec =
+    tie.close
+    (tie.spec
+    Inv-loop
+    μ-loop
+    rows-left-requires
+    cast-left
+    cast-per
+    loop-holds
+    add-action
+    action-requires
+    hold-requires
+    add-i
+    loop-less
+    loop-again
+    same-length
+    returns)

@@ -1,0 +1,5 @@
+pub mod Plant
+pub mod Forecast
+pub mod Rule
+pub mod Worked
+pub mod Of

@@ -1,0 +1,87 @@
+-- The rules at the declared structs, and what the contracts of the run cite.
+use mathlib.Core.Path.{_≡_}
+use mathlib.Core.Bool.{Bool, true, false, _&&_}
+use mathlib.Core.List.{List, [], _∷_}
+use Prim.Native.Nat.{ℕ, _+_, _-_, _*_, _<_}
+use lib.Dec.{leb, eqb}
+use lib.ListN.{length}
+use lib.Ieee.{Float, Format, inf}
+use Rattle.refusal.specs.Order.{if_then_else_}
+use Rattle.fmath.specs.Each.{all, over, every}
+use Rattle.fmath.specs.Least.{least}
+use Rattle.envelope.specs.declared.ControlSteps.{ControlSteps}
+use Rattle.workspace.specs.declared.Workspace.{Workspace}
+use Rattle.workspace.specs.Of.{wallsOf}
+use Rattle.rollout.specs.declared.Moved.{Moved}
+use Rattle.rollout.specs.declared.Course.{Course}
+use Rattle.rollout.specs.declared.Law.{Law}
+use Rattle.rollout.specs.declared.Plant.{Plant}
+use Rattle.rollout.specs.declared.Run.{Run}
+use Rattle.rollout.specs.Plant.{Gains, Motion, State}
+use Rattle.rollout.specs.Forecast.{Forecast, fine, slackAt, reach, reached, marginOf}
+use Rattle.rollout.specs.Rule.{Task, total, aim, after, forecast}
+
+abbrev pub gainsOf : Law → Gains
+gainsOf g = record { kp = g .«k_p»; kv = g .«k_v»; dt = g .dt }
+
+abbrev pub stateOf : Plant → State
+stateOf s = record { p = s .p; v = s .v }
+
+abbrev pub movedFrom : Motion → Moved
+movedFrom m = record { p = m .p; v = m .v }
+
+abbrev pub plantFrom : State → Plant
+plantFrom s = record { p = s .p; v = s .v }
+
+abbrev pub taskOf : Law → Workspace → Course → Plant → List Float → Task
+taskOf g w c s rows = record {
+  gains = gainsOf g;
+  walls = wallsOf w;
+  n = c .live;
+  start = stateOf s;
+  rows = rows;
+  horizon = c .horizon;
+  dim = c .dim;
+  from = c .from;
+  commit = c .commit .0;
+  brake = c .brake .0;
+  per = c .per .0;
+}
+
+-- The run has come along k entries of a forecast: it has written those before the first that isn't finite, and stands after the last written.
+pub record Along (f : Format) (t : Task) (l : List Float) (k : ℕ) (r : Run) (out : List Float) : Type 0 where
+  pub written : r .done ≡ reach (fine (forecast f t)) k
+  pub whole : r .sound ≡ all (fine (forecast f t)) k
+  pub stands : stateOf (r .plant) ≡ after f t (r .done)
+  pub least : r .margin ≡ least (slackAt (forecast f t)) (r .done)
+  pub entries : out ≡ over (slackAt (forecast f t)) l (r .done)
+
+-- .. goes towards one setpoint for some substeps more, if it still runs
+abbrev pub Towards : Format → Task → ℕ → ℕ → List Float → Run → Type 0
+Towards f t k count a r = r .sound ≡ true → (j : ℕ) → j < count → aim f t (k + j) ≡ a
+
+-- the law, the walls and the live axes are the task's
+pub record Under (t : Task) (g : Law) (w : Workspace) (n : ℕ) : Type 0 where
+  pub gains : t .gains ≡ gainsOf g
+  pub walls : t .walls ≡ wallsOf w
+  pub live : t .n ≡ n
+
+-- what a run needs of its course: eight axes at most, within the rows' width; rows that are all there; a substep or more; room for its entries
+unfoldable pub roomy : Course → ℕ → ℕ → Bool
+roomy c len room =
+    every
+    (leb (c .live) 8 ∷ leb (c .live) (c .dim) ∷ leb 1 (c .horizon) ∷ eqb len (c .horizon * c .dim) ∷ leb 1 (c .per .0)
+    ∷ leb ((c .commit .0 - c .from + c .brake .0) * c .per .0) room ∷ [])
+
+-- a run that did not start
+abbrev pub noRun : Plant → Run
+noRun s = record { plant = s; margin = inf false; done = 0; sound = false }
+
+-- the whole run
+abbrev pub runOf : Format → Task → Run
+runOf f t = record {
+  plant = plantFrom (after f t (reached (forecast f t)));
+  margin = least (slackAt (forecast f t)) (reached (forecast f t));
+  done = reached (forecast f t);
+  sound = all (fine (forecast f t)) (total t);
+}

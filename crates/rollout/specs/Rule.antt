@@ -1,0 +1,79 @@
+-- The second-order brake: the committed rows, then the setpoint clamp(p), each held for its substeps; the slack after each substep.
+use Prim.Native.Nat.{ℕ, zero, suc, _+_, _-_, _*_, _/_}
+use mathlib.Core.List.{List}
+use lib.Dec.{ltb}
+use lib.Ieee.{Float, Format}
+use Rattle.refusal.specs.Order.{if_then_else_}
+use Rattle.fmath.specs.Finite.{+0}
+use Rattle.fmath.specs.Checked.{Checked, _>>=_, plus}
+use Rattle.fmath.specs.Norm.{dist}
+use Rattle.chunk.specs.Rule.{rowOf}
+use Rattle.workspace.specs.Rule.{Walls, inward, slack}
+use Rattle.rollout.specs.Plant.{Gains, State, substep}
+use Rattle.rollout.specs.Forecast.{Forecast}
+
+pub record Task : Type 0 where
+  pub gains : Gains
+  pub walls : Walls
+  -- the live axes
+  pub n : ℕ
+  pub start : State
+  -- the chunk: its rows, their number and their width
+  pub rows : List Float
+  pub horizon : ℕ
+  pub dim : ℕ
+  -- the row to start from, the control steps that are committed, those of braking after them, and the substeps of each
+  pub from : ℕ
+  pub commit : ℕ
+  pub brake : ℕ
+  pub per : ℕ
+
+-- the control steps still committed: none if `from` is past them
+abbrev pub rowsLeft : Task → ℕ
+rowsLeft t = t .commit - t .from
+
+-- the substeps under committed rows
+abbrev pub pushes : Task → ℕ
+pushes t = rowsLeft t * t .per
+
+-- N
+abbrev pub total : Task → ℕ
+total t = (rowsLeft t + t .brake) * t .per
+
+-- the row that substep k, counted from 0, goes towards while rows are committed
+abbrev pub rowAt : Task → ℕ → List Float
+rowAt t k = rowOf (t .rows) (t .horizon) (t .dim) (t .from + k / t .per)
+
+module _ (f : Format) (t : Task) where
+  -- the plant after k substeps towards the rows
+  unfoldable pub pushed : ℕ → State
+  pushed zero = t .start
+  pushed (suc k) = substep f (t .gains) (rowAt t k) (t .n) (pushed k) .value
+
+  -- the braking setpoint: clamp(p), with p as the committed rows leave it
+  unfoldable pub setpoint : List Float
+  setpoint = inward (t .walls) (pushed (pushes t) .p) (t .n)
+
+  -- what substep k, counted from 0, goes towards
+  unfoldable pub aim : ℕ → List Float
+  aim k = if ltb k (pushes t) then rowAt t k else setpoint
+
+  -- the plant after k substeps from the given start
+  unfoldable pub after : ℕ → State
+  after zero = t .start
+  after (suc k) = substep f (t .gains) (aim k) (t .n) (after k) .value
+
+  -- entry k: substep k + 1 and its slack
+  unfoldable pub entry : ℕ → Checked Float
+  entry k = do
+    s ← substep f (t .gains) (aim k) (t .n) (after k)
+    slack f (t .walls) (s .p) (t .n)
+
+  -- how far the plant has moved at the end
+  unfoldable pub stop : Checked Float
+  stop = do
+    d ← dist f (after (total t) .p) (t .start .p) (t .n)
+    plus f d +0
+
+  abbrev pub forecast : Forecast
+  forecast = record { count = total t; entry = entry; stop = stop }

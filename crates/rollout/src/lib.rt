@@ -1,0 +1,191 @@
+// The second-order brake: the plant runs through the committed rows and then holds the braking setpoint, and each substep leaves its slack.
+ghost use mathlib.Core.Path.{_≡_};
+ghost use mathlib.Core.Bool.{true};
+ghost use mathlib.Core.List.{List};
+ghost use Prim.Native.Nat.{ℕ, _+_, _-_, _*_, _≤_, _<_};
+ghost use lib.ListN.{length};
+ghost use lib.Ieee.{Float, binary64};
+ghost use Rattle.refusal.specs.Order.{if_then_else_};
+ghost use Rattle.rollout.specs.Plant.{axis, substep};
+ghost use Rattle.rollout.specs.Forecast.{writtenOf};
+ghost use Rattle.rollout.specs.Rule.{Task, forecast};
+ghost use Rattle.rollout.specs.declared.Plant.{Plant};
+ghost use Rattle.rollout.specs.Of.{gainsOf, stateOf, movedFrom, taskOf, Along, Towards, Under, roomy, noRun, runOf};
+use envelope::ControlSteps;
+use envelope::Substeps;
+use workspace::Workspace;
+
+// Where the arm is and how fast it moves, axis by axis.
+pub struct Plant {
+    pub p: [f64; 8],
+    pub v: [f64; 8],
+}
+
+// The gains, and the length of a substep.
+pub struct Law {
+    pub k_p: f64,
+    pub k_v: f64,
+    pub dt: f64,
+}
+
+// The live axes, the shape of the rows, and how far the run goes.
+pub struct Course {
+    pub live: usize,
+    pub horizon: u16,
+    pub dim: u16,
+    pub from: usize,
+    pub commit: ControlSteps,
+    pub brake: ControlSteps,
+    pub per: Substeps,
+}
+
+// How far a run has come: the plant, the least slack, the entries written, and whether each number so far is finite.
+pub struct Run {
+    pub plant: Plant,
+    pub margin: f64,
+    pub done: usize,
+    pub sound: bool,
+}
+
+struct Moved {
+    p: f64,
+    v: f64,
+}
+
+// One axis for one substep, towards a.
+fn axis(g: Law, a: f64, p: f64, v: f64) -> Moved
+    ensures { λ r. ⌜ r ≡ movedFrom (axis binary64 (gainsOf g) a (record { p = p; v = v }) .value) ⌝ }
+{
+    let acc = g.k_p * (a - p) - g.k_v * v;
+    let faster = v + acc * g.dt;
+    Moved {
+        p: p + faster * g.dt,
+        v: faster,
+    }
+}
+
+// The first n axes for one substep.
+fn substep(g: Law, a: &[f64], n: usize, s: Plant) -> Plant
+    requires { ⌜ (n ≤ 8) × (n ≤ length (now a)) ⌝ }
+    ensures { λ r. ⌜ stateOf r ≡ substep binary64 (gainsOf g) (now (a .entry)) n (stateOf s) .value ⌝ }
+{
+    let mut r = s;
+    let mut j = 0;
+    while j < n {
+        let m = axis(g, a[j], r.p[j], r.v[j]);
+        r.p[j] = m.p;
+        r.v[j] = m.v;
+        j += 1;
+    }
+    r
+}
+
+// One substep more, if the run still goes: its slack is written unless a number on the way isn't finite.
+fn advance(g: Law, w: Workspace, n: usize, a: &[f64], run: Run, slack: &mut [f64]) -> Run
+    requires { ⌜ (n ≤ 8) × (n ≤ length (now a)) × (run .done < length (now slack)) ⌝ }
+    ensures { λ r. ⌜ (r .done ≤ run .done + 1) × ((t : Task) (l : List Float) (k : ℕ) → Under t g w n → Along binary64 t l k run (now (slack .entry)) → Towards binary64 t k 1 (now (a .entry)) run → Along binary64 t l (k + 1) r (now (slack .exit))) ⌝ }
+{
+    if !run.sound {
+        return run;
+    }
+    let plant = run.plant;
+    let next = substep(g, a, n, plant);
+    let p = next.p;
+    let gap = workspace::slack(w, p, n);
+    if !gap.sound {
+        return Run {
+            plant,
+            margin: run.margin,
+            done: run.done,
+            sound: false,
+        };
+    }
+    let at = run.done;
+    slack[at] = gap.least;
+    let margin = fmath::min(run.margin, gap.least);
+    Run {
+        plant: next,
+        margin,
+        done: at + 1,
+        sound: true,
+    }
+}
+
+// One setpoint, held for so many substeps.
+fn hold(g: Law, w: Workspace, n: usize, a: &[f64], count: usize, run: Run, slack: &mut [f64]) -> Run
+    requires { ⌜ (n ≤ 8) × (n ≤ length (now a)) × (run .done + count ≤ length (now slack)) ⌝ }
+    ensures { λ r. ⌜ (r .done ≤ run .done + count) × ((t : Task) (l : List Float) (k : ℕ) → Under t g w n → Along binary64 t l k run (now (slack .entry)) → Towards binary64 t k count (now (a .entry)) run → Along binary64 t l (k + count) r (now (slack .exit))) ⌝ }
+{
+    let mut r = run;
+    let mut s = 0;
+    while s < count {
+        let next = advance(g, w, n, a, r, slack);
+        r = next;
+        s += 1;
+    }
+    r
+}
+
+// The control steps still committed from a row on: none past them.
+fn rows_left(commit: ControlSteps, from: usize) -> ControlSteps
+    ensures { λ r. ⌜ r .0 ≡ commit .0 - from ⌝ }
+{
+    if (commit.0 as usize) <= from {
+        return ControlSteps(0);
+    }
+    ControlSteps(commit.0 - from as u16)
+}
+
+// The committed rows, each held for its substeps.
+fn push(g: Law, w: Workspace, c: Course, rows: &[f64], run: Run, slack: &mut [f64]) -> Run
+    requires { ⌜ (c .live ≤ 8) × (c .live ≤ c .dim) × (1 ≤ c .horizon) × (length (now rows) ≡ c .horizon * c .dim) × (run .done + (c .commit .0 - c .from) * c .per .0 ≤ length (now slack)) ⌝ }
+    ensures { λ r. ⌜ (r .done ≤ run .done + (c .commit .0 - c .from) * c .per .0) × ((s : Plant) (l : List Float) → Along binary64 (taskOf g w c s (now (rows .entry))) l 0 run (now (slack .entry)) → Along binary64 (taskOf g w c s (now (rows .entry))) l ((c .commit .0 - c .from) * c .per .0) r (now (slack .exit))) ⌝ }
+{
+    let left = rows_left(c.commit, c.from).0 as usize;
+    let per = c.per.0 as usize;
+    let mut r = run;
+    let mut i = 0;
+    while i < left {
+        let a = chunk::action(rows, c.horizon, c.dim, c.from + i);
+        let next = hold(g, w, c.live, a, per, r, slack);
+        r = next;
+        i += 1;
+    }
+    r
+}
+
+fn roomy(c: Course, len: usize, room: usize) -> bool
+    ensures { λ r. ⌜ r ≡ roomy c len room ⌝ }
+{
+    let n = envelope::substeps_in(rows_left(c.commit, c.from), c.brake, c.per);
+    let shape = (c.horizon as usize) * (c.dim as usize);
+    (c.live <= 8) & (c.live <= c.dim as usize) & (1 <= c.horizon) & (len == shape) & (1 <= c.per.0) & (n <= room)
+}
+
+// The whole run, its slacks written in order up to the first number that isn't finite; none where the course has no room.
+pub fn rollout(g: Law, w: Workspace, c: Course, start: Plant, rows: &[f64], slack: &mut [f64]) -> Run
+    ensures { λ r. ⌜ r ≡ (if roomy c (length (now (rows .entry))) (length (now (slack .entry))) then runOf binary64 (taskOf g w c start (now (rows .entry))) else noRun start) ⌝ }
+    ensures { λ r. ⌜ now (slack .exit) ≡ (if roomy c (length (now (rows .entry))) (length (now (slack .entry))) then writtenOf (forecast binary64 (taskOf g w c start (now (rows .entry)))) (now (slack .entry)) else now (slack .entry)) ⌝ }
+{
+    let inf = 1.0 / 0.0;
+    if !roomy(c, rows.len(), slack.len()) {
+        return Run {
+            plant: start,
+            margin: inf,
+            done: 0,
+            sound: false,
+        };
+    }
+    let first = Run {
+        plant: start,
+        margin: inf,
+        done: 0,
+        sound: true,
+    };
+    let pushed = push(g, w, c, rows, first, slack);
+    let plant = pushed.plant;
+    let p = plant.p;
+    let setpoint = workspace::inward(w, p, c.live);
+    let count = envelope::substeps_in(ControlSteps(0), c.brake, c.per);
+    hold(g, w, c.live, &setpoint, count, pushed, slack)
+}
