@@ -85,7 +85,7 @@ fn limits_of(n: &[f64; 44]) -> Limits
     }
 }
 
-fn brake_of<'a>(n: &'a [f64; 44], c: &'a [u64; 26]) -> BrakeModel
+fn brake_of(n: &[f64; 44], c: &[u64; 26]) -> BrakeModel
     ensures { λ r. ⌜ r ≡ brakeOf (now (n .entry)) (now (c .entry)) ⌝ }
 {
     let kind = brake_kind_of(c[4], n[6], n[7], n[8]);
@@ -102,7 +102,7 @@ fn brake_of<'a>(n: &'a [f64; 44], c: &'a [u64; 26]) -> BrakeModel
     }
 }
 
-fn zone_of<'a>(n: &'a [f64; 44], c: &'a [u64; 26]) -> Contact
+fn zone_of(n: &[f64; 44], c: &[u64; 26]) -> Contact
     ensures { λ r. ⌜ r ≡ zoneOf (now (n .entry)) (now (c .entry)) ⌝ }
 {
     let a0 = to_u8(c[6]);
@@ -159,11 +159,11 @@ fn gate_of(c: &[u64; 26]) -> GateSpec
     GateSpec { n_terms, terms }
 }
 
-fn calibration_of<'a>(
-    n: &'a [f64; 44],
-    c: &'a [u64; 26],
-    center: &'a [f64; 192],
-    scale: &'a [f64; 192],
+fn calibration_of(
+    n: &[f64; 44],
+    c: &[u64; 26],
+    center: &[f64; 192],
+    scale: &[f64; 192],
 ) -> Calibration
     ensures { λ r. ⌜ r ≡ calibrationOf (now (n .entry)) (now (c .entry)) (now (center .entry)) (now (scale .entry)) ⌝ }
 {
@@ -181,11 +181,11 @@ fn calibration_of<'a>(
 // ---- all of it
 
 // The configuration that the arrays stand for.
-pub fn config_of<'a>(
-    n: &'a [f64; 44],
-    c: &'a [u64; 26],
-    center: &'a [f64; 192],
-    scale: &'a [f64; 192],
+pub fn config_of(
+    n: &[f64; 44],
+    c: &[u64; 26],
+    center: &[f64; 192],
+    scale: &[f64; 192],
 ) -> FuseConfig
     ensures { λ r. ⌜ r ≡ configOf (now (n .entry)) (now (c .entry)) (now (center .entry)) (now (scale .entry)) ⌝ }
 {

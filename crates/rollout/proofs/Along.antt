@@ -95,11 +95,10 @@ module _ (f : Format) (t : Task) (k : ℕ) (a : List Float) (s : State) (aims : 
 
 -- one turn of the run, from what its calls give
 module _
-  (f : Format) (t : Task) (l : List Float) (k : ℕ) (r : Run) (out : List Float) (g : Law) (w : Workspace) (n : ℕ) (a : List Float)
-  (u : Under t g w n) (h : Along f t l k r out) (go : Towards f t k 1 a r) (s : r .sound ≡ true) (axes : n ≤ length (r .plant .p))
-  (next : Plant) (e : stateOf next ≡ substep f (gainsOf g) a n (stateOf (r .plant)) .value)
-  (d : Distance) (v : d ≡ distanceFrom (slack f (wallsOf w) (next .p) n)) where
-
+    (f : Format) (t : Task) (l : List Float) (k : ℕ) (r : Run) (out : List Float) (g : Law) (w : Workspace) (n : ℕ) (a : List Float)
+    (u : Under t g w n) (h : Along f t l k r out) (go : Towards f t k 1 a r) (s : r .sound ≡ true) (axes : n ≤ length (r .plant .p))
+    (next : Plant) (e : stateOf next ≡ substep f (gainsOf g) a n (stateOf (r .plant)) .value)
+    (d : Distance) (v : d ≡ distanceFrom (slack f (wallsOf w) (next .p) n)) where
   aims : aim f t k ≡ a
   aims = ap (aim f t) (sym (add-zero k)) ∙ go s 0 (omega arith)
 

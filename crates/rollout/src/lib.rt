@@ -159,11 +159,23 @@ fn roomy(c: Course, len: usize, room: usize) -> bool
 {
     let n = envelope::substeps_in(rows_left(c.commit, c.from), c.brake, c.per);
     let shape = (c.horizon as usize) * (c.dim as usize);
-    (c.live <= 8) & (c.live <= c.dim as usize) & (1 <= c.horizon) & (len == shape) & (1 <= c.per.0) & (n <= room)
+    (c.live <= 8)
+        & (c.live <= c.dim as usize)
+        & (1 <= c.horizon)
+        & (len == shape)
+        & (1 <= c.per.0)
+        & (n <= room)
 }
 
 // The whole run, its slacks written in order up to the first number that isn't finite; none where the course has no room.
-pub fn rollout(g: Law, w: Workspace, c: Course, start: Plant, rows: &[f64], slack: &mut [f64]) -> Run
+pub fn rollout(
+    g: Law,
+    w: Workspace,
+    c: Course,
+    start: Plant,
+    rows: &[f64],
+    slack: &mut [f64],
+) -> Run
     ensures { λ r. ⌜ r ≡ (if roomy c (length (now (rows .entry))) (length (now (slack .entry))) then runOf binary64 (taskOf g w c start (now (rows .entry))) else noRun start) ⌝ }
     ensures { λ r. ⌜ now (slack .exit) ≡ (if roomy c (length (now (rows .entry))) (length (now (slack .entry))) then writtenOf (forecast binary64 (taskOf g w c start (now (rows .entry)))) (now (slack .entry)) else now (slack .entry)) ⌝ }
 {

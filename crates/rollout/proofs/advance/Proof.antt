@@ -29,10 +29,12 @@ slack-requires c κs = search needs
 
 returns-2 : tie.Need-returns-2
 returns-2 c =
-    let s = c .before .before .before .before .before .before .before .before .before .before in
-    (omega arith, λ t l k u h go.
-    turn-fails binary64 t l k (s .args .run) (now (s .args .slack)) (s .args .g) (s .args .w) (s .args .n) (now (s .args .a)) u h go (not-false _ (c .before .before .before .before .before .before .if1 .left)) (axes s)
-    (c .before .before .before .before .substep .result) (c .before .before .before .before .substep .ensures) (c .before .before .slack .result) (c .before .before .slack .ensures) (not-true _ (c .if2 .taken)))
+    let s = c .before .before .before .before .before .before .before .before .before .before in (
+      omega arith,
+      λ t l k u h go.
+          turn-fails binary64 t l k (s .args .run) (now (s .args .slack)) (s .args .g) (s .args .w) (s .args .n) (now (s .args .a)) u h go (not-false _ (c .before .before .before .before .before .before .if1 .left)) (axes s)
+          (c .before .before .before .before .substep .result) (c .before .before .before .before .substep .ensures) (c .before .before .slack .result) (c .before .before .slack .ensures) (not-true _ (c .if2 .taken)),
+    )
 
 mul-slack : tie.Need-mul-slack
 mul-slack c = search needs
@@ -51,10 +53,12 @@ same-length c = search needs
 
 returns-3 : tie.Need-returns-3
 returns-3 c =
-    let s = c .before .before .before .before .before .before .before .before .before .before .before in
-    (omega arith, λ t l k u h go.
-    turn-advances binary64 t l k (s .args .run) (now (s .args .slack)) (s .args .g) (s .args .w) (s .args .n) (now (s .args .a)) u h go (not-false _ (c .before .before .before .before .before .before .before .if1 .left)) (axes s)
-    (c .before .before .before .before .before .substep .result) (c .before .before .before .before .before .substep .ensures) (c .before .before .before .slack .result) (c .before .before .before .slack .ensures) (not-false _ (c .before .if2 .left)) _ (c .min .ensures))
+    let s = c .before .before .before .before .before .before .before .before .before .before .before in (
+      omega arith,
+      λ t l k u h go.
+          turn-advances binary64 t l k (s .args .run) (now (s .args .slack)) (s .args .g) (s .args .w) (s .args .n) (now (s .args .a)) u h go (not-false _ (c .before .before .before .before .before .before .before .if1 .left)) (axes s)
+          (c .before .before .before .before .before .substep .result) (c .before .before .before .before .before .substep .ensures) (c .before .before .before .slack .result) (c .before .before .before .slack .ensures) (not-false _ (c .before .if2 .left)) _ (c .min .ensures),
+    )
 
 pub advance-spec : {M : Type 1} → statement M
 advance-spec = tie.close (tie.spec returns substep-requires slack-requires returns-2 mul-slack slice-write-slack min-requires add-t14 same-length returns-3)

@@ -41,11 +41,15 @@ loop-again c =
     let i = c .before .before .before .before .before .loop in
     let call = c .before .before .advance in (
       omega arith,
-      (call .kept .1 .1 .1 .1 .1 .0 ∙ i .inv .1 .0,
-      (omega (arith, call .ensures .0, i .inv .1 .1 .0),
-      λ t l k u h go.
-          along-sum binary64 t l k _ _ (i .s) 1
-          (call .ensures .1 t l (k + i .s) u (i .inv .1 .1 .1 t l k u h go) (towards-next binary64 t l k (s .args .count) (i .s) (now (s .args .a)) (s .args .run) (i .r) (now (s .args .slack)) (i .slack) h go (i .inv .1 .1 .1 t l k u h go) (omega arith))))),
+      (
+        call .kept .1 .1 .1 .1 .1 .0 ∙ i .inv .1 .0,
+        (
+          omega (arith, call .ensures .0, i .inv .1 .1 .0),
+          λ t l k u h go.
+              along-sum binary64 t l k _ _ (i .s) 1
+              (call .ensures .1 t l (k + i .s) u (i .inv .1 .1 .1 t l k u h go) (towards-next binary64 t l k (s .args .count) (i .s) (now (s .args .a)) (s .args .run) (i .r) (now (s .args .slack)) (i .slack) h go (i .inv .1 .1 .1 t l k u h go) (omega arith))),
+        ),
+      ),
     )
 
 same-length : tie.Need-same-length Inv-loop μ-loop

@@ -42,11 +42,19 @@ loop-holds : tie.Need-loop-holds Inv-loop μ-loop
 loop-holds c =
     let s = c .before .before .before .before .before in (
       omega arith,
-      (c .before .before .rows-left .ensures,
-      (refl,
-      (refl,
-      (omega (arith, zero-mul (s .args .c .per .0)),
-      λ q l h. along-at binary64 (taskOf (s .args .g) (s .args .w) (s .args .c) q (now (s .args .rows))) l (0 * s .args .c .per .0) (s .args .run) (now (s .args .slack)) 0 (sym (zero-mul (s .args .c .per .0))) h)))),
+      (
+        c .before .before .rows-left .ensures,
+        (
+          refl,
+          (
+            refl,
+            (
+              omega (arith, zero-mul (s .args .c .per .0)),
+              λ q l h. along-at binary64 (taskOf (s .args .g) (s .args .w) (s .args .c) q (now (s .args .rows))) l (0 * s .args .c .per .0) (s .args .run) (now (s .args .slack)) 0 (sym (zero-mul (s .args .c .per .0))) h,
+            ),
+          ),
+        ),
+      ),
     )
 
 add-action : tie.Need-add-action Inv-loop μ-loop
@@ -77,12 +85,26 @@ loop-again c =
     let s = c .before .before .before .before .before .before .before .before .before .before .before .before .before in
     let i = c .before .before .before .before .before .before .before .loop in
     let call = c .before .before .hold in
-    let per = s .args .c .per .0 in
-    (omega (arith, c .before .before .before .before .before .before .loop-test .taken), (i .inv .1 .0, (refl, (call .kept .1 .1 .1 .1 .1 .1 .0 ∙ i .inv .1 .1 .1 .0, (omega (arith, call .ensures .0, i .inv .1 .1 .1 .1 .0, row-more (i .i) per), λ q l h.
-    let t = taskOf (s .args .g) (s .args .w) (s .args .c) q (now (s .args .rows)) in
-    along-at binary64 t l ((i .i + 1) * per) (call .result) _ (i .i * per + per) (sym (row-more (i .i) per))
-    (call .ensures .1 t l (i .i * per) (record { gains = refl; walls = refl; live = refl }) (i .inv .1 .1 .1 .1 .1 q l h)
-    (λ _ j b. aims-row binary64 t (i .i) j (still c) b ∙ sym (c .before .before .before .before .action .ensures))))))))
+    let per = s .args .c .per .0 in (
+      omega (arith, c .before .before .before .before .before .before .loop-test .taken),
+      (
+        i .inv .1 .0,
+        (
+          refl,
+          (
+            call .kept .1 .1 .1 .1 .1 .1 .0 ∙ i .inv .1 .1 .1 .0,
+            (
+              omega (arith, call .ensures .0, i .inv .1 .1 .1 .1 .0, row-more (i .i) per),
+              λ q l h.
+                  let t = taskOf (s .args .g) (s .args .w) (s .args .c) q (now (s .args .rows)) in
+                  along-at binary64 t l ((i .i + 1) * per) (call .result) _ (i .i * per + per) (sym (row-more (i .i) per))
+                  (call .ensures .1 t l (i .i * per) (record { gains = refl; walls = refl; live = refl }) (i .inv .1 .1 .1 .1 .1 q l h)
+                  (λ _ j b. aims-row binary64 t (i .i) j (still c) b ∙ sym (c .before .before .before .before .action .ensures))),
+            ),
+          ),
+        ),
+      ),
+    )
 
 same-length : tie.Need-same-length Inv-loop μ-loop
 same-length c = c .before .loop .inv .1 .1 .1 .0

@@ -73,9 +73,13 @@ loop-again c =
     let s = c .before .before .before .before .before .before .before .args in
     let m = c .axis .result in (
       omega arith,
-      (length-set (l .r .p) (l .j) (m .p) ∙ l .inv .1 .0,
-      (length-set (l .r .v) (l .j) (m .v) ∙ l .inv .1 .1 .0,
-      substep-more binary64 (gainsOf (s .g)) (now (s .a)) (stateOf (s .s)) (l .j) (stateOf (l .r)) (motionOf m) (l .inv .1 .1 .1) (ap motionOf (c .axis .ensures)))),
+      (
+        length-set (l .r .p) (l .j) (m .p) ∙ l .inv .1 .0,
+        (
+          length-set (l .r .v) (l .j) (m .v) ∙ l .inv .1 .1 .0,
+          substep-more binary64 (gainsOf (s .g)) (now (s .a)) (stateOf (s .s)) (l .j) (stateOf (l .r)) (motionOf m) (l .inv .1 .1 .1) (ap motionOf (c .axis .ensures)),
+        ),
+      ),
     )
 
 returns : tie.Need-returns Inv-loop μ-loop
