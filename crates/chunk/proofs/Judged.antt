@@ -1,7 +1,7 @@
 -- Sizes that are judged first: where they are refused the number is theirs, and where they are accepted it is that of the rows' numbers.
 use Prim.Native.Nat.{ℕ, _*_, _≤_, _<_}
 use mathlib.Core.Path.{_≡_, refl, sym, _∙_}
-use mathlib.Core.Bool.{Bool, true, false, not, _||_, false≢true}
+use mathlib.Core.Bool.{Bool, true, false, not, _||_}
 use mathlib.Core.List.{List, [], _∷_, _++_}
 use native.Mathlib.Nat.{mul-le-mul, pos-of-ne-zero}
 use native.Mathlib.Omega.{arith}
@@ -10,6 +10,7 @@ use lib.Dec.{eqb, ltb}
 use lib.Ieee.{Float}
 use lib.ListN.{length}
 use Rattle.fmath.specs.Finite.{allFinite}
+use Rattle.fmath.proofs.Each.{neither}
 use Rattle.refusal.specs.Order.{Judged, _when_, empty, tooLong, tooWide, execExceedsHorizon, lenMismatch, notFinite, refusal, if_then_else_}
 use Rattle.chunk.specs.Refusals.{chunkReasons, lentReasons}
 
@@ -58,10 +59,6 @@ none-apply false false true d e z = absurd (omega arith)
 none-apply false false false true e z = absurd (omega arith)
 none-apply false false false false true z = absurd (omega arith)
 none-apply false false false false false z = (refl, refl, refl, refl, refl)
-
-neither : (a b : Bool) → a || b ≡ false → (a ≡ false) × (b ≡ false)
-neither true b z = absurd (false≢true (sym z))
-neither false b z = (refl, z)
 
 above : (n : ℕ) → eqb n 0 ≡ false → 0 < n
 above n f = let k : n ≡ 0 → ⊥ = eqb-false n 0 f in pos-of-ne-zero k

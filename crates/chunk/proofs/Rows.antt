@@ -1,7 +1,7 @@
 -- Laws of a chunk's rows: a place in them fits, which row there is, and what stands in it.
 use Prim.Native.Nat.{ℕ, _+_, _-_, _*_, _^_, _≤_, _<_, min}
-use mathlib.Core.Path.{_≡_, refl, sym, ap, ap₂, _∙_, subst}
-use mathlib.Core.Bool.{Bool, true, false}
+use mathlib.Core.Path.{_≡_, sym, ap₂, _∙_, subst}
+use mathlib.Core.Bool.{true, false}
 use mathlib.Core.List.{List, []}
 use native.Mathlib.Nat.{lt-of-le-of-lt, mul-le-mul-left, mul-le-mul-right, suc-mul, mul-lt-mul-of-pos-right, le-of-lt}
 use native.Mathlib.Omega.{arith}

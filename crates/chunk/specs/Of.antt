@@ -1,17 +1,19 @@
 -- The rules at the declared structs.
 use Prim.Native.Nat.{ℕ}
+use mathlib.Core.Path.{_≡_}
 use mathlib.Core.Bool.{Bool, true, false}
 use mathlib.Core.List.{List}
 use lib.Dec.{eqb}
 use lib.Ieee.{Float}
 use lib.ListN.{length, replicate}
 use lib.Seq.{paste}
-use denote.Ref.{RefT}
+use denote.Ref.{RefT, now}
 use Rattle.fmath.specs.Finite.{+0}
 use Rattle.refusal.specs.Order.{refusal, if_then_else_}
 use Rattle.chunk.specs.declared.ChunkBuf.{ChunkBuf}
 use Rattle.chunk.specs.declared.ChunkView.{ChunkView}
 use Rattle.chunk.specs.declared.Filled.{Filled}
+use Rattle.chunk.specs.Rule.{heldSize, heldRows}
 use Rattle.chunk.specs.Refusals.{lentReasons, heldReasons}
 
 -- a buffer that holds no chunk yet
@@ -26,6 +28,10 @@ heldOf b s t h d e l = record { «data» = paste (b .«data») 0 l (length l); s
 unfoldable pub fillOf : ChunkBuf → ℕ → ℕ → ℕ → ℕ → ℕ → List Float → Filled
 fillOf b s t h d e l =
     if eqb (refusal (lentReasons l h d e)) 0 then record { number = 0; buf = heldOf b s t h d e l } else record { number = refusal (lentReasons l h d e); buf = b }
+
+-- the same for a view
+abbrev pub copyOf : ChunkBuf → ChunkView → Filled
+copyOf b v = fillOf b (v .seq) (v .«t_emit») (v .horizon) (v .dim) (v .«exec_steps») (now (v .«data»))
 
 -- the buffer with no chunk held; all else stays
 abbrev pub clearedOf : ChunkBuf → ChunkBuf
@@ -42,3 +48,17 @@ heldRefusalOf b = if b .filled then refusal (heldReasons (b .«data») (b .horiz
 -- the view of lent rows
 abbrev pub viewOf : ℕ → ℕ → ℕ → ℕ → ℕ → RefT (List Float) → ChunkView
 viewOf s t h d e r = record { seq = s; «t_emit» = t; horizon = h; dim = d; «exec_steps» = e; «data» = r }
+
+-- a view that shows what a buffer holds: sizes 0 and no rows where no chunk is held
+abbrev pub Shows : ChunkView → ℕ → ℕ → ℕ → ℕ → ℕ → Bool → List Float → Type 0
+Shows v s t h d e filled l =
+    (v .seq ≡ s)
+    × ((v .«t_emit» ≡ t)
+    × ((v .horizon ≡ heldSize h filled)
+    × ((v .dim ≡ heldSize d filled)
+    × ((v .«exec_steps» ≡ heldSize e filled)
+    × (now (v .«data») ≡ heldRows l h d filled)))))
+
+-- .. of a buffer itself
+abbrev pub ShowsHeld : ChunkView → ChunkBuf → Type 0
+ShowsHeld v b = Shows v (b .seq) (b .«t_emit») (b .horizon) (b .dim) (b .«exec_steps») (b .filled) (b .«data»)

@@ -1,6 +1,6 @@
 -- What a chunk is refused for: horizon h, dim d, executed steps e.
 use Prim.Native.Nat.{ℕ, _*_}
-use mathlib.Core.Bool.{Bool, _||_, not}
+use mathlib.Core.Bool.{_||_, not}
 use mathlib.Core.List.{List, [], _∷_, _++_}
 use lib.Dec.{eqb, ltb}
 use lib.Ieee.{Float}
@@ -11,17 +11,17 @@ use Rattle.refusal.specs.Order.{Judged, _when_, empty, tooLong, tooWide, execEx
 -- the reasons 5 to 9, for rows of n numbers
 abbrev pub chunkReasons : ℕ → ℕ → ℕ → ℕ → List Judged
 chunkReasons h d e n =
-    (empty when (eqb h 0 || eqb d 0))
-    ∷ (tooLong when ltb 64 h)
-    ∷ (tooWide when ltb 8 d)
-    ∷ (execExceedsHorizon when ltb h e)
-    ∷ (lenMismatch when not (eqb n (h * d)))
+    empty when (eqb h 0 || eqb d 0)
+    ∷ tooLong when ltb 64 h
+    ∷ tooWide when ltb 8 d
+    ∷ execExceedsHorizon when ltb h e
+    ∷ lenMismatch when not (eqb n (h * d))
     ∷ []
 
 -- .. and 12, for the rows themselves
 abbrev pub lentReasons : List Float → ℕ → ℕ → ℕ → List Judged
-lentReasons l h d e = chunkReasons h d e (length l) ++ ((notFinite when not (allFinite l (length l))) ∷ [])
+lentReasons l h d e = chunkReasons h d e (length l) ++ (notFinite when not (allFinite l (length l)) ∷ [])
 
 -- the same for the first h x d numbers of a buffer
 abbrev pub heldReasons : List Float → ℕ → ℕ → ℕ → List Judged
-heldReasons l h d e = chunkReasons h d e (h * d) ++ ((notFinite when not (allFinite l (h * d))) ∷ [])
+heldReasons l h d e = chunkReasons h d e (h * d) ++ (notFinite when not (allFinite l (h * d)) ∷ [])

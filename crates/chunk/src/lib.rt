@@ -4,9 +4,9 @@ ghost use Prim.Native.Nat.{min, _≤_};
 ghost use lib.ListN.{length};
 ghost use lib.Seq.{paste};
 ghost use Rattle.refusal.specs.Order.{refusal};
-ghost use Rattle.chunk.specs.Rule.{rowOf, rowSet, heldRows};
+ghost use Rattle.chunk.specs.Rule.{rowOf, rowSet, heldSize, heldRows};
 ghost use Rattle.chunk.specs.Refusals.{chunkReasons, lentReasons};
-ghost use Rattle.chunk.specs.Of.{newChunk, fillOf, clearedOf, isFilledOf, heldRefusalOf, viewOf};
+ghost use Rattle.chunk.specs.Of.{newChunk, fillOf, copyOf, clearedOf, isFilledOf, heldRefusalOf, viewOf, Shows, ShowsHeld};
 use refusal::Refusal;
 
 // The numbers of a chunk in row-major order: row i starts at i x dim.
@@ -131,6 +131,13 @@ impl ChunkBuf {
         }
     }
 
+    // `fill`, from a view.
+    pub fn copy_from<'a>(self, v: ChunkView<'a>) -> Filled
+        ensures { λ r. ⌜ r ≡ copyOf self (v .entry) ⌝ }
+    {
+        self.fill(v.seq, v.t_emit, v.horizon, v.dim, v.exec_steps, v.data)
+    }
+
     // The chunk is held no more; its numbers stay.
     pub fn clear(mut self) -> ChunkBuf
         ensures { λ r. ⌜ r ≡ clearedOf self ⌝ }
@@ -164,6 +171,21 @@ impl ChunkBuf {
         } else {
             Refusal::NOT_FINITE
         }
+    }
+
+    // The view of the held chunk, as `view_held` gives it.
+    pub fn view<'a>(&'a self) -> ChunkView<'a>
+        ensures { λ r. ⌜ ShowsHeld r (now (self .entry)) ⌝ }
+    {
+        view_held(
+            self.seq,
+            self.t_emit,
+            self.horizon,
+            self.dim,
+            self.exec_steps,
+            self.filled,
+            &self.data,
+        )
     }
 }
 
@@ -242,6 +264,13 @@ pub fn held_rows(data: &[f64], horizon: u16, dim: u16, filled: bool) -> &[f64]
     }
 }
 
+// A size of a held chunk: 0 where none is held.
+fn held_size(n: u16, filled: bool) -> u16
+    ensures { λ r. ⌜ r ≡ heldSize n filled ⌝ }
+{
+    if filled { n } else { 0 }
+}
+
 // The view of lent rows: the caller's numbers, none copied.
 pub fn view<'a>(
     seq: u32,
@@ -279,11 +308,21 @@ pub fn action(data: &[f64], horizon: u16, dim: u16, i: usize) -> &[f64]
     view(0, 0, horizon, dim, 0, data).action(i)
 }
 
-impl ChunkBuf {
-    // `fill`, from a view.
-    pub fn copy_from<'a>(self, v: ChunkView<'a>) -> Filled
-        ensures { λ r. ⌜ r ≡ fillOf self (v .entry .seq) (v .entry .«t_emit») (v .entry .horizon) (v .entry .dim) (v .entry .«exec_steps») (now (v .entry .«data»)) ⌝ }
-    {
-        self.fill(v.seq, v.t_emit, v.horizon, v.dim, v.exec_steps, v.data)
-    }
+// The view of what a buffer holds: sizes 0 and no rows where no chunk is held.
+pub fn view_held<'a>(
+    seq: u32,
+    t_emit: u32,
+    horizon: u16,
+    dim: u16,
+    exec_steps: u16,
+    filled: bool,
+    data: &'a [f64],
+) -> ChunkView<'a>
+    ensures { λ r. ⌜ Shows r seq «t_emit» horizon dim «exec_steps» filled (now («data» .entry)) ⌝ }
+{
+    let h = held_size(horizon, filled);
+    let d = held_size(dim, filled);
+    let e = held_size(exec_steps, filled);
+    let rows = held_rows(data, horizon, dim, filled);
+    view(seq, t_emit, h, d, e, rows)
 }

@@ -9,7 +9,7 @@ use native.Mathlib.Numerals.{add-one}
 use native.Mathlib.Omega.{arith}
 use borrow.Author.Count.{below-more}
 use lib.ListN.{length, getD, take, set, length-set, List·getD-eq-default}
-use lib.Seq.{take-suc-set, take-all, set-out}
+use lib.Seq.{take-suc-set, take-all, set-out, getD-set-same, getD-set-other}
 use lib.Ieee.{Float, nan}
 use Rattle.fmath.specs.Each.{at, all, some, every, every-from, table, over}
 
@@ -31,6 +31,11 @@ and-right false b e = absurd (false≢true e)
 pub and-false : (a : Bool) → a && false ≡ false
 and-false true = refl
 and-false false = refl
+
+-- where neither of two tests holds
+pub neither : (a b : Bool) → a || b ≡ false → (a ≡ false) × (b ≡ false)
+neither true b e = absurd (false≢true (sym e))
+neither false b e = (refl, e)
 
 -- ---- all
 
@@ -146,3 +151,18 @@ over-cut g l (suc n) = go (decLe (length l) n) (over-cut g l n)
         let k : min (suc n) (length l) ≡ min n (length l) = omega arith in
         rw k (set-out (over g l n) n (g n) (rw (length-over g l n) h) ∙ e)
     go (no h) e = let k : min (suc n) (length l) ≡ suc n = omega (arith, lt-of-not-le h) in rw k
+
+-- what was put, and what was kept
+pub over-at : (g : ℕ → Float) (l : List Float) (n j : ℕ) → j < n → j < length l → at (over g l n) j ≡ g j
+unfolding over
+over-at g l zero j h b = absurd (omega arith)
+over-at g l (suc n) j h b =
+    below-more (λ (i : ℕ). i < length l → at (set (over g l n) n (g n)) i ≡ g i) n
+    (λ i c d. let e : i ≡ n → ⊥ = λ z. omega arith in getD-set-other (over g l n) n i (g n) nan e ∙ over-at g l n i c d)
+    (λ d. getD-set-same (over g l n) n (g n) nan (rw (length-over g l n) d))
+    j (omega arith) b
+
+pub over-keeps : (g : ℕ → Float) (l : List Float) (n j : ℕ) → n ≤ j → at (over g l n) j ≡ at l j
+unfolding over
+over-keeps g l zero j h = refl
+over-keeps g l (suc n) j h = let e : j ≡ n → ⊥ = λ z. omega arith in getD-set-other (over g l n) n j (g n) nan e ∙ over-keeps g l n j (omega arith)

@@ -4,5 +4,7 @@ pub mod Sums
 pub mod Told
 pub mod Judged
 pub mod Ordered
+pub mod Sign
 pub mod Clamping
 pub mod Extremes
+pub mod Copy

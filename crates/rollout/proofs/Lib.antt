@@ -3,3 +3,4 @@ pub mod Reach
 pub mod Along
 pub mod Rows
 pub mod Room
+pub mod Promises

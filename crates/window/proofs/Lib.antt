@@ -1,2 +1,6 @@
 pub mod Shift
 pub mod LastPushes
+pub mod TrailJudged
+pub mod TrailTold
+pub mod Ranges
+pub mod LastSamples

@@ -1,6 +1,6 @@
 -- A number of binary digits moved up by one: its halves, its lowest digit, and what drops out at the top.
 use Prim.Native.Nat.{ℕ, _+_, _*_, _/_, _%_, _^_, _<_}
-use mathlib.Core.Path.{_≡_, refl, sym, ap, ap₂, _∙_}
+use mathlib.Core.Path.{_≡_, sym, ap, ap₂, _∙_}
 use mathlib.Core.Bool.{Bool, true, false}
 use native.Mathlib.Nat.{mul-add-mod-self-right, div-add-mod', add-mul, add-assoc, mul-right-comm}
 use lib.Dec.{lit<}

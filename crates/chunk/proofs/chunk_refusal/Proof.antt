@@ -1,5 +1,4 @@
 -- `chunk::chunk_refusal` meets its contract, by the tests that led to each number.
-use Prim.Native.Nat.{_<_, _^_}
 use native.Mathlib.Nat.{lt-of-le-of-lt, le-of-lt}
 use borrow.Author.Needs.{needs}
 use borrow.Author.Tests.{lt-ltb, le-ltb, eq-eqb, ne-eqb}

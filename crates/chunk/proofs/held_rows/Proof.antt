@@ -1,7 +1,7 @@
 -- `chunk::held_rows` meets its contract, by its one test.
 use Prim.Native.Nat.{_*_}
 use native.Mathlib.Nat.{lt-of-le-of-lt, le-of-lt}
-use mathlib.Core.Path.{_≡_, sym}
+use mathlib.Core.Path.{sym}
 use borrow.Author.Needs.{needs}
 use borrow.Author.Tests.{leb-true}
 use lib.Dec.{leb}

@@ -1,5 +1,5 @@
 -- `chunk::lent_refusal` meets its contract: the sizes are judged first, then the numbers.
-use mathlib.Core.Path.{_≡_, sym, _∙_}
+use mathlib.Core.Path.{sym, _∙_}
 use borrow.Author.Needs.{needs}
 use lib.ListN.{length}
 use Rattle.fmath.specs.Finite.{allFinite}

@@ -1,11 +1,11 @@
 -- `chunk::over` meets its contract: the loop has copied the first i numbers.
-use Prim.Native.Nat.{ℕ, _+_, _-_, _≤_}
+use Prim.Native.Nat.{_-_, _≤_}
 use mathlib.Core.Path.{_≡_, refl}
 use native.Mathlib.Omega.{arith}
 use borrow.Author.Needs.{needs}
 use lib.ListN.{length, length-set}
 use lib.Seq.{paste, paste-zero}
-use Rattle.chunk.proofs.Copy.{copy-front}
+use Rattle.fmath.proofs.Copy.{copy-front}
 use Rattle.chunk.proofs.over.Statement.{statement}
 use Rattle.chunk.proofs.over.Tie as tie
 

@@ -1,12 +1,12 @@
 -- `chunk::set_row` meets its contract, by its ways out: nothing is written where there is no such row; else the loop has copied the first c numbers.
-use Prim.Native.Nat.{ℕ, _+_, _-_, _*_, _≤_}
+use Prim.Native.Nat.{ℕ, _-_, _*_, _≤_}
 use mathlib.Core.Path.{_≡_, refl, ap, _∙_}
 use native.Mathlib.Nat.{lt-of-le-of-lt, le-of-lt}
 use native.Mathlib.Omega.{arith}
 use borrow.Author.Needs.{needs}
 use lib.ListN.{length, length-set}
 use lib.Seq.{paste, paste-zero}
-use Rattle.chunk.proofs.Copy.{copy-more}
+use Rattle.fmath.proofs.Copy.{copy-more}
 use Rattle.chunk.proofs.Rows.{place-small, kept-without-rows, kept-past, written-row}
 use Rattle.chunk.proofs.set_row.Statement.{statement}
 use Rattle.chunk.proofs.set_row.Tie as tie

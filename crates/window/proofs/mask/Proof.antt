@@ -1,25 +1,19 @@
 -- `window::mask` meets its contract: at a length below 64 the power of two fits 64 bits.
 use Prim.Native.Nat.{ℕ, _*_, _-_, _%_, _^_, _≤_, _<_}
-use mathlib.Core.Path.{_≡_, refl, sym, ap, _∙_}
-use mathlib.Core.Bool.{Bool, true, false, _||_, false≢true}
+use mathlib.Core.Path.{_≡_, ap, _∙_}
+use mathlib.Core.Bool.{false, _||_}
 use native.Mathlib.Nat.{one-mul, mod-eq-of-lt}
 use native.Mathlib.Omega.{arith}
 use borrow.Author.Needs.{needs}
 use borrow.Author.Tests.{ltb-false}
 use lib.Dec.{ltb}
 use lib.Pow.{pow-lt, pow-pos}
-use Rattle.window.specs.declared.Masked.the-variants.{Mask}
-use Rattle.window.specs.Rule.{maskFor}
-use Rattle.window.specs.Answer.{maskOf}
+use Rattle.fmath.proofs.Each.{neither}
 use Rattle.window.proofs.mask.Statement.{statement}
 use Rattle.window.proofs.mask.Tie as tie
 
-second : (a b : Bool) → a || b ≡ false → b ≡ false
-second true b e = absurd (false≢true (sym e))
-second false b e = e
-
 small : (n : ℕ) → ltb n 1 || ltb 63 n ≡ false → n < 64
-small n e = let h : n ≤ 63 = ltb-false 63 n (second (ltb n 1) (ltb 63 n) e) in omega arith
+small n e = let h : n ≤ 63 = ltb-false 63 n (neither (ltb n 1) (ltb 63 n) e .1) in omega arith
 
 fits : (n : ℕ) → n < 64 → 1 * 2 ^ n % 2 ^ 64 ≡ 2 ^ n
 fits n h = ap (λ (x : ℕ). x % 2 ^ 64) (one-mul (2 ^ n)) ∙ mod-eq-of-lt (pow-lt h)

@@ -1,6 +1,6 @@
 -- `ChunkBuf::fill` meets its contract: by the lent chunk's number, and an accepted chunk fits the buffer.
 use Prim.Native.Nat.{ℕ}
-use mathlib.Core.Path.{_≡_, refl, sym, ap, _∙_}
+use mathlib.Core.Path.{_≡_, sym, ap, _∙_}
 use mathlib.Core.Bool.{true}
 use mathlib.Core.List.{List}
 use borrow.Author.Needs.{needs}

@@ -1,6 +1,6 @@
 -- `ChunkBuf::held_refusal` meets its contract: nothing is judged where no chunk is held, else the sizes first, then the numbers.
-use Prim.Native.Nat.{_*_, _^_}
-use mathlib.Core.Path.{_≡_, sym, _∙_}
+use Prim.Native.Nat.{_*_}
+use mathlib.Core.Path.{sym, _∙_}
 use native.Mathlib.Nat.{lt-of-le-of-lt, le-of-lt}
 use borrow.Author.Needs.{needs}
 use borrow.Author.Tests.{not-true, not-false}

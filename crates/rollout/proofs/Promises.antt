@@ -1,0 +1,247 @@
+-- What a forecast promises, as theorems about the rule, over the format.
+use mathlib.Core.Path.{_≡_, refl, sym, ap, _∙_, subst}
+use mathlib.Core.Bool.{Bool, true, false, not, _&&_}
+use mathlib.Core.List.{List}
+use Prim.Native.Nat.{ℕ, zero, suc, _+_, _-_, _*_, _≤_, _<_}
+use native.Mathlib.Nat.{lt-of-not-le}
+use native.Mathlib.Decide.{decLe}
+use native.Mathlib.Omega.{arith}
+use borrow.Author.Tests.{not-true}
+use lib.Dec.{T, ltb}
+use lib.ListN.{length}
+use lib.Ieee.{Float, Format, nan, inf, fin, lt, le, fits, sub, isNan}
+use Rattle.refusal.specs.Order.{if_then_else_}
+use Rattle.fmath.specs.Each.{at, all, over}
+use Rattle.fmath.specs.Finite.{finite, +0}
+use Rattle.fmath.specs.Least.{lesser, least}
+use Rattle.fmath.specs.Checked.{Checked, leastOf}
+use Rattle.fmath.proofs.Each.{all-at, all-fails, and-left, and-right, over-at, over-keeps}
+use Rattle.fmath.proofs.Ordered.{Real, finite-real, le-not-above, lt-not-below, lt-irrefl}
+use Rattle.fmath.proofs.Extremes.{least-real, least-bounds, least-attained, lesser-left, lesser-right, lesser-real}
+use Rattle.fmath.proofs.Absorbing.{fine-sub-left, fine-sub-right}
+use Rattle.fmath.proofs.Sign.{difference-below-zero}
+use Rattle.workspace.specs.Rule.{Walls, between, gap, slack, inward}
+use Rattle.rollout.specs.Plant.{State, substep}
+use Rattle.rollout.specs.Forecast.{Forecast, fine, slackAt, reach, reached, placeOf, marginOf, feasibleOf, writtenOf}
+use Rattle.rollout.specs.Rule.{Task, rowsLeft, pushes, rowAt, total, pushed, setpoint, aim, after, entry, stop, forecast}
+use Rattle.rollout.proofs.Reach.{reach-whole, reach-le}
+
+infinite-not-negative : lt (inf false) +0 ≡ false
+unfolding lt
+infinite-not-negative = refl
+
+-- ---- of any forecast
+
+module _ (t : Forecast) where
+  -- every computed number is finite
+  abbrev pub Whole : Type 0
+  Whole = all (fine t) (t .count) ≡ true
+
+  pub whole-reached : Whole → reached t ≡ t .count
+  whole-reached h = reach-whole (fine t) (t .count) h
+
+  -- the entries before the failing place are written in order, and all others are kept
+  pub written-in-order : (l : List Float) (k : ℕ) → k < reached t → k < length l → at (writtenOf t l) k ≡ slackAt t k
+  unfolding writtenOf
+  written-in-order l k h b = over-at (slackAt t) l (reached t) k h b
+
+  pub others-kept : (l : List Float) (k : ℕ) → reached t ≤ k → at (writtenOf t l) k ≡ at l k
+  unfolding writtenOf
+  others-kept l k h = over-keeps (slackAt t) l (reached t) k h
+
+  -- the first place with a number that isn't finite is named, with exactly the entries before it written
+  reach-stops : (ok : ℕ → Bool) (k n : ℕ) → all ok k ≡ true → ok k ≡ false → k < n → reach ok n ≡ k
+  unfolding reach
+  reach-stops ok k zero a b h = absurd (omega arith)
+  reach-stops ok k (suc n) a b h = rw (all-fails ok (suc n) k h b) (go (decLe n k) (reach-stops ok k n a b))
+    where
+      go : Dec (n ≤ k) → (k < n → reach ok n ≡ k) → reach ok n ≡ k
+      go (yes l) on = let e : n ≡ k = omega arith in rw e (reach-whole ok k a)
+      go (no l) on = on (lt-of-not-le l)
+
+  pub first-failing-place : (k : ℕ) → k < t .count → all (fine t) k ≡ true → fine t k ≡ false → (placeOf t ≡ suc k) × (reached t ≡ k)
+  unfolding placeOf
+  first-failing-place k h a b =
+      let r = reach-stops (fine t) k (t .count) a b h in
+      (rw (all-fails (fine t) (t .count) k h b, r), r)
+
+  -- .. or, where each entry is finite and the stop distance is not, the place after the last entry
+  pub failing-at-the-end : Whole → t .stop .sound ≡ false → placeOf t ≡ suc (t .count)
+  unfolding placeOf
+  failing-at-the-end h b = rw (h, b)
+
+  pub accepted-whole : placeOf t ≡ 0 → Whole
+  unfolding placeOf
+  accepted-whole e = go (all (fine t) (t .count)) refl e
+    where
+      go : (b : Bool) → all (fine t) (t .count) ≡ b → (if b then (if t .stop .sound then 0 else suc (t .count)) else suc (reached t)) ≡ 0 → all (fine t) (t .count) ≡ true
+      go true w h = w
+      go false w h = absurd (omega arith)
+
+  -- the margin of no entries is infinity; of some it is one of them, and none is below it
+  pub empty-margin : t .count ≡ 0 → marginOf t ≡ inf false
+  unfolding marginOf least
+  empty-margin e = rw e
+
+  pub margin-attained : (n : ℕ) → t .count ≡ suc n → (k : ℕ) × (k < suc n) × (marginOf t ≡ slackAt t k)
+  unfolding marginOf
+  margin-attained n e = rw e (least-attained (slackAt t) n)
+
+  module _ (real : (k : ℕ) → k < t .count → Real (slackAt t k)) where
+    pub margin-least : (k : ℕ) → k < t .count → lt (slackAt t k) (marginOf t) ≡ false
+    unfolding marginOf
+    margin-least k h = least-bounds (slackAt t) (t .count) real k h
+
+    -- feasible exactly when no entry is negative
+    margin-real : Real (marginOf t)
+    unfolding marginOf
+    margin-real = least-real (slackAt t) (t .count) real
+
+    zero-real : Real +0
+    unfolding isNan
+    zero-real = tt
+
+    feasible-is : feasibleOf t ≡ not (lt (marginOf t) +0)
+    feasible-is = le-not-above +0 (marginOf t) zero-real margin-real
+
+    pub feasible-none-negative : feasibleOf t ≡ true → (k : ℕ) → k < t .count → lt (slackAt t k) +0 ≡ false
+    feasible-none-negative h k b = lt-not-below (slackAt t k) (marginOf t) +0 margin-real (margin-least k b) (not-true (lt (marginOf t) +0) (sym feasible-is ∙ h))
+
+    pub none-negative-feasible : ((k : ℕ) → k < t .count → lt (slackAt t k) +0 ≡ false) → feasibleOf t ≡ true
+    none-negative-feasible h = feasible-is ∙ ap not (go (t .count) refl)
+      where
+        go : (n : ℕ) → t .count ≡ n → lt (marginOf t) +0 ≡ false
+        go zero e = rw (empty-margin e) infinite-not-negative
+        go (suc n) e = let w = margin-attained n e in rw (w .2) (h (w .0) (omega (arith, w .1)))
+
+-- ---- of the second-order brake
+
+-- an entry that counts is a number
+gaps-all-real : (f : Format) (w : Walls) (p : List Float) (n : ℕ) → slack f w p n .sound ≡ true → (j : ℕ) → j < n → Real (gap f w p j .value)
+unfolding slack leastOf between
+gaps-all-real f w p n h j b =
+    let low = sub f (at p j) (at (w .lo) j) in
+    let high = sub f (at (w .hi) j) (at p j) in
+    let g : finite low && (finite high && true) ≡ true = all-at (λ (i : ℕ). gap f w p i .sound) n h j b in
+    lesser-real low high (finite-real low (and-left (finite low) (finite high && true) g)) (finite-real high (and-left (finite high) true (and-right (finite low) (finite high && true) g)))
+
+module _ (f : Format) (t : Task) where
+  -- N: the control steps still committed, plus the braking steps, times the substeps
+  pub count-is-N : forecast f t .count ≡ (t .commit - t .from + t .brake) * t .per
+  count-is-N = refl
+
+  -- the k-th entry (counted from 1) is the slack of the plant after k substeps from the given start
+  pub entry-is-slack : (k : ℕ) → slackAt (forecast f t) k ≡ slack f (t .walls) (after f t (suc k) .p) (t .n) .value
+  unfolding entry after
+  entry-is-slack k = refl
+
+  -- so the start itself is not inspected: the walls may lie anywhere round it
+  pub start-not-inspected : after f t 0 ≡ t .start
+  unfolding after
+  start-not-inspected = refl
+
+  fine-slack : (k : ℕ) → fine (forecast f t) k ≡ true → slack f (t .walls) (after f t (suc k) .p) (t .n) .sound ≡ true
+  unfolding entry after
+  fine-slack k h = and-right (substep f (t .gains) (aim f t k) (t .n) (after f t k) .sound) _ h
+
+  pub entries-real : (k : ℕ) → fine (forecast f t) k ≡ true → Real (slackAt (forecast f t) k)
+  unfolding slack leastOf
+  entries-real k h =
+      subst Real (sym (entry-is-slack k))
+      (least-real (λ (j : ℕ). gap f (t .walls) (after f t (suc k) .p) j .value) (t .n) (gaps-all-real f (t .walls) (after f t (suc k) .p) (t .n) (fine-slack k h)))
+
+-- two tasks that differ only in braking steps
+abbrev pub braking : Task → ℕ → Task
+braking t b = record {
+  gains = t .gains;
+  walls = t .walls;
+  n = t .n;
+  start = t .start;
+  rows = t .rows;
+  horizon = t .horizon;
+  dim = t .dim;
+  from = t .from;
+  commit = t .commit;
+  brake = b;
+  per = t .per;
+}
+
+module _ (f : Format) (t : Task) (b : ℕ) where
+  same-pushed : (k : ℕ) → pushed f (braking t b) k ≡ pushed f t k
+  unfolding pushed
+  same-pushed zero = refl
+  same-pushed (suc k) = ap (λ (s : State). substep f (t .gains) (rowAt t k) (t .n) s .value) (same-pushed k)
+
+  same-aim : (k : ℕ) → aim f (braking t b) k ≡ aim f t k
+  unfolding aim setpoint
+  same-aim k = ap (λ (s : State). if ltb k (pushes t) then rowAt t k else inward (t .walls) (s .p) (t .n)) (same-pushed (pushes t))
+
+  same-after : (k : ℕ) → after f (braking t b) k ≡ after f t k
+  unfolding after
+  same-after zero = refl
+  same-after (suc k) =
+      ap (λ (a : List Float). substep f (t .gains) a (t .n) (after f (braking t b) k) .value) (same-aim k)
+      ∙ ap (λ (s : State). substep f (t .gains) (aim f t k) (t .n) s .value) (same-after k)
+
+  -- the shorter list begins the longer
+  pub shorter-begins-longer : (k : ℕ) → slackAt (forecast f (braking t b)) k ≡ slackAt (forecast f t) k
+  shorter-begins-longer k = entry-is-slack f (braking t b) k ∙ ap (λ (s : State). slack f (t .walls) (s .p) (t .n) .value) (same-after (suc k)) ∙ sym (entry-is-slack f t k)
+
+-- ---- inside the walls, as numbers
+
+-- a difference that is not negative is one of numbers in that order
+in-order : (f : Format) (x y : Float) → T (fits f x) → T (fits f y) → finite (sub f x y) ≡ true → lt (sub f x y) +0 ≡ false → lt x y ≡ false
+in-order f x y p q h n = go (lt x y) refl
+  where
+    go : (b : Bool) → lt x y ≡ b → b ≡ false
+    go true e = sym (difference-below-zero f x y p q (fine-sub-left f x y h) (fine-sub-right f x y h) e) ∙ n
+    go false e = refl
+
+module _ (f : Format) (w : Walls) (p : List Float) (n j : ℕ) (b : j < n) (sound : slack f w p n .sound ≡ true) (inside : lt (slack f w p n .value) +0 ≡ false) where
+  abbrev low : Float
+  low = sub f (at p j) (at (w .lo) j)
+
+  abbrev high : Float
+  high = sub f (at (w .hi) j) (at p j)
+
+  both-finite : finite low && (finite high && true) ≡ true
+  unfolding slack leastOf between
+  both-finite = all-at (λ (i : ℕ). gap f w p i .sound) n sound j b
+
+  low-finite : finite low ≡ true
+  low-finite = and-left (finite low) (finite high && true) both-finite
+
+  high-finite : finite high ≡ true
+  high-finite = and-left (finite high) true (and-right (finite low) (finite high && true) both-finite)
+
+  slack-real : Real (slack f w p n .value)
+  unfolding slack leastOf
+  slack-real = least-real (λ (i : ℕ). gap f w p i .value) n (gaps-all-real f w p n sound)
+
+  -- no gap is below the slack
+  gap-above : lt (lesser low high) (slack f w p n .value) ≡ false
+  unfolding slack leastOf between
+  gap-above = least-bounds (λ (i : ℕ). gap f w p i .value) n (gaps-all-real f w p n sound) j b
+
+  gap-not-negative : lt (lesser low high) +0 ≡ false
+  gap-not-negative = lt-not-below (lesser low high) (slack f w p n .value) +0 slack-real gap-above inside
+
+  gap-real : Real (lesser low high)
+  gap-real = lesser-real low high (finite-real low low-finite) (finite-real high high-finite)
+
+  pub above-the-low-wall : T (fits f (at p j)) → T (fits f (at (w .lo) j)) → lt (at p j) (at (w .lo) j) ≡ false
+  above-the-low-wall x y =
+      in-order f (at p j) (at (w .lo) j) x y low-finite (lt-not-below low (lesser low high) +0 gap-real (lesser-left low high low (finite-real low low-finite) (lt-irrefl low)) gap-not-negative)
+
+  pub below-the-high-wall : T (fits f (at p j)) → T (fits f (at (w .hi) j)) → lt (at (w .hi) j) (at p j) ≡ false
+  below-the-high-wall x y = in-order f (at (w .hi) j) (at p j) y x high-finite (lt-not-below high (lesser low high) +0 gap-real (lesser-right low high) gap-not-negative)
+
+-- a feasible forecast: after every substep each live axis is inside its walls as numbers, not only by rounded differences
+module _ (f : Format) (t : Task) (whole : Whole (forecast f t)) (ok : feasibleOf (forecast f t) ≡ true) where
+  pub feasible-inside : (k j : ℕ) → k < total t → j < t .n → T (fits f (at (after f t (suc k) .p) j)) → T (fits f (at (t .walls .lo) j)) → T (fits f (at (t .walls .hi) j))
+      → (lt (at (after f t (suc k) .p) j) (at (t .walls .lo) j) ≡ false) × (lt (at (t .walls .hi) j) (at (after f t (suc k) .p) j) ≡ false)
+  feasible-inside k j h b x y z =
+      let s = fine-slack f t k (all-at (fine (forecast f t)) (total t) whole k h) in
+      let real : (i : ℕ) → i < total t → Real (slackAt (forecast f t) i) = λ i c. entries-real f t i (all-at (fine (forecast f t)) (total t) whole i c) in
+      let n : lt (slack f (t .walls) (after f t (suc k) .p) (t .n) .value) +0 ≡ false = subst (λ (v : Float). lt v +0 ≡ false) (entry-is-slack f t k) (feasible-none-negative (forecast f t) real ok k h) in
+      (above-the-low-wall f (t .walls) (after f t (suc k) .p) (t .n) j b s n x y, below-the-high-wall f (t .walls) (after f t (suc k) .p) (t .n) j b s n x z)

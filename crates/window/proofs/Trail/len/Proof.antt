@@ -1,0 +1,43 @@
+-- `Trail::len` meets its contract, by the trail's number.
+use Prim.Native.Nat.{ℕ}
+use mathlib.Core.Path.{_≡_, sym, ap, _∙_}
+use borrow.Author.Needs.{needs}
+use borrow.Author.Tests.{eq-eqb, ne-eqb}
+use lib.Dec.{eqb}
+use Rattle.refusal.specs.declared.Refusal.{Refusal}
+use Rattle.refusal.specs.Order.{refusal, refusedFor, if_then_else_}
+use Rattle.window.specs.declared.Trail.{Trail}
+use Rattle.window.specs.declared.Count.{Count}
+use Rattle.window.specs.declared.Count.the-variants as count
+use Rattle.window.specs.Answer.{trailReasons, countOf}
+use Rattle.window.proofs.Trail.len.Statement.{statement}
+use Rattle.window.proofs.Trail.len.Tie as tie
+
+module _ (t : Trail) (n : ℕ) (is : n ≡ refusal (trailReasons t)) where
+  by-number : countOf t ≡ (if eqb n 0 then count.Samples (t .len) else count.Refused (refusedFor n))
+  unfolding countOf
+  by-number = ap (λ (k : ℕ). if_then_else_ {A = Count} (eqb k 0) (count.Samples (t .len)) (count.Refused (refusedFor k))) (sym is)
+
+  refused : (r : Refusal) → r ≡ refusedFor n → (n ≡ 0 → ⊥) → count.Refused r ≡ countOf t
+  refused r e some = rw e (sym (by-number ∙ rw (ne-eqb n 0 some)))
+
+  told : n ≡ 0 → count.Samples (t .len) ≡ countOf t
+  told z = sym (by-number ∙ rw (eq-eqb n 0 z))
+
+trail-refusal-requires : tie.Need-trail-refusal-requires
+trail-refusal-requires c κs = search needs
+
+of-requires : tie.Need-of-requires
+of-requires c κs = search needs
+
+returns : tie.Need-returns
+returns c = refused (c .before .before .before .args .self) _ (c .before .before .trail-refusal .ensures) _ (c .of .ensures) (c .before .if1 .taken)
+
+cast-t5 : tie.Need-cast-t5
+cast-t5 c = search needs
+
+returns-2 : tie.Need-returns-2
+returns-2 c = told (c .before .before .before .args .self) _ (c .before .before .trail-refusal .ensures) (c .before .if1 .left)
+
+pub len-spec : {M : Type 1} → statement M
+len-spec = tie.close (tie.spec trail-refusal-requires of-requires returns cast-t5 returns-2)
