@@ -91,12 +91,12 @@ fn push(bits: u64, hit: bool, mask: u64) -> u64 {
     w.bits
 }
 
-fn calibration(c: &Calibration) -> conformal::Calibration {
+pub fn calibration(c: &Calibration) -> conformal::Calibration {
     let Calibration { center, scale, tau, mask, n_terms, terms } = *c;
     conformal::Calibration { center, scale, tau, mask, n_terms, terms }
 }
 
-fn scores(sc: &Scores) -> conformal::Scores {
+pub fn scores(sc: &Scores) -> conformal::Scores {
     let Scores { f, z, s, valid, fired } = *sc;
     conformal::Scores { f, z, s, valid, fired }
 }
