@@ -104,6 +104,29 @@ uint64_t lictor_push(uint64_t bits, uint64_t hit, uint64_t mask);
 /* How many bits are set. */
 uint64_t lictor_hits(uint64_t bits);
 
+/* ---- the trail: a ring of the last 32 positions, 8 numbers to a slot; all zeros is a new one */
+
+struct lictor_trail_marks {
+    uint64_t head, len; /* the slot that is written next, at most 31; the samples held, at most 32 */
+};
+
+/* Records the first d coordinates of p, at most 8 and as many as there are; the slot's other numbers stay. LICTOR_BAD_CODE,
+   LICTOR_SIZE, LICTOR_NOT_FINITE. */
+uint64_t lictor_trail_push(double numbers[256], struct lictor_trail_marks *marks, const double *p, size_t p_count,
+                           size_t d);
+
+/* Lets go of the samples; the numbers stay. LICTOR_BAD_CODE, LICTOR_SIZE, LICTOR_NOT_FINITE. */
+uint64_t lictor_trail_clear(double numbers[256], struct lictor_trail_marks *marks);
+
+/* The distance from the sample w before the newest to the newest, over the first d coordinates; 0 for too few samples or a w
+   out of range. LICTOR_BAD_CODE, LICTOR_SIZE, LICTOR_NOT_FINITE, LICTOR_COMPUTED. */
+uint64_t lictor_trail_net(const double numbers[256], const struct lictor_trail_marks *marks, size_t d, size_t w,
+                          double *net);
+
+/* The length of the way between them, sample by sample, likewise. */
+uint64_t lictor_trail_path(const double numbers[256], const struct lictor_trail_marks *marks, size_t d, size_t w,
+                           double *path);
+
 /* ---- the configuration: 44 numbers, 26 counts and codes, and the calibration's two tables */
 
 struct lictor_numbers {
@@ -220,6 +243,7 @@ uint64_t lictor_time_bin(uint32_t t, uint32_t horizon_ticks, uint64_t *bin);
 #define LICTOR_ASSERT(what, text) _Static_assert(what, text)
 #endif
 LICTOR_ASSERT(sizeof(struct lictor_chunk_header) == 6 * sizeof(uint64_t), "6 counts");
+LICTOR_ASSERT(sizeof(struct lictor_trail_marks) == 2 * sizeof(uint64_t), "2 counts");
 LICTOR_ASSERT(sizeof(struct lictor_numbers) == 44 * sizeof(double), "44 numbers");
 LICTOR_ASSERT(sizeof(struct lictor_counts) == 26 * sizeof(uint64_t), "26 counts");
 LICTOR_ASSERT(sizeof(struct lictor_derived) == 29 * sizeof(double), "29 numbers");

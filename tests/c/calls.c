@@ -54,6 +54,23 @@ static void windows(void) {
     EXPECT(bits == 3 && lictor_hits(bits) == 2);
 }
 
+static void trails(void) {
+    static double numbers[256];
+    struct lictor_trail_marks marks = {0, 0};
+    const double p[2] = {3.0, 4.0}, q[2] = {0.0, 0.0};
+    double x = 7.0;
+    EXPECT(lictor_trail_push(numbers, &marks, q, 2, 2) == LICTOR_ACCEPTED && marks.head == 1 && marks.len == 1);
+    EXPECT(lictor_trail_push(numbers, &marks, p, 2, 2) == LICTOR_ACCEPTED && numbers[8] == 3.0);
+    EXPECT(lictor_trail_net(numbers, &marks, 2, 1, &x) == LICTOR_ACCEPTED && x == 5.0);
+    EXPECT(lictor_trail_path(numbers, &marks, 2, 1, &x) == LICTOR_ACCEPTED && x == 5.0);
+    marks.head = 256;
+    EXPECT(lictor_trail_net(numbers, &marks, 2, 1, &x) == LICTOR_BAD_CODE && x == 5.0);
+    marks.head = 32;
+    EXPECT(lictor_trail_clear(numbers, &marks) == LICTOR_SIZE && marks.len == 2);
+    marks.head = 2;
+    EXPECT(lictor_trail_clear(numbers, &marks) == LICTOR_ACCEPTED && marks.head == 0 && marks.len == 0);
+}
+
 static double center[192], scale[192];
 
 static void configuration(void) {
@@ -100,6 +117,7 @@ int main(void) {
     numbers();
     chunks();
     windows();
+    trails();
     configuration();
     gate();
     puts(failed ? "C calls: failed" : "C calls: as expected");

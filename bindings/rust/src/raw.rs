@@ -40,6 +40,16 @@ extern "C" {
     pub fn lictor_mask(n: u8, mask: &mut u64) -> u64;
     pub fn lictor_push(bits: u64, hit: u64, mask: u64) -> u64;
     pub fn lictor_hits(bits: u64) -> u64;
+    pub fn lictor_trail_push(
+        numbers: &mut [f64; 256],
+        marks: &mut [u64; 2],
+        p: *const f64,
+        p_len: usize,
+        d: usize,
+    ) -> u64;
+    pub fn lictor_trail_clear(numbers: &mut [f64; 256], marks: &mut [u64; 2]) -> u64;
+    pub fn lictor_trail_net(numbers: &[f64; 256], marks: &[u64; 2], d: usize, w: usize, net: &mut f64) -> u64;
+    pub fn lictor_trail_path(numbers: &[f64; 256], marks: &[u64; 2], d: usize, w: usize, path: &mut f64) -> u64;
     pub fn lictor_derive(
         numbers: &[f64; 44],
         counts: &[u64; 26],

@@ -1,3 +1,4 @@
 pub mod Places
+pub mod Trail
 pub mod Scores
 pub mod Config

@@ -3,3 +3,4 @@
 pub mod config;
 mod places;
 pub mod scores;
+pub mod trails;

@@ -12,12 +12,14 @@ use Rattle.chunk.specs.declared.ChunkBuf.{ChunkBuf}
 use Rattle.chunk.specs.declared.Filled.{Filled}
 use Rattle.window.specs.declared.Masked.{Masked}
 use Rattle.window.specs.declared.Masked.the-variants as M
+use Rattle.window.specs.declared.Recorded.{Recorded}
 use Rattle.conformal.specs.declared.Scored.{Scored}
 use Rattle.conformal.specs.declared.Verdict.{Verdict}
 use Rattle.conformal.specs.declared.Verdict.the-variants as Y
 use Rattle.conformal.specs.declared.TimeBin.{TimeBin}
 use Rattle.conformal.specs.declared.TimeBin.the-variants as B
 use Rattle.envelope.specs.declared.Derived.{Derived}
+use Rattle.layout.specs.Trail.{trailMarks}
 use Rattle.layout.specs.Scores.{scoresFlat, marksFlat}
 use Rattle.layout.specs.Config.{derivedFlat}
 
@@ -71,6 +73,18 @@ maskValue (M.Refused r) old = old
 pub record MaskGiven (a : Masked) (r old new : ℕ) : Type 0 where
   pub number : r ≡ maskNumber a
   pub value : new ≡ maskValue a old
+
+-- .. and a trail, in 256 numbers and 2 counts
+
+pub record RecordedGiven (fits : Bool) (a : Recorded) (r : ℕ) (l₀ l : List Float) (m₀ m : List ℕ) : Type 0 where
+  pub number : r ≡ fitting fits (a .number)
+  pub numbers : l ≡ written (fitting fits (a .number)) (a .trail .buf) l₀
+  pub marks : m ≡ written (fitting fits (a .number)) (trailMarks (a .trail)) m₀
+
+-- a number of a trail whose counts may not fit
+pub record TrailNumberGiven (fits : Bool) (a : Number) (r : ℕ) (old new : Float) : Type 0 where
+  pub number : r ≡ fitting fits (numberOf a)
+  pub value : new ≡ (if fits then valueOf a old else old)
 
 -- ---- module 4: what is derived, in 29 numbers
 

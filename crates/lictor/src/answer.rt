@@ -1,6 +1,6 @@
 // Answers, put where C reads them: the number is returned, and a refusal leaves every place as it was.
 ghost use mathlib.Core.Path.{_≡_};
-ghost use Rattle.lictor.specs.Answer.{fitting, NumberGiven, FilledGiven, MaskGiven, DerivedGiven, ScoredGiven, VerdictGiven, BinGiven};
+ghost use Rattle.lictor.specs.Answer.{fitting, NumberGiven, FilledGiven, MaskGiven, RecordedGiven, TrailNumberGiven, DerivedGiven, ScoredGiven, VerdictGiven, BinGiven};
 use chunk::Filled;
 use conformal::Scored;
 use conformal::TimeBin;
@@ -8,6 +8,7 @@ use conformal::Verdict;
 use envelope::Derived;
 use fmath::Number;
 use window::Masked;
+use window::Recorded;
 
 // The number that is given: 255 where a code is none of its kind or a count does not fit its field.
 pub fn fitting(fits: bool, number: u8) -> u64
@@ -58,6 +59,25 @@ pub fn put_mask(a: Masked, mask: &mut u64) -> u64
         }
         Masked::Refused(r) => r.number as u64,
     }
+}
+
+pub fn put_recorded(fits: bool, a: Recorded, numbers: &mut [f64; 256], marks: &mut [u64; 2]) -> u64
+    ensures { λ r. ⌜ RecordedGiven fits a r (now (numbers .entry)) (now (numbers .exit)) (now (marks .entry)) (now (marks .exit)) ⌝ }
+{
+    let number = fitting(fits, a.number);
+    if number == 0 {
+        layout::trails::put_trail(a.trail, numbers, marks);
+    }
+    number
+}
+
+pub fn put_trail_number(fits: bool, a: Number, value: &mut f64) -> u64
+    ensures { λ r. ⌜ TrailNumberGiven fits a r (now (value .entry)) (now (value .exit)) ⌝ }
+{
+    if !fits {
+        return 255;
+    }
+    put_number(a, value)
 }
 
 pub fn put_derived(number: u64, d: Derived, derived: &mut [f64; 29]) -> u64

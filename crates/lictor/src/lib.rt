@@ -10,13 +10,15 @@ ghost use Rattle.fmath.specs.Answer.{sqrtAnswer, normAnswer, distAnswer};
 ghost use Rattle.chunk.specs.Rule.{rowOf, rowSet, heldRows};
 ghost use Rattle.chunk.specs.Of.{fillOf};
 ghost use Rattle.window.specs.Rule.{pushed, hitsIn};
-ghost use Rattle.window.specs.Answer.{maskOf};
+ghost use Rattle.window.specs.Answer.{maskOf, netOf, pathOf};
+ghost use Rattle.window.specs.Of.{pushOf, clearOf};
 ghost use Rattle.envelope.specs.Derive.{derived};
 ghost use Rattle.envelope.specs.Refusals.{configJudged};
 ghost use Rattle.conformal.specs.Answer.{standardised, aggregated, tripped, timeBinOf};
+ghost use Rattle.layout.specs.Trail.{trailFits, trailOf};
 ghost use Rattle.layout.specs.Scores.{marksFit, scoresOf};
 ghost use Rattle.layout.specs.Config.{configOf, countsFit};
-ghost use Rattle.lictor.specs.Answer.{fitting, NumberGiven, FilledGiven, MaskGiven, DerivedGiven, ScoredGiven, VerdictGiven, BinGiven};
+ghost use Rattle.lictor.specs.Answer.{fitting, NumberGiven, FilledGiven, MaskGiven, RecordedGiven, TrailNumberGiven, DerivedGiven, ScoredGiven, VerdictGiven, BinGiven};
 ghost use Rattle.lictor.specs.Asked.{bare, calibrationAsked};
 use chunk::ChunkBuf;
 use conformal::Calibration;
@@ -155,6 +157,63 @@ pub extern "C" fn lictor_hits(bits: u64) -> u64
 {
     let w = Window { bits };
     w.hits() as u64
+}
+
+#[no_mangle]
+pub extern "C" fn lictor_trail_push(
+    numbers: &mut [f64; 256],
+    marks: &mut [u64; 2],
+    p: &[f64],
+    d: usize,
+) -> u64
+    ensures { λ r. ⌜ RecordedGiven (trailFits (now (marks .entry))) (pushOf (trailOf (now (numbers .entry)) (now (marks .entry))) (now (p .entry)) d) r (now (numbers .entry)) (now (numbers .exit)) (now (marks .entry)) (now (marks .exit)) ⌝ }
+{
+    let fits = layout::trails::trail_fits(marks);
+    let t = layout::trails::trail_of(numbers, marks);
+    let a = t.push(p, d);
+    answer::put_recorded(fits, a, numbers, marks)
+}
+
+#[no_mangle]
+pub extern "C" fn lictor_trail_clear(numbers: &mut [f64; 256], marks: &mut [u64; 2]) -> u64
+    ensures { λ r. ⌜ RecordedGiven (trailFits (now (marks .entry))) (clearOf (trailOf (now (numbers .entry)) (now (marks .entry)))) r (now (numbers .entry)) (now (numbers .exit)) (now (marks .entry)) (now (marks .exit)) ⌝ }
+{
+    let fits = layout::trails::trail_fits(marks);
+    let t = layout::trails::trail_of(numbers, marks);
+    let a = t.clear();
+    answer::put_recorded(fits, a, numbers, marks)
+}
+
+#[no_mangle]
+pub extern "C" fn lictor_trail_net(
+    numbers: &[f64; 256],
+    marks: &[u64; 2],
+    d: usize,
+    w: usize,
+    net: &mut f64,
+) -> u64
+    ensures { λ r. ⌜ TrailNumberGiven (trailFits (now (marks .entry))) (netOf binary64 (trailOf (now (numbers .entry)) (now (marks .entry))) d w) r (now (net .entry)) (now (net .exit)) ⌝ }
+{
+    let fits = layout::trails::trail_fits(marks);
+    let t = layout::trails::trail_of(numbers, marks);
+    let a = t.net(d, w);
+    answer::put_trail_number(fits, a, net)
+}
+
+#[no_mangle]
+pub extern "C" fn lictor_trail_path(
+    numbers: &[f64; 256],
+    marks: &[u64; 2],
+    d: usize,
+    w: usize,
+    path: &mut f64,
+) -> u64
+    ensures { λ r. ⌜ TrailNumberGiven (trailFits (now (marks .entry))) (pathOf binary64 (trailOf (now (numbers .entry)) (now (marks .entry))) d w) r (now (path .entry)) (now (path .exit)) ⌝ }
+{
+    let fits = layout::trails::trail_fits(marks);
+    let t = layout::trails::trail_of(numbers, marks);
+    let a = t.path(d, w);
+    answer::put_trail_number(fits, a, path)
 }
 
 // ---- module 4

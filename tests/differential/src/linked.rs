@@ -2,7 +2,7 @@
 //! answer back.
 
 use lictor::{chunk, config, conformal, fmath, window};
-use model::{ActionKind, BrakeKind, Calibration, ChunkBuf, ChunkView, ClampMode, Derived, FuseConfig, Scores};
+use model::{ActionKind, BrakeKind, Calibration, ChunkBuf, ChunkView, ClampMode, Derived, FuseConfig, Scores, Trail};
 
 use crate::port::{Answer, Port};
 
@@ -25,6 +25,10 @@ pub fn port() -> Port {
         mask: Some(|n| answer(window::mask(n))),
         push: Some(push),
         hits: Some(|bits| window::Window { bits }.hits()),
+        trail_push: Some(|t, p, d| on_trail(t, |lent| lent.push(p, d))),
+        net: Some(|t, d, w| answer(trail(t).net(d, w))),
+        path: Some(|t, d, w| answer(trail(t).path(d, w))),
+        trail_clear: Some(|t| on_trail(t, |lent| lent.clear())),
         derive: Some(|c| answer(config(c).derive()).map(derived)),
         standardise: Some(|c, bin, sc| on_scores(sc, |s| conformal::standardise(&calibration(c), bin, s))),
         aggregate: Some(|c, sc| on_scores(sc, |s| conformal::aggregate(&calibration(c), s))),
@@ -89,6 +93,20 @@ fn push(bits: u64, hit: bool, mask: u64) -> u64 {
     let mut w = window::Window { bits };
     w.push(hit, mask);
     w.bits
+}
+
+fn trail(t: &Trail) -> window::Trail {
+    let Trail { buf, head, len } = *t;
+    window::Trail { buf, head, len }
+}
+
+/// A call that is lent a trail.
+fn on_trail(t: &mut Trail, call: impl Fn(&mut window::Trail) -> lictor::Answer<()>) -> Answer<()> {
+    let mut lent = trail(t);
+    let said = call(&mut lent);
+    let window::Trail { buf, head, len } = lent;
+    *t = Trail { buf, head, len };
+    answer(said)
 }
 
 pub fn calibration(c: &Calibration) -> conformal::Calibration {
