@@ -118,7 +118,7 @@ uint64_t lictor_trail_push(double numbers[256], struct lictor_trail_marks *marks
 /* Lets go of the samples; the numbers stay. LICTOR_BAD_CODE, LICTOR_SIZE, LICTOR_NOT_FINITE. */
 uint64_t lictor_trail_clear(double numbers[256], struct lictor_trail_marks *marks);
 
-/* The distance from the sample w before the newest to the newest, over the first d coordinates; 0 for too few samples or a w
+/* The distance from the oldest to the newest of the last w samples, over the first d coordinates; 0 for too few samples or a w
    out of range. LICTOR_BAD_CODE, LICTOR_SIZE, LICTOR_NOT_FINITE, LICTOR_COMPUTED. */
 uint64_t lictor_trail_net(const double numbers[256], const struct lictor_trail_marks *marks, size_t d, size_t w,
                           double *net);

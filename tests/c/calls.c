@@ -61,10 +61,10 @@ static void trails(void) {
     double x = 7.0;
     EXPECT(lictor_trail_push(numbers, &marks, q, 2, 2) == LICTOR_ACCEPTED && marks.head == 1 && marks.len == 1);
     EXPECT(lictor_trail_push(numbers, &marks, p, 2, 2) == LICTOR_ACCEPTED && numbers[8] == 3.0);
-    EXPECT(lictor_trail_net(numbers, &marks, 2, 1, &x) == LICTOR_ACCEPTED && x == 5.0);
-    EXPECT(lictor_trail_path(numbers, &marks, 2, 1, &x) == LICTOR_ACCEPTED && x == 5.0);
+    EXPECT(lictor_trail_net(numbers, &marks, 2, 2, &x) == LICTOR_ACCEPTED && x == 5.0);
+    EXPECT(lictor_trail_path(numbers, &marks, 2, 2, &x) == LICTOR_ACCEPTED && x == 5.0);
     marks.head = 256;
-    EXPECT(lictor_trail_net(numbers, &marks, 2, 1, &x) == LICTOR_BAD_CODE && x == 5.0);
+    EXPECT(lictor_trail_net(numbers, &marks, 2, 2, &x) == LICTOR_BAD_CODE && x == 5.0);
     marks.head = 32;
     EXPECT(lictor_trail_clear(numbers, &marks) == LICTOR_SIZE && marks.len == 2);
     marks.head = 2;

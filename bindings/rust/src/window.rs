@@ -79,7 +79,7 @@ impl Trail {
         given(number, ())
     }
 
-    /// The distance from the sample `w` before the newest to the newest.
+    /// The distance from the oldest to the newest of the last `w` samples.
     pub fn net(&self, d: usize, w: usize) -> Answer<f64> {
         let mut net = 0.0;
         // SAFETY: the numbers are live, and the place is ours alone.
