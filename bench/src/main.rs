@@ -1,12 +1,13 @@
 //! Times the port and the published Rust in one process on the same inputs: nanoseconds for a call, the least of
 //! several rounds taken in turn, and the ratio. An entry is listed when the port has it; BENCH_ALL=1 lists the Rust's
-//! half of the others too.
+//! half of the others too. A configuration or a calibration is laid out for the library once, before the rounds, as a
+//! customer does.
 
 mod inputs;
 
 use std::{env, hint::black_box, time::Instant};
 
-use differential::port::{self, Port};
+use differential::{linked, port::Port};
 use model::{ClampMode, FuseConfig};
 use oracle::rust::{brake, conformal, fmath, tier0, tier1};
 
@@ -60,7 +61,7 @@ fn calls<'a, T>(calls: usize, mut f: impl FnMut() -> T + 'a) -> Side<'a> {
 }
 
 fn main() {
-    let port = port::linked();
+    let port = linked::port();
     println!("{:<34} {:>12} {:>12} {:>8}", "entry", "Rust ns", "port ns", "ratio");
     root(&port);
     norm(&port);
@@ -157,17 +158,17 @@ fn features(port: &Port, with_chunk: bool) {
 fn gate(port: &Port) {
     let cal = inputs::calibration();
     let raw = oracle::calibration(&cal);
-    let mut sc = inputs::scores();
+    let sc = inputs::scores();
     let mut raw_sc = oracle::scores(&sc);
     let rust = calls(1000, || {
         conformal::standardise(black_box(&raw), 3, &mut raw_sc);
         conformal::aggregate(black_box(&raw), &mut raw_sc)
     });
-    let cal = &cal;
-    let ported = port.standardise.zip(port.aggregate).map(|(standardise, aggregate)| {
+    let (cal, mut sc) = (linked::calibration(&cal), linked::scores(&sc));
+    let ported = port.standardise.zip(port.aggregate).map(|_| {
         calls(1000, move || {
-            let _ = standardise(black_box(cal), 3, &mut sc);
-            aggregate(black_box(cal), &mut sc)
+            let _ = lictor::conformal::standardise(black_box(&cal), 3, &mut sc);
+            lictor::conformal::aggregate(black_box(&cal), &mut sc)
         })
     });
     line("standardise and aggregate", 1000, Some(rust), ported);
@@ -178,8 +179,8 @@ fn judging(port: &Port) {
     let plain = FuseConfig { clamp: ClampMode::Project, ..inputs::all_armed(8) };
     let calibrated = FuseConfig { calibrated: true, cal: inputs::calibration(), horizon_ticks: 300, ..plain };
     for (name, cfg) in [("configuration judged", plain), ("configuration judged, calibrated", calibrated)] {
-        let cfg = &cfg;
-        let ported = port.derive.map(|f| calls(1000, move || f(black_box(cfg))));
+        let cfg = linked::config(&cfg);
+        let ported = port.derive.map(|_| calls(1000, move || black_box(&cfg).derive()));
         line(name, 1000, None, ported);
     }
 }

@@ -2,6 +2,7 @@
 
 pub mod entries;
 pub mod input;
+pub mod linked;
 pub mod number;
 pub mod part;
 pub mod port;

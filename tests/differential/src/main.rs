@@ -11,7 +11,7 @@ use std::{
 };
 
 use differential::{
-    entries, port,
+    entries, linked,
     run::{Budget, Report, Task},
     sample,
 };
@@ -37,7 +37,7 @@ fn main() -> ExitCode {
         calls: variable("DIFF_CALLS", 1_000_000),
         time: Duration::from_secs(variable("DIFF_SECONDS", 60)),
     };
-    let mut tasks = entries::all(&port::linked());
+    let mut tasks = entries::all(&linked::port());
     tasks.retain(|t| named.is_empty() || named.iter().any(|n| n == t.name));
     let (calls, seconds) = (budget.calls, budget.time.as_secs());
     println!("differential: seed {}, for each entry {calls} calls or {seconds} s, whichever is less", budget.seed);

@@ -14,8 +14,9 @@ pub type Clamp = fn(f64, f64, f64) -> f64;
 pub type Fill = fn(&mut ChunkBuf, u32, u32, u16, u16, u16, &[f64]) -> Answer<()>;
 pub type CopyFrom = fn(&mut ChunkBuf, ChunkView<'_>) -> Answer<()>;
 /// The row's numbers.
-pub type Action = for<'a> fn(&ChunkView<'a>, usize) -> &'a [f64];
-pub type RowMut = for<'a> fn(&'a mut ChunkBuf, usize) -> &'a mut [f64];
+pub type Action = fn(&ChunkView<'_>, usize) -> Vec<f64>;
+/// A number written all over the row; the row's length.
+pub type FillRow = fn(&mut ChunkBuf, usize, f64) -> usize;
 pub type View = for<'a> fn(&'a ChunkBuf) -> ChunkView<'a>;
 pub type Mask = fn(u8) -> Answer<u64>;
 pub type Push = fn(u64, bool, u64) -> u64;
@@ -46,7 +47,7 @@ pub struct Port {
     pub fill: Option<Fill>,
     pub copy_from: Option<CopyFrom>,
     pub action: Option<Action>,
-    pub row_mut: Option<RowMut>,
+    pub row_mut: Option<FillRow>,
     pub view: Option<View>,
     pub mask: Option<Mask>,
     pub push: Option<Push>,
@@ -66,10 +67,4 @@ pub struct Port {
     pub aggregate: Option<Aggregate>,
     pub trip: Option<Trip>,
     pub time_bin: Option<TimeBin>,
-}
-
-/// What the static library has today. An entry is linked by a function of the type above that takes the model's
-/// arguments over into the binding's and its answer back; it is then compared in every run, and timed by `bench`.
-pub fn linked() -> Port {
-    Port::default()
 }

@@ -7,7 +7,7 @@ use crate::{
     input::{chunk, chunk_buf, ChunkIn},
     number::Field,
     part::Part,
-    port::{CopyFrom, Fill, Port, RowMut, View},
+    port::{CopyFrom, Fill, FillRow, Port, View},
     rng::Rng,
     run::{Entry, Outcome, Shown},
 };
@@ -103,7 +103,7 @@ pub fn action(port: &Port) -> Entry<ActionIn> {
         before: nothing,
         model: Box::new(|i| accepted(numbers(rule::action(&i.ch.view(), i.i)))),
         rust: Box::new(|i| Some(accepted(numbers(oracle::action(i.ch.view(), i.i))))),
-        port: port.action.map(|f| Box::new(move |i: &ActionIn| accepted(numbers(f(&i.ch.view(), i.i)))) as _),
+        port: port.action.map(|f| Box::new(move |i: &ActionIn| accepted(numbers(&f(&i.ch.view(), i.i)))) as _),
     }
 }
 
@@ -127,12 +127,17 @@ fn row_parts(i: &mut RowIn) -> Vec<Part<'_>> {
 }
 
 /// The buffer after a number is written all over the row, and the row's length.
-fn row_filled(f: RowMut, i: &RowIn) -> Outcome {
+fn row_filled(f: FillRow, i: &RowIn) -> Outcome {
     let mut buf = i.buf;
-    let row = f(&mut buf, i.i);
-    row.fill(7.0);
-    let answer = Ok(count(row.len() as u64));
+    let answer = Ok(count(f(&mut buf, i.i, 7.0) as u64));
     Outcome { answer, buffers: shown(&buf) }
+}
+
+/// The model's row, with a number written all over it.
+fn model_filled(b: &mut ChunkBuf, i: usize, x: f64) -> usize {
+    let row = rule::row_mut(b, i);
+    row.fill(x);
+    row.len()
 }
 
 pub fn row_mut(port: &Port) -> Entry<RowIn> {
@@ -142,12 +147,8 @@ pub fn row_mut(port: &Port) -> Entry<RowIn> {
         parts: row_parts,
         narrower: none,
         before: |i| shown(&i.buf),
-        model: Box::new(|i| row_filled(rule::row_mut, i)),
-        rust: Box::new(|i| {
-            let mut buf = i.buf;
-            let answer = Ok(count(oracle::fill_row(&mut buf, i.i, 7.0) as u64));
-            Some(Outcome { answer, buffers: shown(&buf) })
-        }),
+        model: Box::new(|i| row_filled(model_filled, i)),
+        rust: Box::new(|i| Some(row_filled(oracle::fill_row, i))),
         port: port.row_mut.map(|f| Box::new(move |i: &RowIn| row_filled(f, i)) as _),
     }
 }

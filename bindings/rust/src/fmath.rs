@@ -1,0 +1,48 @@
+//! Least, greatest, clamp, root, norm and distance.
+
+use crate::{
+    raw,
+    refusal::{given, Answer},
+};
+
+/// `a` where it is strictly less, else `b`.
+pub fn min(a: f64, b: f64) -> f64 {
+    // SAFETY: numbers go by value.
+    unsafe { raw::lictor_min(a, b) }
+}
+
+/// `a` where it is strictly greater, else `b`.
+pub fn max(a: f64, b: f64) -> f64 {
+    // SAFETY: numbers go by value.
+    unsafe { raw::lictor_max(a, b) }
+}
+
+/// `lo` below lo, `hi` above hi, else `x`.
+pub fn clamp(x: f64, lo: f64, hi: f64) -> f64 {
+    // SAFETY: numbers go by value.
+    unsafe { raw::lictor_clamp(x, lo, hi) }
+}
+
+/// The root to nearest; 13 below zero, at an infinity and at a NaN.
+pub fn sqrt(x: f64) -> Answer<f64> {
+    let mut root = 0.0;
+    // SAFETY: the place is live and ours alone.
+    let number = unsafe { raw::lictor_sqrt(x, &mut root) };
+    given(number, root)
+}
+
+/// The length of the first `n` coordinates.
+pub fn norm(v: &[f64], n: usize) -> Answer<f64> {
+    let mut norm = 0.0;
+    // SAFETY: the slice is live, and the place is ours alone.
+    let number = unsafe { raw::lictor_norm(v.as_ptr(), v.len(), n, &mut norm) };
+    given(number, norm)
+}
+
+/// The distance over the first `n` coordinates.
+pub fn dist(a: &[f64], b: &[f64], n: usize) -> Answer<f64> {
+    let mut dist = 0.0;
+    // SAFETY: the slices are live, and the place is ours alone.
+    let number = unsafe { raw::lictor_dist(a.as_ptr(), a.len(), b.as_ptr(), b.len(), n, &mut dist) };
+    given(number, dist)
+}

@@ -1,0 +1,93 @@
+//! The functions of include/lictor.h. A slice goes as its pointer and its length.
+
+extern "C" {
+    pub fn lictor_min(a: f64, b: f64) -> f64;
+    pub fn lictor_max(a: f64, b: f64) -> f64;
+    pub fn lictor_clamp(x: f64, lo: f64, hi: f64) -> f64;
+    pub fn lictor_sqrt(x: f64, root: &mut f64) -> u64;
+    pub fn lictor_norm(v: *const f64, len: usize, n: usize, norm: &mut f64) -> u64;
+    pub fn lictor_dist(a: *const f64, a_len: usize, b: *const f64, b_len: usize, n: usize, dist: &mut f64) -> u64;
+    pub fn lictor_fill(
+        numbers: &mut [f64; 512],
+        header: &mut [u64; 6],
+        seq: u32,
+        t_emit: u32,
+        horizon: u16,
+        dim: u16,
+        exec_steps: u16,
+        rows: *const f64,
+        rows_len: usize,
+    ) -> u64;
+    pub fn lictor_action(
+        rows: *const f64,
+        rows_len: usize,
+        horizon: u16,
+        dim: u16,
+        i: usize,
+        row: *mut f64,
+        row_len: usize,
+    ) -> usize;
+    pub fn lictor_set_row(
+        rows: *mut f64,
+        rows_len: usize,
+        horizon: u16,
+        dim: u16,
+        i: usize,
+        row: *const f64,
+        row_len: usize,
+    );
+    pub fn lictor_held_rows(numbers: &[f64; 512], horizon: u16, dim: u16, filled: u64) -> usize;
+    pub fn lictor_mask(n: u8, mask: &mut u64) -> u64;
+    pub fn lictor_push(bits: u64, hit: u64, mask: u64) -> u64;
+    pub fn lictor_hits(bits: u64) -> u64;
+    pub fn lictor_trail_push(
+        numbers: &mut [f64; 256],
+        marks: &mut [u64; 2],
+        p: *const f64,
+        p_len: usize,
+        d: usize,
+    ) -> u64;
+    pub fn lictor_trail_clear(numbers: &mut [f64; 256], marks: &mut [u64; 2]) -> u64;
+    pub fn lictor_trail_net(numbers: &[f64; 256], marks: &[u64; 2], d: usize, w: usize, net: &mut f64) -> u64;
+    pub fn lictor_trail_path(numbers: &[f64; 256], marks: &[u64; 2], d: usize, w: usize, path: &mut f64) -> u64;
+    pub fn lictor_derive(
+        numbers: &[f64; 44],
+        counts: &[u64; 26],
+        center: &[f64; 192],
+        scale: &[f64; 192],
+        derived: &mut [f64; 29],
+    ) -> u64;
+    pub fn lictor_standardise(
+        center: &[f64; 192],
+        scale: &[f64; 192],
+        tau: f64,
+        mask: u32,
+        n_terms: u8,
+        terms: &[u32; 8],
+        bin: usize,
+        scores: &mut [f64; 25],
+        marks: &mut [u64; 2],
+    ) -> u64;
+    pub fn lictor_aggregate(
+        center: &[f64; 192],
+        scale: &[f64; 192],
+        tau: f64,
+        mask: u32,
+        n_terms: u8,
+        terms: &[u32; 8],
+        scores: &mut [f64; 25],
+        marks: &mut [u64; 2],
+    ) -> u64;
+    pub fn lictor_trip(
+        center: &[f64; 192],
+        scale: &[f64; 192],
+        tau: f64,
+        mask: u32,
+        n_terms: u8,
+        terms: &[u32; 8],
+        scores: &[f64; 25],
+        marks: &[u64; 2],
+        trips: &mut u64,
+    ) -> u64;
+    pub fn lictor_time_bin(t: u32, horizon_ticks: u32, bin: &mut u64) -> u64;
+}

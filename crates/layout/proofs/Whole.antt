@@ -1,0 +1,78 @@
+-- A struct whose taken-apart parts are right is right: one law for each struct of many parts.
+use mathlib.Core.Path.{_≡_, refl}
+use mathlib.Core.List.{List, [], _∷_}
+use Prim.Native.Nat.{ℕ}
+use lib.Dec.{eqb}
+use lib.Ieee.{Float}
+use Rattle.fmath.specs.Each.{at}
+use Rattle.conformal.specs.declared.Calibration.{Calibration}
+use Rattle.conformal.specs.declared.GateSpec.{GateSpec}
+use Rattle.envelope.specs.declared.ActionKind.{ActionKind}
+use Rattle.envelope.specs.declared.ClampMode.{ClampMode}
+use Rattle.envelope.specs.declared.BrakeKind.{BrakeKind}
+use Rattle.envelope.specs.declared.Contact.{Contact}
+use Rattle.envelope.specs.declared.Limits.{Limits}
+use Rattle.envelope.specs.declared.Norm.{Norm}
+use Rattle.envelope.specs.declared.Box.{Box}
+use Rattle.envelope.specs.declared.BrakeModel.{BrakeModel}
+use Rattle.envelope.specs.declared.FuseConfig.{FuseConfig}
+use Rattle.layout.specs.Places.{count, in8, in16, in32}
+use Rattle.layout.specs.Config.{kindOf, clampOf, brakeKindOf, limitsOf, brakeOf, zoneOf, normOf, wallsOf, gateOf, calibrationOf, configOf}
+
+pub whole-brake : (n : List Float) (c : List ℕ) {kind : BrakeKind} {per rows steps ticks : ℕ}
+    → kind ≡ brakeKindOf (count c 4) (at n 6) (at n 7) (at n 8)
+    → per ≡ in16 (count c 8)
+    → rows ≡ in16 (count c 9)
+    → steps ≡ in16 (count c 10)
+    → ticks ≡ in16 (count c 11)
+    → _≡_ {A = BrakeModel}
+    (record { kind = kind; substeps = record { 0 = per }; commit = record { 0 = rows }; «brake_steps» = record { 0 = steps }; «react_ticks» = ticks })
+    (brakeOf n c)
+unfolding brakeOf
+whole-brake n c e1 e2 e3 e4 e5 = rw (e1, e2, e3, e4, e5)
+
+pub whole-gate : (c : List ℕ) {k t0 t1 t2 t3 t4 t5 t6 t7 : ℕ}
+    → k ≡ in8 (count c 24)
+    → t0 ≡ in32 (count c 12)
+    → t1 ≡ in32 (count c 13)
+    → t2 ≡ in32 (count c 14)
+    → t3 ≡ in32 (count c 15)
+    → t4 ≡ in32 (count c 16)
+    → t5 ≡ in32 (count c 17)
+    → t6 ≡ in32 (count c 18)
+    → t7 ≡ in32 (count c 19)
+    → _≡_ {A = GateSpec} (record { «n_terms» = k; terms = t0 ∷ t1 ∷ t2 ∷ t3 ∷ t4 ∷ t5 ∷ t6 ∷ t7 ∷ [] }) (gateOf c)
+unfolding gateOf
+whole-gate c e e0 e1 e2 e3 e4 e5 e6 e7 = rw (e, e0, e1, e2, e3, e4, e5, e6, e7)
+
+pub whole-config : (n : List Float) (c : List ℕ) (center scale : List Float) {kind : ActionKind} {limits : Limits} {norm : Norm} {walls : Box} {contact : Contact} {brake : BrakeModel} {clamp : ClampMode} {calib : Calibration} {armed ticks : ℕ}
+    → kind ≡ kindOf (count c 2)
+    → limits ≡ limitsOf n
+    → norm ≡ normOf n
+    → walls ≡ wallsOf n
+    → contact ≡ zoneOf n c
+    → brake ≡ brakeOf n c
+    → clamp ≡ clampOf (count c 3)
+    → armed ≡ in32 (count c 20)
+    → calib ≡ calibrationOf n c center scale
+    → ticks ≡ in32 (count c 25)
+    → _≡_ {A = FuseConfig}
+    (record {
+      kind = kind;
+      dim = count c 0;
+      «pos_dim» = count c 1;
+      limits = limits;
+      norm = norm;
+      walls = walls;
+      contact = contact;
+      brake = brake;
+      clamp = clamp;
+      armed = armed;
+      «aux_count» = count c 21;
+      calibrated = eqb (count c 22) 1;
+      calib = calib;
+      «horizon_ticks» = ticks;
+    })
+    (configOf n c center scale)
+unfolding configOf
+whole-config n c center scale e1 e2 e3 e4 e5 e6 e7 e8 e9 e10 = rw (e1, e2, e3, e4, e5, e6, e7, e8, e9, e10)

@@ -1,0 +1,138 @@
+-- The configuration in flat arrays: 44 numbers, 26 counts and codes, and the calibration's two tables of 192.
+use Prim.Native.Nat.{ℕ, zero, suc}
+use mathlib.Core.Bool.{Bool, _||_}
+use mathlib.Core.List.{List, [], _∷_, _++_}
+use lib.Dec.{leb, eqb}
+use lib.Ieee.{Float}
+use Rattle.fmath.specs.Each.{at, every}
+use Rattle.conformal.specs.declared.Calibration.{Calibration}
+use Rattle.conformal.specs.declared.GateSpec.{GateSpec}
+use Rattle.envelope.specs.declared.ActionKind.{ActionKind}
+use Rattle.envelope.specs.declared.ActionKind.the-variants as K
+use Rattle.envelope.specs.declared.ClampMode.{ClampMode}
+use Rattle.envelope.specs.declared.ClampMode.the-variants as M
+use Rattle.envelope.specs.declared.BrakeKind.{BrakeKind}
+use Rattle.envelope.specs.declared.BrakeKind.the-variants as B
+use Rattle.envelope.specs.declared.Contact.{Contact}
+use Rattle.envelope.specs.declared.Contact.the-variants as C
+use Rattle.envelope.specs.declared.ControlSteps.{ControlSteps}
+use Rattle.envelope.specs.declared.Substeps.{Substeps}
+use Rattle.envelope.specs.declared.Limits.{Limits}
+use Rattle.envelope.specs.declared.Norm.{Norm}
+use Rattle.envelope.specs.declared.Box.{Box}
+use Rattle.envelope.specs.declared.BrakeModel.{BrakeModel}
+use Rattle.envelope.specs.declared.Derived.{Derived}
+use Rattle.envelope.specs.declared.FuseConfig.{FuseConfig}
+use Rattle.layout.specs.Places.{count, part, in8, in16, in32}
+
+-- ---- codes
+
+unfoldable pub kindOf : ℕ → ActionKind
+kindOf zero = K.EePosition
+kindOf (suc zero) = K.EeDelta
+kindOf (suc (suc zero)) = K.JointPosition
+kindOf (suc (suc (suc zero))) = K.JointVelocity
+kindOf (suc (suc (suc (suc k)))) = K.Other
+
+unfoldable pub clampOf : ℕ → ClampMode
+clampOf zero = M.Off
+clampOf (suc k) = M.Project
+
+unfoldable pub brakeKindOf : ℕ → Float → Float → Float → BrakeKind
+brakeKindOf zero kp kv dt = B.PdSecondOrder kp kv dt
+brakeKindOf (suc zero) kp kv dt = B.FirstOrderDecay kp kv dt
+brakeKindOf (suc (suc zero)) kp kv dt = B.BoundedAccel kp kv dt
+brakeKindOf (suc (suc (suc zero))) kp kv dt = B.JerkLimited kp kv dt
+brakeKindOf (suc (suc (suc (suc k)))) kp kv dt = B.ZeroVelocityHold kp kv dt
+
+unfoldable pub contactOf : ℕ → Float → Float → ℕ → ℕ → Contact
+contactOf zero radius speed a0 a1 = C.None
+contactOf (suc k) radius speed a0 a1 = C.Zone radius speed a0 a1
+
+-- ---- the parts, n being the numbers and c the counts
+
+-- numbers 0 to 5
+unfoldable pub limitsOf : List Float → Limits
+limitsOf n = record { dt = at n 0; «v_max» = at n 1; «a_max» = at n 2; «j_max» = at n 3; «reach_max» = at n 4; margin = at n 5 }
+
+-- numbers 6 to 8, counts 4 and 8 to 11
+unfoldable pub brakeOf : List Float → List ℕ → BrakeModel
+brakeOf n c = record {
+  kind = brakeKindOf (count c 4) (at n 6) (at n 7) (at n 8);
+  substeps = record { 0 = in16 (count c 8) };
+  commit = record { 0 = in16 (count c 9) };
+  «brake_steps» = record { 0 = in16 (count c 10) };
+  «react_ticks» = in16 (count c 11);
+}
+
+-- numbers 9 and 10, counts 5 to 7
+unfoldable pub zoneOf : List Float → List ℕ → Contact
+zoneOf n c = contactOf (count c 5) (at n 9) (at n 10) (in8 (count c 6)) (in8 (count c 7))
+
+-- numbers 11 to 26
+unfoldable pub normOf : List Float → Norm
+normOf n = record { center = part n 11 8; scale = part n 19 8 }
+
+-- numbers 27 to 42
+unfoldable pub wallsOf : List Float → Box
+wallsOf n = record { lo = part n 27 8; hi = part n 35 8 }
+
+-- counts 12 to 19 and 24
+unfoldable pub gateOf : List ℕ → GateSpec
+gateOf c = record {
+  «n_terms» = in8 (count c 24);
+  terms =
+      in32 (count c 12) ∷ in32 (count c 13) ∷ in32 (count c 14) ∷ in32 (count c 15)
+      ∷ in32 (count c 16) ∷ in32 (count c 17) ∷ in32 (count c 18) ∷ in32 (count c 19) ∷ [];
+}
+
+-- number 43, count 23 and the tables
+unfoldable pub calibrationOf : List Float → List ℕ → List Float → List Float → Calibration
+calibrationOf n c center scale =
+    record { center = center; scale = scale; mask = in32 (count c 23); gate = gateOf c; tau = at n 43 }
+
+-- ---- all of it
+
+unfoldable pub configOf : List Float → List ℕ → List Float → List Float → FuseConfig
+configOf n c center scale = record {
+  kind = kindOf (count c 2);
+  dim = count c 0;
+  «pos_dim» = count c 1;
+  limits = limitsOf n;
+  norm = normOf n;
+  walls = wallsOf n;
+  contact = zoneOf n c;
+  brake = brakeOf n c;
+  clamp = clampOf (count c 3);
+  armed = in32 (count c 20);
+  «aux_count» = count c 21;
+  calibrated = eqb (count c 22) 1;
+  calib = calibrationOf n c center scale;
+  «horizon_ticks» = in32 (count c 25);
+}
+
+-- each code is one of its kind and each count fits its field; a contact's are read where there is one, the calibration's where its flag is set
+abbrev pub long : ℕ → Bool
+long x = leb x 4294967295
+
+unfoldable pub zoneFits : List ℕ → Bool
+zoneFits c = every (leb (count c 6) 255 ∷ leb (count c 7) 255 ∷ [])
+
+unfoldable pub gateFits : List ℕ → Bool
+gateFits c =
+    every
+    (long (count c 12) ∷ long (count c 13) ∷ long (count c 14) ∷ long (count c 15) ∷ long (count c 16) ∷ long (count c 17)
+    ∷ long (count c 18) ∷ long (count c 19) ∷ long (count c 23) ∷ leb (count c 24) 255 ∷ long (count c 25) ∷ [])
+
+unfoldable pub countsFit : List ℕ → Bool
+countsFit c =
+    every
+    (leb (count c 2) 4 ∷ leb (count c 3) 1 ∷ leb (count c 4) 4 ∷ leb (count c 5) 1 ∷ leb (count c 8) 65535 ∷ leb (count c 9) 65535
+    ∷ leb (count c 10) 65535 ∷ leb (count c 11) 65535 ∷ long (count c 20) ∷ leb (count c 22) 1
+    ∷ (eqb (count c 5) 0 || zoneFits c) ∷ (eqb (count c 22) 0 || gateFits c) ∷ [])
+
+-- ---- what is derived, laid out in 29 numbers
+unfoldable pub derivedFlat : Derived → List Float
+derivedFlat d =
+    (d .«inv_dt» ∷ d .«inv_dt2» ∷ d .«inv_dt3» ∷ d .«step_max» ∷ d .«norm_scale_iso» ∷ [])
+    ++ part (d .«box_lo») 0 8 ++ part (d .«box_hi») 0 8 ++ part (d .«inv_norm_scale») 0 8

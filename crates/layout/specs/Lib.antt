@@ -1,0 +1,4 @@
+pub mod Places
+pub mod Trail
+pub mod Scores
+pub mod Config

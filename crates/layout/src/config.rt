@@ -1,0 +1,302 @@
+// The configuration: 44 numbers, 26 counts and codes, and the calibration's two tables of 192.
+ghost use mathlib.Core.Path.{_≡_};
+ghost use Prim.Native.Nat.{_+_, _≤_};
+ghost use Rattle.layout.specs.Places.{part};
+ghost use Rattle.layout.specs.Config.{kindOf, clampOf, brakeKindOf, contactOf, limitsOf, brakeOf, zoneOf, normOf, wallsOf, gateOf, calibrationOf, configOf, zoneFits, gateFits, countsFit, derivedFlat};
+use crate::places::to_u8;
+use crate::places::to_u16;
+use crate::places::to_u32;
+use conformal::Calibration;
+use conformal::GateSpec;
+use envelope::ActionKind;
+use envelope::Box;
+use envelope::BrakeKind;
+use envelope::BrakeModel;
+use envelope::ClampMode;
+use envelope::Contact;
+use envelope::ControlSteps;
+use envelope::Derived;
+use envelope::FuseConfig;
+use envelope::Limits;
+use envelope::Norm;
+use envelope::Substeps;
+
+// ---- codes: one that is none gives the last kind
+
+fn kind_of(k: u64) -> ActionKind
+    ensures { λ r. ⌜ r ≡ kindOf k ⌝ }
+{
+    match k {
+        0 => ActionKind::EePosition,
+        1 => ActionKind::EeDelta,
+        2 => ActionKind::JointPosition,
+        3 => ActionKind::JointVelocity,
+        _ => ActionKind::Other,
+    }
+}
+
+fn clamp_of(k: u64) -> ClampMode
+    ensures { λ r. ⌜ r ≡ clampOf k ⌝ }
+{
+    match k {
+        0 => ClampMode::Off,
+        _ => ClampMode::Project,
+    }
+}
+
+fn brake_kind_of(k: u64, k_p: f64, k_v: f64, dt: f64) -> BrakeKind
+    ensures { λ r. ⌜ r ≡ brakeKindOf k «k_p» «k_v» dt ⌝ }
+{
+    match k {
+        0 => BrakeKind::PdSecondOrder { k_p, k_v, dt },
+        1 => BrakeKind::FirstOrderDecay { k_p, k_v, dt },
+        2 => BrakeKind::BoundedAccel { k_p, k_v, dt },
+        3 => BrakeKind::JerkLimited { k_p, k_v, dt },
+        _ => BrakeKind::ZeroVelocityHold { k_p, k_v, dt },
+    }
+}
+
+fn contact_of(k: u64, radius: f64, v_max: f64, a0: u8, a1: u8) -> Contact
+    ensures { λ r. ⌜ r ≡ contactOf k radius «v_max» a0 a1 ⌝ }
+{
+    match k {
+        0 => Contact::None,
+        _ => Contact::Zone {
+            radius,
+            v_max,
+            a0,
+            a1,
+        },
+    }
+}
+
+// ---- the parts
+
+fn limits_of(n: &[f64; 44]) -> Limits
+    ensures { λ r. ⌜ r ≡ limitsOf (now (n .entry)) ⌝ }
+{
+    Limits {
+        dt: n[0],
+        v_max: n[1],
+        a_max: n[2],
+        j_max: n[3],
+        reach_max: n[4],
+        margin: n[5],
+    }
+}
+
+fn brake_of(n: &[f64; 44], c: &[u64; 26]) -> BrakeModel
+    ensures { λ r. ⌜ r ≡ brakeOf (now (n .entry)) (now (c .entry)) ⌝ }
+{
+    let kind = brake_kind_of(c[4], n[6], n[7], n[8]);
+    let substeps = to_u16(c[8]);
+    let commit = to_u16(c[9]);
+    let brake_steps = to_u16(c[10]);
+    let react_ticks = to_u16(c[11]);
+    BrakeModel {
+        kind,
+        substeps: Substeps(substeps),
+        commit: ControlSteps(commit),
+        brake_steps: ControlSteps(brake_steps),
+        react_ticks,
+    }
+}
+
+fn zone_of(n: &[f64; 44], c: &[u64; 26]) -> Contact
+    ensures { λ r. ⌜ r ≡ zoneOf (now (n .entry)) (now (c .entry)) ⌝ }
+{
+    let a0 = to_u8(c[6]);
+    let a1 = to_u8(c[7]);
+    contact_of(c[5], n[9], n[10], a0, a1)
+}
+
+fn eight(n: &[f64; 44], start: usize) -> [f64; 8]
+    requires { ⌜ start + 8 ≤ 44 ⌝ }
+    ensures { λ r. ⌜ r ≡ part (now (n .entry)) start 8 ⌝ }
+{
+    [
+        n[start],
+        n[start + 1],
+        n[start + 2],
+        n[start + 3],
+        n[start + 4],
+        n[start + 5],
+        n[start + 6],
+        n[start + 7],
+    ]
+}
+
+fn norm_of(n: &[f64; 44]) -> Norm
+    ensures { λ r. ⌜ r ≡ normOf (now (n .entry)) ⌝ }
+{
+    let center = eight(n, 11);
+    let scale = eight(n, 19);
+    Norm { center, scale }
+}
+
+fn walls_of(n: &[f64; 44]) -> Box
+    ensures { λ r. ⌜ r ≡ wallsOf (now (n .entry)) ⌝ }
+{
+    let lo = eight(n, 27);
+    let hi = eight(n, 35);
+    Box { lo, hi }
+}
+
+fn gate_of(c: &[u64; 26]) -> GateSpec
+    ensures { λ r. ⌜ r ≡ gateOf (now (c .entry)) ⌝ }
+{
+    let n_terms = to_u8(c[24]);
+    let terms = [
+        to_u32(c[12]),
+        to_u32(c[13]),
+        to_u32(c[14]),
+        to_u32(c[15]),
+        to_u32(c[16]),
+        to_u32(c[17]),
+        to_u32(c[18]),
+        to_u32(c[19]),
+    ];
+    GateSpec { n_terms, terms }
+}
+
+fn calibration_of(
+    n: &[f64; 44],
+    c: &[u64; 26],
+    center: &[f64; 192],
+    scale: &[f64; 192],
+) -> Calibration
+    ensures { λ r. ⌜ r ≡ calibrationOf (now (n .entry)) (now (c .entry)) (now (center .entry)) (now (scale .entry)) ⌝ }
+{
+    let gate = gate_of(c);
+    let mask = to_u32(c[23]);
+    Calibration {
+        center: *center,
+        scale: *scale,
+        mask,
+        gate,
+        tau: n[43],
+    }
+}
+
+// ---- all of it
+
+// The configuration that the arrays stand for.
+pub fn config_of(
+    n: &[f64; 44],
+    c: &[u64; 26],
+    center: &[f64; 192],
+    scale: &[f64; 192],
+) -> FuseConfig
+    ensures { λ r. ⌜ r ≡ configOf (now (n .entry)) (now (c .entry)) (now (center .entry)) (now (scale .entry)) ⌝ }
+{
+    let kind = kind_of(c[2]);
+    let limits = limits_of(n);
+    let norm = norm_of(n);
+    let walls = walls_of(n);
+    let contact = zone_of(n, c);
+    let brake = brake_of(n, c);
+    let clamp = clamp_of(c[3]);
+    let armed = to_u32(c[20]);
+    let calib = calibration_of(n, c, center, scale);
+    let horizon_ticks = to_u32(c[25]);
+    FuseConfig {
+        kind,
+        dim: c[0] as usize,
+        pos_dim: c[1] as usize,
+        limits,
+        norm,
+        walls,
+        contact,
+        brake,
+        clamp,
+        armed,
+        aux_count: c[21] as usize,
+        calibrated: c[22] == 1,
+        calib,
+        horizon_ticks,
+    }
+}
+
+// ---- what fits
+
+fn zone_fits(c: &[u64; 26]) -> bool
+    ensures { λ r. ⌜ r ≡ zoneFits (now (c .entry)) ⌝ }
+{
+    (c[6] <= 255) & (c[7] <= 255)
+}
+
+fn gate_fits(c: &[u64; 26]) -> bool
+    ensures { λ r. ⌜ r ≡ gateFits (now (c .entry)) ⌝ }
+{
+    (c[12] <= 4294967295)
+        & (c[13] <= 4294967295)
+        & (c[14] <= 4294967295)
+        & (c[15] <= 4294967295)
+        & (c[16] <= 4294967295)
+        & (c[17] <= 4294967295)
+        & (c[18] <= 4294967295)
+        & (c[19] <= 4294967295)
+        & (c[23] <= 4294967295)
+        & (c[24] <= 255)
+        & (c[25] <= 4294967295)
+}
+
+// Each code is one of its kind and each count fits its field, as far as they are read.
+pub fn counts_fit(c: &[u64; 26]) -> bool
+    ensures { λ r. ⌜ r ≡ countsFit (now (c .entry)) ⌝ }
+{
+    let zone = zone_fits(c);
+    let gate = gate_fits(c);
+    (c[2] <= 4)
+        & (c[3] <= 1)
+        & (c[4] <= 4)
+        & (c[5] <= 1)
+        & (c[8] <= 65535)
+        & (c[9] <= 65535)
+        & (c[10] <= 65535)
+        & (c[11] <= 65535)
+        & (c[20] <= 4294967295)
+        & (c[22] <= 1)
+        & ((c[5] == 0) | zone)
+        & ((c[22] == 0) | gate)
+}
+
+// Lays what is derived out in the array.
+pub fn put_derived(d: Derived, l: &mut [f64; 29])
+    ensures { λ _. ⌜ now (l .exit) ≡ derivedFlat d ⌝ }
+{
+    let lo = d.box_lo;
+    let hi = d.box_hi;
+    let inv = d.inv_norm_scale;
+    *l = [
+        d.inv_dt,
+        d.inv_dt2,
+        d.inv_dt3,
+        d.step_max,
+        d.norm_scale_iso,
+        lo[0],
+        lo[1],
+        lo[2],
+        lo[3],
+        lo[4],
+        lo[5],
+        lo[6],
+        lo[7],
+        hi[0],
+        hi[1],
+        hi[2],
+        hi[3],
+        hi[4],
+        hi[5],
+        hi[6],
+        hi[7],
+        inv[0],
+        inv[1],
+        inv[2],
+        inv[3],
+        inv[4],
+        inv[5],
+        inv[6],
+        inv[7],
+    ];
+}

@@ -1,0 +1,81 @@
+-- Equal answers are given alike, so that a function which hands on an entry's answer meets the entry's rule.
+use Prim.Native.Nat.{ℕ}
+use mathlib.Core.Path.{_≡_, ap, _∙_}
+use mathlib.Core.Bool.{Bool}
+use mathlib.Core.List.{List}
+use lib.Ieee.{Float, binary64}
+use Rattle.refusal.specs.Order.{refusal}
+use Rattle.fmath.specs.declared.Number.{Number}
+use Rattle.chunk.specs.declared.Filled.{Filled}
+use Rattle.window.specs.declared.Masked.{Masked}
+use Rattle.window.specs.declared.Recorded.{Recorded}
+use Rattle.window.specs.declared.Trail.{Trail}
+use Rattle.window.specs.Answer.{netOf, pathOf}
+use Rattle.window.specs.Of.{pushOf, clearOf}
+use Rattle.conformal.specs.declared.Scored.{Scored}
+use Rattle.conformal.specs.declared.Verdict.{Verdict}
+use Rattle.conformal.specs.declared.TimeBin.{TimeBin}
+use Rattle.conformal.specs.declared.Scores.{Scores}
+use Rattle.conformal.specs.declared.Calibration.{Calibration}
+use Rattle.conformal.specs.Answer.{standardised, aggregated, tripped}
+use Rattle.envelope.specs.declared.Derived.{Derived}
+use Rattle.envelope.specs.declared.FuseConfig.{FuseConfig}
+use Rattle.envelope.specs.Derive.{derived}
+use Rattle.envelope.specs.Refusals.{configJudged}
+use Rattle.lictor.specs.Answer.{fitting, NumberGiven, FilledGiven, MaskGiven, RecordedGiven, TrailNumberGiven, DerivedGiven, ScoredGiven, VerdictGiven, BinGiven}
+
+pub number-alike : {a b : Number} {r : ℕ} {old new : Float} → a ≡ b → NumberGiven a r old new → NumberGiven b r old new
+number-alike e g = rw e at g
+
+pub filled-alike : {a b : Filled} {r : ℕ} {d₀ d : List Float} {h₀ h : List ℕ} → a ≡ b → FilledGiven a r d₀ d h₀ h → FilledGiven b r d₀ d h₀ h
+filled-alike e g = rw e at g
+
+pub mask-alike : {a b : Masked} {r old new : ℕ} → a ≡ b → MaskGiven a r old new → MaskGiven b r old new
+mask-alike e g = rw e at g
+
+pub recorded-alike : {f g : Bool} {a b : Recorded} {r : ℕ} {l₀ l : List Float} {m₀ m : List ℕ} → f ≡ g → a ≡ b → RecordedGiven f a r l₀ l m₀ m → RecordedGiven g b r l₀ l m₀ m
+recorded-alike p q g = rw (p, q) at g
+
+pub trail-number-alike : {f g : Bool} {a b : Number} {r : ℕ} {old new : Float} → f ≡ g → a ≡ b → TrailNumberGiven f a r old new → TrailNumberGiven g b r old new
+trail-number-alike p q g = rw (p, q) at g
+
+pub derived-alike : {m n : ℕ} {d e : Derived} {r : ℕ} {old new : List Float} → m ≡ n → d ≡ e → DerivedGiven m d r old new → DerivedGiven n e r old new
+derived-alike p q g = rw (p, q) at g
+
+pub scored-alike : {f g : Bool} {a b : Scored} {r : ℕ} {s₀ s : List Float} {m₀ m : List ℕ} → f ≡ g → a ≡ b → ScoredGiven f a r s₀ s m₀ m → ScoredGiven g b r s₀ s m₀ m
+scored-alike p q g = rw (p, q) at g
+
+pub verdict-alike : {f g : Bool} {a b : Verdict} {r old new : ℕ} → f ≡ g → a ≡ b → VerdictGiven f a r old new → VerdictGiven g b r old new
+verdict-alike p q g = rw (p, q) at g
+
+pub bin-alike : {a b : TimeBin} {r old new : ℕ} → a ≡ b → BinGiven a r old new → BinGiven b r old new
+bin-alike e g = rw e at g
+
+-- ---- an entry's answer on equal arguments
+
+pub standardised-alike : (bin : ℕ) {a : Scored} {cal k : Calibration} {sc t : Scores} → a ≡ standardised binary64 cal bin sc → cal ≡ k → sc ≡ t → a ≡ standardised binary64 k bin t
+standardised-alike bin e p q = rw (p, q) at e
+
+pub aggregated-alike : {a : Scored} {cal k : Calibration} {sc t : Scores} → a ≡ aggregated cal sc → cal ≡ k → sc ≡ t → a ≡ aggregated k t
+aggregated-alike e p q = rw (p, q) at e
+
+pub tripped-alike : {a : Verdict} {cal k : Calibration} {sc t : Scores} → a ≡ tripped cal sc → cal ≡ k → sc ≡ t → a ≡ tripped k t
+tripped-alike e p q = rw (p, q) at e
+
+pub refused-alike : {n : ℕ} (m : ℕ) (fits b : Bool) {c k : FuseConfig} → n ≡ fitting fits m → fits ≡ b → m ≡ refusal (configJudged c) → c ≡ k → n ≡ fitting b (refusal (configJudged k))
+refused-alike m fits b e p q s = e ∙ ap (λ (x : Bool). fitting x m) p ∙ ap (fitting b) (q ∙ ap (λ (x : FuseConfig). refusal (configJudged x)) s)
+
+pub derive-alike : {d : Derived} {c k : FuseConfig} → d ≡ derived binary64 c → c ≡ k → d ≡ derived binary64 k
+derive-alike e p = e ∙ ap (derived binary64) p
+
+pub push-alike : (p : List Float) (d : ℕ) {a : Recorded} {t u : Trail} → a ≡ pushOf t p d → t ≡ u → a ≡ pushOf u p d
+push-alike p d e q = rw q at e
+
+pub clear-alike : {a : Recorded} {t u : Trail} → a ≡ clearOf t → t ≡ u → a ≡ clearOf u
+clear-alike e q = rw q at e
+
+pub net-alike : (d w : ℕ) {a : Number} {t u : Trail} → a ≡ netOf binary64 t d w → t ≡ u → a ≡ netOf binary64 u d w
+net-alike d w e q = rw q at e
+
+pub path-alike : (d w : ℕ) {a : Number} {t u : Trail} → a ≡ pathOf binary64 t d w → t ≡ u → a ≡ pathOf binary64 u d w
+path-alike d w e q = rw q at e

@@ -1,0 +1,124 @@
+-- What C is given of an answer: document 01's number, 0 for an accepted call, and each place as it stands at exit. A refusal leaves the places as they were.
+use Prim.Native.Nat.{ℕ}
+use mathlib.Core.Path.{_≡_}
+use mathlib.Core.Bool.{Bool, true, false}
+use mathlib.Core.List.{List, [], _∷_}
+use lib.Dec.{eqb}
+use lib.Ieee.{Float}
+use Rattle.refusal.specs.Order.{if_then_else_}
+use Rattle.fmath.specs.declared.Number.{Number}
+use Rattle.fmath.specs.declared.Number.the-variants as N
+use Rattle.chunk.specs.declared.ChunkBuf.{ChunkBuf}
+use Rattle.chunk.specs.declared.Filled.{Filled}
+use Rattle.window.specs.declared.Masked.{Masked}
+use Rattle.window.specs.declared.Masked.the-variants as M
+use Rattle.window.specs.declared.Recorded.{Recorded}
+use Rattle.conformal.specs.declared.Scored.{Scored}
+use Rattle.conformal.specs.declared.Verdict.{Verdict}
+use Rattle.conformal.specs.declared.Verdict.the-variants as Y
+use Rattle.conformal.specs.declared.TimeBin.{TimeBin}
+use Rattle.conformal.specs.declared.TimeBin.the-variants as B
+use Rattle.envelope.specs.declared.Derived.{Derived}
+use Rattle.layout.specs.Trail.{trailMarks}
+use Rattle.layout.specs.Scores.{scoresFlat, marksFlat}
+use Rattle.layout.specs.Config.{derivedFlat}
+
+-- the boundary's own number comes first: 255 where a code is none of its kind or a count does not fit its field
+abbrev pub fitting : Bool → ℕ → ℕ
+fitting fits n = if fits then n else 255
+
+-- what an accepted call writes; a refused one leaves what was there
+abbrev pub written : {A : Type 0} → ℕ → A → A → A
+written n new old = if eqb n 0 then new else old
+
+abbrev pub bit : Bool → ℕ
+bit true = 1
+bit false = 0
+
+-- ---- module 1: a number
+
+unfoldable pub numberOf : Number → ℕ
+numberOf (N.Value x) = 0
+numberOf (N.Refused r) = r .number
+
+unfoldable pub valueOf : Number → Float → Float
+valueOf (N.Value x) old = x
+valueOf (N.Refused r) old = old
+
+-- r is returned, and the place that held `old` holds `new`
+pub record NumberGiven (a : Number) (r : ℕ) (old new : Float) : Type 0 where
+  pub number : r ≡ numberOf a
+  pub value : new ≡ valueOf a old
+
+-- ---- module 2: a buffer, in 512 numbers and 6 counts
+
+abbrev pub headerFlat : ChunkBuf → List ℕ
+headerFlat b = b .seq ∷ b .«t_emit» ∷ b .horizon ∷ b .dim ∷ b .«exec_steps» ∷ bit (b .filled) ∷ []
+
+pub record FilledGiven (a : Filled) (r : ℕ) (d₀ d : List Float) (h₀ h : List ℕ) : Type 0 where
+  pub number : r ≡ a .number
+  pub numbers : d ≡ written (a .number) (a .buf .«data») d₀
+  pub header : h ≡ written (a .number) (headerFlat (a .buf)) h₀
+
+-- ---- module 3: a mask
+
+unfoldable pub maskNumber : Masked → ℕ
+maskNumber (M.Mask m) = 0
+maskNumber (M.Refused r) = r .number
+
+unfoldable pub maskValue : Masked → ℕ → ℕ
+maskValue (M.Mask m) old = m
+maskValue (M.Refused r) old = old
+
+pub record MaskGiven (a : Masked) (r old new : ℕ) : Type 0 where
+  pub number : r ≡ maskNumber a
+  pub value : new ≡ maskValue a old
+
+-- .. and a trail, in 256 numbers and 2 counts
+
+pub record RecordedGiven (fits : Bool) (a : Recorded) (r : ℕ) (l₀ l : List Float) (m₀ m : List ℕ) : Type 0 where
+  pub number : r ≡ fitting fits (a .number)
+  pub numbers : l ≡ written (fitting fits (a .number)) (a .trail .buf) l₀
+  pub marks : m ≡ written (fitting fits (a .number)) (trailMarks (a .trail)) m₀
+
+-- a number of a trail whose counts may not fit
+pub record TrailNumberGiven (fits : Bool) (a : Number) (r : ℕ) (old new : Float) : Type 0 where
+  pub number : r ≡ fitting fits (numberOf a)
+  pub value : new ≡ (if fits then valueOf a old else old)
+
+-- ---- module 4: what is derived, in 29 numbers
+
+pub record DerivedGiven (n : ℕ) (d : Derived) (r : ℕ) (old new : List Float) : Type 0 where
+  pub number : r ≡ n
+  pub numbers : new ≡ written n (derivedFlat d) old
+
+-- ---- module 8: scores, a verdict, a time bin
+
+pub record ScoredGiven (fits : Bool) (a : Scored) (r : ℕ) (s₀ s : List Float) (m₀ m : List ℕ) : Type 0 where
+  pub number : r ≡ fitting fits (a .refusal .number)
+  pub scores : s ≡ written (fitting fits (a .refusal .number)) (scoresFlat (a .scores)) s₀
+  pub marks : m ≡ written (fitting fits (a .refusal .number)) (marksFlat (a .scores)) m₀
+
+unfoldable pub verdictNumber : Verdict → ℕ
+verdictNumber (Y.Refused r) = r .number
+verdictNumber (Y.Trips b) = 0
+
+unfoldable pub verdictValue : Verdict → ℕ → ℕ
+verdictValue (Y.Refused r) old = old
+verdictValue (Y.Trips b) old = bit b
+
+pub record VerdictGiven (fits : Bool) (a : Verdict) (r old new : ℕ) : Type 0 where
+  pub number : r ≡ fitting fits (verdictNumber a)
+  pub trips : new ≡ (if fits then verdictValue a old else old)
+
+unfoldable pub binNumber : TimeBin → ℕ
+binNumber (B.NoBin r) = r .number
+binNumber (B.Bin b) = 0
+
+unfoldable pub binValue : TimeBin → ℕ → ℕ
+binValue (B.NoBin r) old = old
+binValue (B.Bin b) old = b
+
+pub record BinGiven (a : TimeBin) (r old new : ℕ) : Type 0 where
+  pub number : r ≡ binNumber a
+  pub bin : new ≡ binValue a old

@@ -1,0 +1,127 @@
+// Answers, put where C reads them: the number is returned, and a refusal leaves every place as it was.
+ghost use mathlib.Core.Path.{_≡_};
+ghost use Rattle.lictor.specs.Answer.{fitting, NumberGiven, FilledGiven, MaskGiven, RecordedGiven, TrailNumberGiven, DerivedGiven, ScoredGiven, VerdictGiven, BinGiven};
+use chunk::Filled;
+use conformal::Scored;
+use conformal::TimeBin;
+use conformal::Verdict;
+use envelope::Derived;
+use fmath::Number;
+use window::Masked;
+use window::Recorded;
+
+// The number that is given: 255 where a code is none of its kind or a count does not fit its field.
+pub fn fitting(fits: bool, number: u8) -> u64
+    ensures { λ r. ⌜ r ≡ fitting fits number ⌝ }
+{
+    if fits { number as u64 } else { 255 }
+}
+
+pub fn put_number(a: Number, value: &mut f64) -> u64
+    ensures { λ r. ⌜ NumberGiven a r (now (value .entry)) (now (value .exit)) ⌝ }
+{
+    match a {
+        Number::Value(x) => {
+            *value = x;
+            0
+        }
+        Number::Refused(r) => r.number as u64,
+    }
+}
+
+pub fn put_filled(a: Filled, numbers: &mut [f64; 512], header: &mut [u64; 6]) -> u64
+    ensures { λ r. ⌜ FilledGiven a r (now (numbers .entry)) (now (numbers .exit)) (now (header .entry)) (now (header .exit)) ⌝ }
+{
+    let number = a.number as u64;
+    if number == 0 {
+        let buf = a.buf;
+        let data = buf.data;
+        *numbers = data;
+        *header = [
+            buf.seq as u64,
+            buf.t_emit as u64,
+            buf.horizon as u64,
+            buf.dim as u64,
+            buf.exec_steps as u64,
+            buf.filled as u64,
+        ];
+    }
+    number
+}
+
+pub fn put_mask(a: Masked, mask: &mut u64) -> u64
+    ensures { λ r. ⌜ MaskGiven a r (now (mask .entry)) (now (mask .exit)) ⌝ }
+{
+    match a {
+        Masked::Mask(m) => {
+            *mask = m;
+            0
+        }
+        Masked::Refused(r) => r.number as u64,
+    }
+}
+
+pub fn put_recorded(fits: bool, a: Recorded, numbers: &mut [f64; 256], marks: &mut [u64; 2]) -> u64
+    ensures { λ r. ⌜ RecordedGiven fits a r (now (numbers .entry)) (now (numbers .exit)) (now (marks .entry)) (now (marks .exit)) ⌝ }
+{
+    let number = fitting(fits, a.number);
+    if number == 0 {
+        layout::trails::put_trail(a.trail, numbers, marks);
+    }
+    number
+}
+
+pub fn put_trail_number(fits: bool, a: Number, value: &mut f64) -> u64
+    ensures { λ r. ⌜ TrailNumberGiven fits a r (now (value .entry)) (now (value .exit)) ⌝ }
+{
+    if !fits {
+        return 255;
+    }
+    put_number(a, value)
+}
+
+pub fn put_derived(number: u64, d: Derived, derived: &mut [f64; 29]) -> u64
+    ensures { λ r. ⌜ DerivedGiven number d r (now (derived .entry)) (now (derived .exit)) ⌝ }
+{
+    if number == 0 {
+        layout::config::put_derived(d, derived);
+    }
+    number
+}
+
+pub fn put_scored(fits: bool, a: Scored, scores: &mut [f64; 25], marks: &mut [u64; 2]) -> u64
+    ensures { λ r. ⌜ ScoredGiven fits a r (now (scores .entry)) (now (scores .exit)) (now (marks .entry)) (now (marks .exit)) ⌝ }
+{
+    let number = fitting(fits, a.refusal.number);
+    if number == 0 {
+        layout::scores::put_scores(a.scores, scores, marks);
+    }
+    number
+}
+
+pub fn put_verdict(fits: bool, a: Verdict, trips: &mut u64) -> u64
+    ensures { λ r. ⌜ VerdictGiven fits a r (now (trips .entry)) (now (trips .exit)) ⌝ }
+{
+    if !fits {
+        return 255;
+    }
+    match a {
+        Verdict::Refused(r) => r.number as u64,
+        Verdict::Trips(b) => {
+            *trips = b as u64;
+            0
+        }
+    }
+}
+
+pub fn put_bin(a: TimeBin, bin: &mut u64) -> u64
+    ensures { λ r. ⌜ BinGiven a r (now (bin .entry)) (now (bin .exit)) ⌝ }
+{
+    match a {
+        TimeBin::NoBin(r) => r.number as u64,
+        TimeBin::Bin(b) => {
+            *bin = b as u64;
+            0
+        }
+    }
+}

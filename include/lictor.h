@@ -1,0 +1,258 @@
+/* The guard's entries: limits, scores and the stopping forecast, each proved equal to its rule.
+ *
+ * Every pointer is to memory of the caller's that nothing else writes during the call; what is written overlaps nothing
+ * else that is passed, and no pointer is kept. A slice is a pointer to its first number and a count of numbers; the
+ * pointer is not null and is aligned for a double also where the count is 0. An entry that can refuse returns the number of the refusal, 0
+ * where it accepts; a refusal leaves every output as it was, save that a forecast refused with LICTOR_COMPUTED keeps the
+ * entries before its place.
+ */
+#ifndef LICTOR_H
+#define LICTOR_H
+
+#include <stddef.h>
+#include <stdint.h>
+
+#ifdef __cplusplus
+extern "C" {
+#endif
+
+/* ---- refusals; the lowest that applies is given, LICTOR_BAD_CODE before all others */
+
+#define LICTOR_ACCEPTED 0
+/* dim, pos_dim, term count, feature bit, window length, trail head or trail count is out of size */
+#define LICTOR_SIZE 1
+/* a configuration number, or one derived from it, isn't finite or is out of its range */
+#define LICTOR_NUMBER 2
+/* substeps, commit, braking steps or horizon ticks are out of range */
+#define LICTOR_STEPS 3
+/* the contact's two channels are equal, or one is at or above aux_count */
+#define LICTOR_CHANNELS 4
+/* a chunk, in the order of judging: no rows or no width, over 64 rows, over 8 wide, executes more rows than it has, other
+   than rows times width numbers */
+#define LICTOR_EMPTY 5
+#define LICTOR_TOO_LONG 6
+#define LICTOR_TOO_WIDE 7
+#define LICTOR_EXEC_EXCEEDS_HORIZON 8
+#define LICTOR_LEN_MISMATCH 9
+/* a chunk's width differs from dim */
+#define LICTOR_WIDTH 10
+/* a slice is too short */
+#define LICTOR_SHORT 11
+/* a number of an input slice, of a trail, of held features or of scores isn't finite */
+#define LICTOR_NOT_FINITE 12
+/* a computed number isn't finite */
+#define LICTOR_COMPUTED 13
+/* the boundary's own: a code is none of its kind, or a count doesn't fit its field */
+#define LICTOR_BAD_CODE 255
+
+/* ---- numbers */
+
+/* a where a < b, else b */
+double lictor_min(double a, double b);
+
+/* a where a > b, else b */
+double lictor_max(double a, double b);
+
+/* lo where x < lo, hi where x > hi, else x */
+double lictor_clamp(double x, double lo, double hi);
+
+/* The root of x, to nearest. LICTOR_COMPUTED below zero, at an infinity and at a NaN. */
+uint64_t lictor_sqrt(double x, double *root);
+
+/* The length of the first n coordinates of v. LICTOR_SHORT, LICTOR_NOT_FINITE, LICTOR_COMPUTED. */
+uint64_t lictor_norm(const double *v, size_t v_count, size_t n, double *norm);
+
+/* The distance of a and b over their first n coordinates. LICTOR_SHORT, LICTOR_NOT_FINITE, LICTOR_COMPUTED. */
+uint64_t lictor_dist(const double *a, size_t a_count, const double *b, size_t b_count, size_t n, double *dist);
+
+/* ---- chunks: rows of planned actions, row i from i x dim */
+
+#define LICTOR_MAX_HORIZON 64
+#define LICTOR_MAX_DIM 8
+
+/* A chunk that is held. All zeros is a buffer that holds none; setting filled to 0 lets go of the chunk. */
+struct lictor_chunk_header {
+    uint64_t seq, t_emit, horizon, dim, exec_steps;
+    uint64_t filled; /* 0 or 1 */
+};
+
+/* Copies a chunk into a buffer; the numbers past the chunk's own stay. The old header isn't read.
+   LICTOR_EMPTY to LICTOR_LEN_MISMATCH, LICTOR_NOT_FINITE. */
+uint64_t lictor_fill(double numbers[512], struct lictor_chunk_header *header, uint32_t seq, uint32_t t_emit,
+                     uint16_t horizon, uint16_t dim, uint16_t exec_steps, const double *rows, size_t rows_count);
+
+/* The length of row i, the last row at or past the horizon; 0 where there are no rows or the row runs past the numbers.
+   The row is copied where there is room for dim numbers. Refuses nothing. */
+size_t lictor_action(const double *rows, size_t rows_count, uint16_t horizon, uint16_t dim, size_t i, double *row,
+                     size_t row_count);
+
+/* Writes the numbers of row over that row, as many as both have. Refuses nothing. */
+void lictor_set_row(double *rows, size_t rows_count, uint16_t horizon, uint16_t dim, size_t i, const double *row,
+                    size_t row_count);
+
+/* How many of a buffer's numbers are rows of a held chunk: horizon x dim where filled isn't 0 and they are there, else 0. */
+size_t lictor_held_rows(const double numbers[512], uint16_t horizon, uint16_t dim, uint64_t filled);
+
+/* ---- the hit window: the last pushes, a bit each, the newest lowest; 0 is a new window */
+
+/* The mask of a window of n pushes, 2^n - 1. LICTOR_SIZE outside 1..63. */
+uint64_t lictor_mask(uint8_t n, uint64_t *mask);
+
+/* The bits after one more push, a hit where hit isn't 0. */
+uint64_t lictor_push(uint64_t bits, uint64_t hit, uint64_t mask);
+
+/* How many bits are set. */
+uint64_t lictor_hits(uint64_t bits);
+
+/* ---- the trail: a ring of the last 32 positions, 8 numbers to a slot; all zeros is a new one */
+
+struct lictor_trail_marks {
+    uint64_t head, len; /* the slot that is written next, at most 31; the samples held, at most 32 */
+};
+
+/* Records the first d coordinates of p, at most 8 and as many as there are; the slot's other numbers stay. LICTOR_BAD_CODE,
+   LICTOR_SIZE, LICTOR_NOT_FINITE. */
+uint64_t lictor_trail_push(double numbers[256], struct lictor_trail_marks *marks, const double *p, size_t p_count,
+                           size_t d);
+
+/* Lets go of the samples; the numbers stay. LICTOR_BAD_CODE, LICTOR_SIZE, LICTOR_NOT_FINITE. */
+uint64_t lictor_trail_clear(double numbers[256], struct lictor_trail_marks *marks);
+
+/* The distance from the oldest to the newest of the last w samples, over the first d coordinates; 0 for too few samples or a w
+   out of range. LICTOR_BAD_CODE, LICTOR_SIZE, LICTOR_NOT_FINITE, LICTOR_COMPUTED. */
+uint64_t lictor_trail_net(const double numbers[256], const struct lictor_trail_marks *marks, size_t d, size_t w,
+                          double *net);
+
+/* The length of the way between them, sample by sample, likewise. */
+uint64_t lictor_trail_path(const double numbers[256], const struct lictor_trail_marks *marks, size_t d, size_t w,
+                           double *path);
+
+/* ---- the configuration: 44 numbers, 26 counts and codes, and the calibration's two tables */
+
+struct lictor_numbers {
+    double dt, v_max, a_max, j_max, reach_max, margin; /*  0.. 5 */
+    double brake_k_p, brake_k_v, brake_dt;             /*  6.. 8 */
+    double contact_radius, contact_v_max;              /*  9..10 */
+    double norm_center[8], norm_scale[8];              /* 11..26 */
+    double box_lo[8], box_hi[8];                       /* 27..42 */
+    double tau;                                        /* 43     */
+};
+
+struct lictor_counts {
+    uint64_t dim, pos_dim;                               /*  0.. 1 */
+    uint64_t kind;                                       /*  2: LICTOR_EE_POSITION .. LICTOR_OTHER */
+    uint64_t clamp;                                      /*  3: LICTOR_CLAMP_OFF or LICTOR_CLAMP_PROJECT */
+    uint64_t brake;                                      /*  4: LICTOR_PD_SECOND_ORDER .. LICTOR_ZERO_VELOCITY_HOLD */
+    uint64_t contact, contact_a0, contact_a1;            /*  5.. 7: 1 where there is a slow zone, and its channels */
+    uint64_t substeps, commit, brake_steps, react_ticks; /*  8..11 */
+    uint64_t terms[8];                                   /* 12..19: feature bits */
+    uint64_t armed, aux_count;                           /* 20..21: trip bits; how many channels the camera declares */
+    uint64_t calibrated;                                 /* 22: 1 where there is a calibration; else nothing of it is judged */
+    uint64_t mask, n_terms, horizon_ticks;               /* 23..25 */
+};
+
+/* codes of kind */
+#define LICTOR_EE_POSITION 0
+#define LICTOR_EE_DELTA 1
+#define LICTOR_JOINT_POSITION 2
+#define LICTOR_JOINT_VELOCITY 3
+#define LICTOR_OTHER 4
+
+/* codes of clamp */
+#define LICTOR_CLAMP_OFF 0
+#define LICTOR_CLAMP_PROJECT 1
+
+/* codes of brake */
+#define LICTOR_PD_SECOND_ORDER 0
+#define LICTOR_FIRST_ORDER_DECAY 1
+#define LICTOR_BOUNDED_ACCEL 2
+#define LICTOR_JERK_LIMITED 3
+#define LICTOR_ZERO_VELOCITY_HOLD 4
+
+/* trip bits */
+#define LICTOR_TRIP_WORKSPACE 1
+#define LICTOR_TRIP_SPEED 2
+#define LICTOR_TRIP_ACCEL 4
+#define LICTOR_TRIP_JERK 8
+#define LICTOR_TRIP_REACH 16
+#define LICTOR_TRIP_CONTACT 32
+
+/* What is derived from a configuration. */
+struct lictor_derived {
+    double inv_dt, inv_dt2, inv_dt3, step_max; /* 1 / dt and its powers; v_max x dt */
+    double norm_scale_iso;                     /* the least norm scale */
+    double box_lo[8], box_hi[8];               /* the box moved inward by the margin; 0 past pos_dim */
+    double inv_norm_scale[8];                  /* 1 / scale; 0 past dim */
+};
+
+/* Judges a configuration and derives from it. The tables hold feature j of time bin b at b x 12 + j. LICTOR_BAD_CODE,
+   LICTOR_SIZE, LICTOR_NUMBER, LICTOR_STEPS, LICTOR_CHANNELS. */
+uint64_t lictor_derive(const struct lictor_numbers *numbers, const struct lictor_counts *counts,
+                       const double center[192], const double scale[192], struct lictor_derived *derived);
+
+/* ---- the gate: scores held against a calibration (its tables, tau, mask of features, and the first n_terms of its terms) */
+
+/* feature bits, by position */
+#define LICTOR_TCE 0
+#define LICTOR_ACC 1
+#define LICTOR_ACM_NEG 2
+#define LICTOR_NJR 3
+#define LICTOR_REACH 4
+#define LICTOR_SPEED_PEAK 5
+#define LICTOR_PATH_INEFF 6
+#define LICTOR_STALL 7
+#define LICTOR_EXT0 8
+#define LICTOR_EXT1 9
+#define LICTOR_EXT2 10
+#define LICTOR_EXT3 11
+
+struct lictor_scores {
+    double f[12], z[12]; /* the features, and in units of the calibration */
+    double s;            /* their aggregate */
+};
+
+struct lictor_marks {
+    uint64_t valid, fired; /* a bit for each feature */
+};
+
+/* Puts f in units of the calibration, in z; a bin above 15 is 15. LICTOR_BAD_CODE, LICTOR_SIZE, LICTOR_NUMBER,
+   LICTOR_NOT_FINITE, LICTOR_COMPUTED. */
+uint64_t lictor_standardise(const double center[192], const double scale[192], double tau, uint32_t mask,
+                            uint8_t n_terms, const uint32_t terms[8], size_t bin, struct lictor_scores *scores,
+                            struct lictor_marks *marks);
+
+/* Sets s and fired from z; s is negative infinity where no term is live. LICTOR_BAD_CODE, LICTOR_SIZE, LICTOR_NUMBER,
+   LICTOR_NOT_FINITE. */
+uint64_t lictor_aggregate(const double center[192], const double scale[192], double tau, uint32_t mask,
+                          uint8_t n_terms, const uint32_t terms[8], struct lictor_scores *scores,
+                          struct lictor_marks *marks);
+
+/* Sets trips to 1 where s is above tau, else to 0. Refuses as lictor_aggregate does. */
+uint64_t lictor_trip(const double center[192], const double scale[192], double tau, uint32_t mask, uint8_t n_terms,
+                     const uint32_t terms[8], const struct lictor_scores *scores, const struct lictor_marks *marks,
+                     uint64_t *trips);
+
+/* The time bin of tick t, of 16 over the horizon. LICTOR_STEPS for a horizon of 0 ticks. */
+uint64_t lictor_time_bin(uint32_t t, uint32_t horizon_ticks, uint64_t *bin);
+
+/* ---- the structs have nothing between their fields */
+
+#ifdef __cplusplus
+#define LICTOR_ASSERT(what, text) static_assert(what, text)
+#else
+#define LICTOR_ASSERT(what, text) _Static_assert(what, text)
+#endif
+LICTOR_ASSERT(sizeof(struct lictor_chunk_header) == 6 * sizeof(uint64_t), "6 counts");
+LICTOR_ASSERT(sizeof(struct lictor_trail_marks) == 2 * sizeof(uint64_t), "2 counts");
+LICTOR_ASSERT(sizeof(struct lictor_numbers) == 44 * sizeof(double), "44 numbers");
+LICTOR_ASSERT(sizeof(struct lictor_counts) == 26 * sizeof(uint64_t), "26 counts");
+LICTOR_ASSERT(sizeof(struct lictor_derived) == 29 * sizeof(double), "29 numbers");
+LICTOR_ASSERT(sizeof(struct lictor_scores) == 25 * sizeof(double), "25 numbers");
+LICTOR_ASSERT(sizeof(struct lictor_marks) == 2 * sizeof(uint64_t), "2 counts");
+#undef LICTOR_ASSERT
+
+#ifdef __cplusplus
+}
+#endif
+
+#endif

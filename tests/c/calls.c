@@ -1,0 +1,125 @@
+/* Includes the header and calls the static library as a control box does. Prints each call that answers otherwise. */
+#include "lictor.h"
+
+#include <math.h>
+#include <stdio.h>
+
+static int failed;
+
+#define EXPECT(what)                                      \
+    do {                                                  \
+        if (!(what)) {                                    \
+            printf("calls.c:%d: %s\n", __LINE__, #what);  \
+            failed = 1;                                   \
+        }                                                 \
+    } while (0)
+
+static void numbers(void) {
+    double r = 7.0;
+    const double v[3] = {3.0, 4.0, INFINITY};
+    EXPECT(lictor_min(1.0, 2.0) == 1.0);
+    EXPECT(lictor_max(1.0, 2.0) == 2.0);
+    EXPECT(lictor_clamp(3.0, 0.0, 2.0) == 2.0);
+    EXPECT(lictor_sqrt(25.0, &r) == LICTOR_ACCEPTED && r == 5.0);
+    EXPECT(lictor_sqrt(-1.0, &r) == LICTOR_COMPUTED && r == 5.0);
+    EXPECT(lictor_norm(v, 2, 2, &r) == LICTOR_ACCEPTED && r == 5.0);
+    EXPECT(lictor_norm(v, 2, 3, &r) == LICTOR_SHORT);
+    EXPECT(lictor_norm(v, 3, 2, &r) == LICTOR_NOT_FINITE);
+    EXPECT(lictor_dist(v, 2, v + 1, 1, 1, &r) == LICTOR_ACCEPTED && r == 1.0);
+}
+
+static void chunks(void) {
+    static double numbers[512];
+    struct lictor_chunk_header header = {0, 0, 0, 0, 0, 0};
+    const double rows[4] = {1.0, 2.0, 3.0, 4.0};
+    double row[2] = {0.0, 0.0};
+    EXPECT(lictor_fill(numbers, &header, 7, 9, 2, 2, 1, rows, 3) == LICTOR_LEN_MISMATCH && header.filled == 0);
+    EXPECT(lictor_fill(numbers, &header, 7, 9, 2, 2, 1, rows, 4) == LICTOR_ACCEPTED && header.filled == 1);
+    EXPECT(header.seq == 7 && header.horizon == 2 && numbers[3] == 4.0);
+    EXPECT(lictor_held_rows(numbers, 2, 2, header.filled) == 4);
+    EXPECT(lictor_action(numbers, 4, 2, 2, 5, row, 2) == 2 && row[0] == 3.0 && row[1] == 4.0);
+    lictor_set_row(numbers, 4, 2, 2, 0, row, 2);
+    EXPECT(numbers[0] == 3.0 && numbers[1] == 4.0);
+}
+
+/* document 01: n 3, pushes true, false, true, true: bits 3, hits 2 */
+static void windows(void) {
+    uint64_t mask = 0, bits = 0;
+    EXPECT(lictor_mask(64, &mask) == LICTOR_SIZE && mask == 0);
+    EXPECT(lictor_mask(3, &mask) == LICTOR_ACCEPTED && mask == 7);
+    bits = lictor_push(bits, 1, mask);
+    bits = lictor_push(bits, 0, mask);
+    bits = lictor_push(bits, 1, mask);
+    bits = lictor_push(bits, 1, mask);
+    EXPECT(bits == 3 && lictor_hits(bits) == 2);
+}
+
+static void trails(void) {
+    static double numbers[256];
+    struct lictor_trail_marks marks = {0, 0};
+    const double p[2] = {3.0, 4.0}, q[2] = {0.0, 0.0};
+    double x = 7.0;
+    EXPECT(lictor_trail_push(numbers, &marks, q, 2, 2) == LICTOR_ACCEPTED && marks.head == 1 && marks.len == 1);
+    EXPECT(lictor_trail_push(numbers, &marks, p, 2, 2) == LICTOR_ACCEPTED && numbers[8] == 3.0);
+    EXPECT(lictor_trail_net(numbers, &marks, 2, 2, &x) == LICTOR_ACCEPTED && x == 5.0);
+    EXPECT(lictor_trail_path(numbers, &marks, 2, 2, &x) == LICTOR_ACCEPTED && x == 5.0);
+    marks.head = 256;
+    EXPECT(lictor_trail_net(numbers, &marks, 2, 2, &x) == LICTOR_BAD_CODE && x == 5.0);
+    marks.head = 32;
+    EXPECT(lictor_trail_clear(numbers, &marks) == LICTOR_SIZE && marks.len == 2);
+    marks.head = 2;
+    EXPECT(lictor_trail_clear(numbers, &marks) == LICTOR_ACCEPTED && marks.head == 0 && marks.len == 0);
+}
+
+static double center[192], scale[192];
+
+static void configuration(void) {
+    struct lictor_numbers n = {0};
+    struct lictor_counts c = {0};
+    struct lictor_derived d = {0};
+    n.dt = 0.5, n.v_max = n.a_max = n.j_max = n.reach_max = 1.0;
+    n.brake_k_v = n.brake_dt = n.norm_scale[0] = 1.0;
+    n.box_lo[0] = -1.0, n.box_hi[0] = 2.0, n.margin = 0.25;
+    c.dim = c.pos_dim = c.substeps = 1;
+    EXPECT(lictor_derive(&n, &c, center, scale, &d) == LICTOR_ACCEPTED);
+    EXPECT(d.inv_dt3 == 8.0 && d.step_max == 0.5 && d.box_lo[0] == -0.75 && d.box_hi[0] == 1.75 && d.norm_scale_iso == 1.0);
+    c.mask = 4096, c.terms[0] = UINT64_MAX;
+    EXPECT(lictor_derive(&n, &c, center, scale, &d) == LICTOR_ACCEPTED);
+    c.calibrated = 1;
+    EXPECT(lictor_derive(&n, &c, center, scale, &d) == LICTOR_BAD_CODE);
+    c.terms[0] = 1;
+    EXPECT(lictor_derive(&n, &c, center, scale, &d) == LICTOR_SIZE);
+    c.calibrated = 0, c.kind = 5;
+    EXPECT(lictor_derive(&n, &c, center, scale, &d) == LICTOR_BAD_CODE);
+    c.kind = LICTOR_OTHER, n.dt = 0.0;
+    EXPECT(lictor_derive(&n, &c, center, scale, &d) == LICTOR_NUMBER && d.inv_dt == 2.0);
+}
+
+/* document 01: z (2,1), terms {0,1} and {0}: s = 2; tau 2 doesn't trip */
+static void gate(void) {
+    const uint32_t terms[8] = {3, 1, 0, 0, 0, 0, 0, 0};
+    struct lictor_scores s = {{2.0, 1.0}, {0.0}, 0.0};
+    struct lictor_marks m = {3, 0};
+    uint64_t trips = 7, bin = 7;
+    for (int i = 0; i < 192; i++) scale[i] = 1.0;
+    EXPECT(lictor_standardise(center, scale, 2.0, 3, 2, terms, 0, &s, &m) == LICTOR_ACCEPTED && s.z[0] == 2.0);
+    EXPECT(lictor_aggregate(center, scale, 2.0, 3, 2, terms, &s, &m) == LICTOR_ACCEPTED && s.s == 2.0);
+    EXPECT(lictor_trip(center, scale, 2.0, 3, 2, terms, &s, &m, &trips) == LICTOR_ACCEPTED && trips == 0);
+    EXPECT(lictor_trip(center, scale, 1.0, 3, 2, terms, &s, &m, &trips) == LICTOR_ACCEPTED && trips == 1);
+    EXPECT(lictor_aggregate(center, scale, 2.0, 3, 0, terms, &s, &m) == LICTOR_ACCEPTED && s.s == -INFINITY);
+    m.fired = UINT64_MAX;
+    EXPECT(lictor_trip(center, scale, INFINITY, 3, 2, terms, &s, &m, &trips) == LICTOR_BAD_CODE && trips == 1);
+    EXPECT(lictor_time_bin(13, 200, &bin) == LICTOR_ACCEPTED && bin == 1);
+    EXPECT(lictor_time_bin(13, 0, &bin) == LICTOR_STEPS && bin == 1);
+}
+
+int main(void) {
+    numbers();
+    chunks();
+    windows();
+    trails();
+    configuration();
+    gate();
+    puts(failed ? "C calls: failed" : "C calls: as expected");
+    return failed;
+}

@@ -1,0 +1,190 @@
+//! The port as a customer has it, through `bindings/rust`: the model's arguments taken over into the binding's, and its
+//! answer back.
+
+use lictor::{chunk, config, conformal, fmath, window};
+use model::{ActionKind, BrakeKind, Calibration, ChunkBuf, ChunkView, ClampMode, Derived, FuseConfig, Scores, Trail};
+
+use crate::port::{Answer, Port};
+
+/// What the static library has. An entry that is named here is compared in every run, and timed by `bench`.
+pub fn port() -> Port {
+    Port {
+        sqrt: Some(|x| answer(fmath::sqrt(x))),
+        norm: Some(|v, n| answer(fmath::norm(v, n))),
+        dist: Some(|a, b, n| answer(fmath::dist(a, b, n))),
+        min: Some(fmath::min),
+        max: Some(fmath::max),
+        clamp: Some(fmath::clamp),
+        fill: Some(|b, seq, t_emit, horizon, dim, exec_steps, data| {
+            copy_from(b, ChunkView { seq, t_emit, horizon, dim, exec_steps, data })
+        }),
+        copy_from: Some(copy_from),
+        action: Some(action),
+        row_mut: Some(fill_row),
+        view: Some(view),
+        mask: Some(|n| answer(window::mask(n))),
+        push: Some(push),
+        hits: Some(|bits| window::Window { bits }.hits()),
+        trail_push: Some(|t, p, d| on_trail(t, |lent| lent.push(p, d))),
+        net: Some(|t, d, w| answer(trail(t).net(d, w))),
+        path: Some(|t, d, w| answer(trail(t).path(d, w))),
+        trail_clear: Some(|t| on_trail(t, |lent| lent.clear())),
+        derive: Some(|c| answer(config(c).derive()).map(derived)),
+        standardise: Some(|c, bin, sc| on_scores(sc, |s| conformal::standardise(&calibration(c), bin, s))),
+        aggregate: Some(|c, sc| on_scores(sc, |s| conformal::aggregate(&calibration(c), s))),
+        trip: Some(|c, sc| answer(conformal::trip(&calibration(c), &scores(sc)))),
+        time_bin: Some(|t, ticks| answer(conformal::time_bin(t, ticks))),
+        ..Port::default()
+    }
+}
+
+fn answer<T>(a: lictor::Answer<T>) -> Answer<T> {
+    a.map_err(|r| model::Refusal { number: r.number, place: r.place })
+}
+
+fn chunk_view<'a>(v: &ChunkView<'a>) -> chunk::ChunkView<'a> {
+    let ChunkView { seq, t_emit, horizon, dim, exec_steps, data } = *v;
+    chunk::ChunkView { seq, t_emit, horizon, dim, exec_steps, data }
+}
+
+fn chunk_buf(b: &ChunkBuf) -> chunk::ChunkBuf {
+    let ChunkBuf { data, seq, t_emit, horizon, dim, exec_steps, filled } = *b;
+    chunk::ChunkBuf { data, seq, t_emit, horizon, dim, exec_steps, filled }
+}
+
+fn keep(b: &mut ChunkBuf, from: &chunk::ChunkBuf) {
+    let chunk::ChunkBuf { data, seq, t_emit, horizon, dim, exec_steps, filled } = *from;
+    *b = ChunkBuf { data, seq, t_emit, horizon, dim, exec_steps, filled };
+}
+
+fn copy_from(b: &mut ChunkBuf, v: ChunkView<'_>) -> Answer<()> {
+    let mut buf = chunk_buf(b);
+    let said = buf.copy_from(chunk_view(&v));
+    keep(b, &buf);
+    answer(said)
+}
+
+fn action(v: &ChunkView<'_>, i: usize) -> Vec<f64> {
+    let mut row = vec![0.0; v.dim as usize];
+    let n = chunk_view(v).action(i, &mut row);
+    row.truncate(n);
+    row
+}
+
+fn fill_row(b: &mut ChunkBuf, i: usize, x: f64) -> usize {
+    let mut buf = chunk_buf(b);
+    let row = vec![x; buf.dim as usize];
+    buf.set_row(i, &row);
+    let ChunkBuf { seq, t_emit, horizon, dim, exec_steps, .. } = *b;
+    let all = chunk::ChunkView { seq, t_emit, horizon, dim, exec_steps, data: &buf.data };
+    let n = all.action(i, &mut []);
+    keep(b, &buf);
+    n
+}
+
+fn view(b: &ChunkBuf) -> ChunkView<'_> {
+    let buf = chunk_buf(b);
+    let v = buf.view();
+    let (data, horizon, dim) = (&b.data[..v.data.len()], v.horizon, v.dim);
+    ChunkView { seq: v.seq, t_emit: v.t_emit, horizon, dim, exec_steps: v.exec_steps, data }
+}
+
+fn push(bits: u64, hit: bool, mask: u64) -> u64 {
+    let mut w = window::Window { bits };
+    w.push(hit, mask);
+    w.bits
+}
+
+fn trail(t: &Trail) -> window::Trail {
+    let Trail { buf, head, len } = *t;
+    window::Trail { buf, head, len }
+}
+
+/// A call that is lent a trail.
+fn on_trail(t: &mut Trail, call: impl Fn(&mut window::Trail) -> lictor::Answer<()>) -> Answer<()> {
+    let mut lent = trail(t);
+    let said = call(&mut lent);
+    let window::Trail { buf, head, len } = lent;
+    *t = Trail { buf, head, len };
+    answer(said)
+}
+
+pub fn calibration(c: &Calibration) -> conformal::Calibration {
+    let Calibration { center, scale, tau, mask, n_terms, terms } = *c;
+    conformal::Calibration { center, scale, tau, mask, n_terms, terms }
+}
+
+pub fn scores(sc: &Scores) -> conformal::Scores {
+    let Scores { f, z, s, valid, fired } = *sc;
+    conformal::Scores { f, z, s, valid, fired }
+}
+
+/// A call that is lent scores.
+fn on_scores<T>(sc: &mut Scores, call: impl Fn(&mut conformal::Scores) -> lictor::Answer<T>) -> Answer<T> {
+    let mut lent = scores(sc);
+    let said = call(&mut lent);
+    let conformal::Scores { f, z, s, valid, fired } = lent;
+    *sc = Scores { f, z, s, valid, fired };
+    answer(said)
+}
+
+fn kind(k: ActionKind) -> config::ActionKind {
+    match k {
+        ActionKind::EePosition => config::ActionKind::EePosition,
+        ActionKind::EeDelta => config::ActionKind::EeDelta,
+        ActionKind::JointPosition => config::ActionKind::JointPosition,
+        ActionKind::JointVelocity => config::ActionKind::JointVelocity,
+        ActionKind::Other => config::ActionKind::Other,
+    }
+}
+
+fn brake_kind(k: BrakeKind) -> config::BrakeKind {
+    match k {
+        BrakeKind::PdSecondOrder => config::BrakeKind::PdSecondOrder,
+        BrakeKind::FirstOrderDecay => config::BrakeKind::FirstOrderDecay,
+        BrakeKind::BoundedAccel => config::BrakeKind::BoundedAccel,
+        BrakeKind::JerkLimited => config::BrakeKind::JerkLimited,
+        BrakeKind::ZeroVelocityHold => config::BrakeKind::ZeroVelocityHold,
+    }
+}
+
+fn brake(b: &model::BrakeModel) -> config::BrakeModel {
+    let model::BrakeModel { kind, k_p, k_v, dt, substeps, commit, brake_steps, react } = *b;
+    let kind = brake_kind(kind);
+    config::BrakeModel { kind, k_p, k_v, dt, substeps, commit, brake_steps, react_ticks: react }
+}
+
+/// The configuration as the library takes it.
+pub fn config(c: &FuseConfig) -> config::Config {
+    let contact = c.contact.map(|z| config::Contact { radius: z.radius, v_max: z.v_max, a0: z.a0, a1: z.a1 });
+    config::Config::new(&config::FuseConfig {
+        kind: kind(c.kind),
+        dim: c.dim,
+        pos_dim: c.pos_dim,
+        dt: c.dt,
+        v_max: c.v_max,
+        a_max: c.a_max,
+        j_max: c.j_max,
+        reach_max: c.reach_max,
+        margin: c.margin,
+        norm_center: c.norm_center,
+        norm_scale: c.norm_scale,
+        box_lo: c.box_lo,
+        box_hi: c.box_hi,
+        contact,
+        brake: brake(&c.brake),
+        clamp: match c.clamp {
+            ClampMode::Off => config::ClampMode::Off,
+            ClampMode::Project => config::ClampMode::Project,
+        },
+        armed: c.armed,
+        aux_count: c.aux_count,
+        calibration: c.calibrated.then(|| calibration(&c.cal)),
+        horizon_ticks: c.horizon_ticks,
+    })
+}
+
+fn derived(d: config::Derived) -> Derived {
+    let config::Derived { inv_dt, inv_dt2, inv_dt3, step_max, norm_scale_iso, box_lo, box_hi, inv_norm_scale } = d;
+    Derived { inv_dt, inv_dt2, inv_dt3, step_max, box_lo, box_hi, inv_norm_scale, norm_scale_iso }
+}
