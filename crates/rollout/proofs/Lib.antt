@@ -1,5 +1,0 @@
-pub mod Told
-pub mod Reach
-pub mod Along
-pub mod Rows
-pub mod Room
