@@ -89,6 +89,8 @@ fn checks_of(c: FuseConfig) -> Checks
 {
     let d = envelope::derive(c);
     let l = c.limits;
+    let lo = d.box_lo;
+    let hi = d.box_hi;
     Checks {
         dim: c.dim,
         pos_dim: c.pos_dim,
@@ -103,10 +105,7 @@ fn checks_of(c: FuseConfig) -> Checks
         inv_dt2: d.inv_dt2,
         inv_dt3: d.inv_dt3,
         step_max: d.step_max,
-        walls: Workspace {
-            lo: d.box_lo,
-            hi: d.box_hi,
-        },
+        walls: Workspace { lo, hi },
     }
 }
 

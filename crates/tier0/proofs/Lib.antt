@@ -1,0 +1,3 @@
+pub mod Loops
+pub mod Steps
+pub mod Refused
