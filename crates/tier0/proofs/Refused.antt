@@ -14,7 +14,7 @@ use Rattle.fmath.specs.Each.{at, over}
 use Rattle.fmath.specs.Checked.{Checked}
 use Rattle.fmath.proofs.Each.{and-left, and-right}
 use Rattle.envelope.specs.Derive.{derived}
-use Rattle.envelope.specs.Refusals.{configJudged}
+use Rattle.envelope.specs.Refusals.{numbersOk, sizesFit, stepsFit, channelsFit, configJudged}
 use Rattle.envelope.specs.declared.FuseConfig.{FuseConfig}
 use Rattle.envelope.proofs.Judged.{four, config-first, config-passed}
 use Rattle.envelope.proofs.Accepted.{accepted, dim-most, pos-dim-most}
@@ -35,23 +35,6 @@ seen-parts p aux i j e =
 
 abbrev lent : Bool → Bool → List Judged → List Judged
 lent s n l = (short when s) ∷ (notFinite when n) ∷ l
-
-abbrev judged : FuseConfig → Bool → Bool → List Judged → ℕ
-judged c s n l = refusal (configJudged c ++ lent s n l)
-
-module _ (c : FuseConfig) (s n : Bool) where
-  pub by-config : {r : ℕ} → r ≡ refusal (configJudged c) → (r ≡ 0 → ⊥) → r ≡ judged c s n []
-  by-config e h = e ∙ sym (config-first c (lent s n []) (λ z. h (e ∙ z)))
-
-  module _ (e : refusal (configJudged c) ≡ 0) where
-    pub by-11 : s ≡ true → 11 ≡ judged c s n []
-    by-11 h = sym (config-passed c (lent s n []) e ∙ rw h)
-
-    pub by-12 : s ≡ false → n ≡ true → 12 ≡ judged c s n []
-    by-12 h g = sym (config-passed c (lent s n []) e ∙ rw (h, g))
-
-    pub by-none : s ≡ false → n ≡ false → 0 ≡ judged c s n []
-    by-none h g = sym (config-passed c (lent s n []) e ∙ rw (h, g))
 
 -- the six tests before the computed numbers, none of which applies
 none-applies : (a b d e s n : Bool) → refusal (four a b d e (lent s n [])) ≡ 0 → (refusal (four a b d e []) ≡ 0) × ((s ≡ false) × (n ≡ false))
@@ -102,6 +85,12 @@ pub record Sized (c : FuseConfig) (p prev a : List Float) (room : ℕ) : Type 0 
   pub act : c .dim ≤ length a
   pub out : c .dim ≤ room
 
+-- the same of what the checks read
+pub sized-checks : (c : FuseConfig) (p prev a : List Float) (room : ℕ) {s : Checks} → s ≡ checksOf c → Sized c p prev a room
+    → (s .dim ≤ 8) × ((s .dim ≤ length a) × ((s .dim ≤ length prev) × (s .«pos_dim» ≤ length p)))
+unfolding checksOf
+sized-checks c p prev a room e w = rw e (w .narrow, (w .act, (w .before, w .pos)))
+
 -- ---- the whole answer
 
 pub record Answered (c : FuseConfig) (p aux prev a l : List Float) (r : Check) (m : List Float) : Type 0 where
@@ -123,6 +112,29 @@ module _ (c : FuseConfig) (p aux prev a : List Float) where
   abbrev unfit : Bool
   unfit = someLentNotFinite p aux prev a
 
+  module _ (room : ℕ) where
+    abbrev lentNumber : ℕ
+    lentNumber = refusal (configJudged c ++ lentToAction c p aux prev a room [])
+
+    abbrev rest : List Judged
+    rest = lentToAction c p aux prev a room []
+
+    pub by-config : {r : ℕ} → r ≡ refusal (configJudged c) → (r ≡ 0 → ⊥) → r ≡ lentNumber
+    by-config e h = e ∙ sym (config-first c rest (λ z. h (e ∙ z)))
+
+    module _ {k : ℕ} (ek : k ≡ refusal (configJudged c)) (e : k ≡ 0) {s : Bool} (es : s ≡ brief room) where
+      passed-on : lentNumber ≡ refusal (four false false false false rest)
+      passed-on = config-passed c rest (sym ek ∙ e)
+
+      pub by-11 : s ≡ true → 11 ≡ lentNumber
+      by-11 h = sym (passed-on ∙ rw (sym es ∙ h))
+
+      pub by-12 : {n : Bool} → n ≡ unfit → s ≡ false → n ≡ true → 12 ≡ lentNumber
+      by-12 en h g = sym (passed-on ∙ rw (sym es ∙ h, sym en ∙ g))
+
+      pub by-none : {n : Bool} → n ≡ unfit → s ≡ false → n ≡ false → 0 ≡ lentNumber
+      by-none en h g = sym (passed-on ∙ rw (sym es ∙ h, sym en ∙ g))
+
   sizes : (room : ℕ) → brief room ≡ false → c .dim ≤ 8 → Sized c p prev a room
   unfolding tooShort
   sizes room e w =
@@ -141,7 +153,7 @@ module _ (c : FuseConfig) (p aux prev a : List Float) where
 
   pub accepted-sizes : (room : ℕ) → refusal (configJudged c ++ lentToAction c p aux prev a room []) ≡ 0 → Sized c p prev a room
   accepted-sizes room h =
-      let w = none-applies _ _ _ _ (brief room) unfit h in
+      let w = none-applies (not (sizesFit c)) (not (numbersOk c)) (not (stepsFit c)) (not (channelsFit c)) (brief room) unfit h in
       sizes room (w .1 .0) (dim-most c (accepted c (w .0)))
 
   module _ (l : List Float) where
@@ -154,7 +166,7 @@ module _ (c : FuseConfig) (p aux prev a : List Float) where
 
     pub lent-refused : (k : ℕ) → k ≡ lentRefusal → (k ≡ 0 → ⊥) → {r : Refusal} → r ≡ refusedFor k → Answered c p aux prev a l (Refused r) l
     unfolding actionRefusal
-    lent-refused k e h = numbered k (e ∙ sym (some-applies _ _ _ _ (brief (length l)) unfit (not (actionRuling c p aux prev a .sound)) (λ z. h (e ∙ z)))) h
+    lent-refused k e h = numbered k (e ∙ sym (some-applies (not (sizesFit c)) (not (numbersOk c)) (not (stepsFit c)) (not (channelsFit c)) (brief (length l)) unfit (not (actionRuling c p aux prev a .sound)) (λ z. h (e ∙ z)))) h
 
     module _ (e : lentRefusal ≡ 0) {s : Checks} {v : Verdict} (es : s ≡ checksOf c) (ev : v ≡ verdictFrom (checkAction binary64 s p aux prev a)) where
       ruled : v ≡ verdictFrom (actionRuling c p aux prev a)
@@ -164,7 +176,7 @@ module _ (c : FuseConfig) (p aux prev a : List Float) where
       known : (b : Bool) → v .sound ≡ b → actionRefusal c p aux prev a (length l) ≡ (if not b then 13 else 0)
       unfolding actionRefusal
       known b h =
-          only-computed _ _ _ _ (brief (length l)) unfit (not (actionRuling c p aux prev a .sound)) e
+          only-computed (not (sizesFit c)) (not (numbersOk c)) (not (stepsFit c)) (not (channelsFit c)) (brief (length l)) unfit (not (actionRuling c p aux prev a .sound)) e
           ∙ ap (λ (t : Bool). if not t then 13 else 0) (sym (ap (λ (x : Verdict). x .sound) ruled) ∙ h)
 
       pub not-sound : v .sound ≡ false → {r : Refusal} → r ≡ refusedFor 13 → Answered c p aux prev a l (Refused r) l
