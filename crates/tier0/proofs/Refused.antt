@@ -87,9 +87,9 @@ pub record Sized (c : FuseConfig) (p prev a : List Float) (room : ℕ) : Type 0 
 
 -- the same of what the checks read
 pub sized-checks : (c : FuseConfig) (p prev a : List Float) (room : ℕ) {s : Checks} → s ≡ checksOf c → Sized c p prev a room
-    → (s .dim ≤ 8) × ((s .dim ≤ length a) × ((s .dim ≤ length prev) × (s .«pos_dim» ≤ length p)))
+    → (s .dim ≤ 8) × (s .dim ≤ length a) × (s .dim ≤ length prev) × (s .«pos_dim» ≤ length p)
 unfolding checksOf
-sized-checks c p prev a room e w = rw e (w .narrow, (w .act, (w .before, w .pos)))
+sized-checks c p prev a room e w = rw e (w .narrow, w .act, w .before, w .pos)
 
 -- ---- the whole answer
 

@@ -187,7 +187,7 @@ pub judge-is : (f : Format) (s : Checks) (p aux prev a : List Float) {z : SlowZo
     → bits ≡ tripBits out (speed && lt (s .«step_max») n) false false (far .holds) (z .inside && lt (z .step) n)
     → c ≡ clampedFrom (projection f s (s .clamp) (slowOf z) p prev raw)
     → _≡_ {A = Verdict} (record { trips = bits; mask = c .mask; peak = mul f n (s .«inv_dt»); at = c .at; sound = z .sound && (k && (far .sound && c .sound)) })
-        (verdictFrom (checkAction f s p aux prev a))
+    (verdictFrom (checkAction f s p aux prev a))
 unfolding checkAction
 judge-is f s p aux prev a ez en ek eo ef ew es eb ec =
     let n = dist f a prev (s .dim) in

@@ -89,14 +89,16 @@ fn checks_of(c: FuseConfig) -> Checks
 {
     let d = envelope::derive(c);
     let l = c.limits;
+    let contact = c.contact;
+    let clamp = c.clamp;
     let lo = d.box_lo;
     let hi = d.box_hi;
     Checks {
         dim: c.dim,
         pos_dim: c.pos_dim,
         armed: c.armed,
-        contact: c.contact,
-        clamp: c.clamp,
+        contact,
+        clamp,
         dt: l.dt,
         a_max: l.a_max,
         j_max: l.j_max,
@@ -137,7 +139,15 @@ fn no_zone() -> SlowZone
 }
 
 // The zone round the point that channels i and j give; its step is computed only inside.
-fn in_zone(dt: f64, radius: f64, v_max: f64, i: usize, j: usize, pos: &[f64], aux: &[f64]) -> SlowZone
+fn in_zone(
+    dt: f64,
+    radius: f64,
+    v_max: f64,
+    i: usize,
+    j: usize,
+    pos: &[f64],
+    aux: &[f64],
+) -> SlowZone
     requires { ⌜ (i < length (now aux)) × (j < length (now aux)) ⌝ }
     ensures { λ r. ⌜ r ≡ zoneFrom (inZone binary64 dt radius «v_max» i j (now (pos .entry)) (now (aux .entry))) ⌝ }
 {
@@ -166,7 +176,12 @@ fn zone_in(dt: f64, contact: Contact, pos: &[f64], aux: &[f64]) -> SlowZone
 {
     match contact {
         Contact::None => no_zone(),
-        Contact::Zone { radius, v_max, a0, a1 } => {
+        Contact::Zone {
+            radius,
+            v_max,
+            a0,
+            a1,
+        } => {
             let i = a0 as usize;
             let j = a1 as usize;
             if (2 <= pos.len()) & ((i < aux.len()) & (j < aux.len())) {
@@ -444,7 +459,14 @@ fn judge_action(s: Checks, pos: &[f64], aux: &[f64], prev: &[f64], a: &[f64]) ->
     let far = out_of_reach(s, pos, a);
     let raw = held(a, s.dim);
     let speed = armed(s, TripMask::SPEED);
-    let trips = trip_bits(out, speed & (s.step_max < step), false, false, far.holds, z.inside & (z.step < step));
+    let trips = trip_bits(
+        out,
+        speed & (s.step_max < step),
+        false,
+        false,
+        far.holds,
+        z.inside & (z.step < step),
+    );
     let p = projection(s, z, pos, prev, raw);
     let at = p.at;
     Verdict {
@@ -475,7 +497,14 @@ fn not_finite(pos: &[f64], aux: &[f64], prev: &[f64], a: &[f64]) -> bool
 }
 
 // The number for what is lent: the configuration's own, then 11, then 12; 0 where there is none.
-fn action_refusal(c: FuseConfig, pos: &[f64], aux: &[f64], prev: &[f64], a: &[f64], room: usize) -> u8
+fn action_refusal(
+    c: FuseConfig,
+    pos: &[f64],
+    aux: &[f64],
+    prev: &[f64],
+    a: &[f64],
+    room: usize,
+) -> u8
     ensures { λ r. ⌜ r ≡ refusal (configJudged c ++ lentToAction c (now (pos .entry)) (now (aux .entry)) (now (prev .entry)) (now (a .entry)) room []) ⌝ }
 {
     let number = envelope::config_refusal(c);
@@ -505,7 +534,14 @@ fn write_row(r: [f64; 8], n: usize, out: &mut [f64])
 
 // The check of the action a against its predecessor: which limits it exceeds, its speed, and, in out, its projection; the
 // rest of out stays. A refusal, by the lowest number that applies, leaves out as it was.
-pub fn check_action(c: FuseConfig, pos: &[f64], aux: &[f64], prev: &[f64], a: &[f64], out: &mut [f64]) -> Check
+pub fn check_action(
+    c: FuseConfig,
+    pos: &[f64],
+    aux: &[f64],
+    prev: &[f64],
+    a: &[f64],
+    out: &mut [f64],
+) -> Check
     ensures { λ r. ⌜ (r ≡ actionAnswer c (now (pos .entry)) (now (aux .entry)) (now (prev .entry)) (now (a .entry)) (length (now (out .entry)))) × (now (out .exit) ≡ actionOut c (now (pos .entry)) (now (aux .entry)) (now (prev .entry)) (now (a .entry)) (now (out .entry))) ⌝ }
 {
     let number = action_refusal(c, pos, aux, prev, a, out.len());
