@@ -1,3 +1,4 @@
 pub mod Loops
 pub mod Steps
 pub mod Refused
+pub mod Rows

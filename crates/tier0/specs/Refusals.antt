@@ -1,4 +1,4 @@
--- What `check_action` judges besides the configuration, and the answer.
+-- What the two entries judge besides the configuration, and the answer.
 use Prim.Native.Nat.{ℕ, zero, suc}
 use mathlib.Core.Bool.{Bool, not, _||_}
 use mathlib.Core.List.{List, [], _∷_, _++_}
@@ -19,6 +19,14 @@ tooShort dim pos-dim p prev a room = ltb p pos-dim || ltb prev dim || ltb a dim 
 -- 12: some number of what is lent, read or not
 unfoldable pub someLentNotFinite : List Float → List Float → List Float → List Float → Bool
 someLentNotFinite p aux prev a = someNotFinite p || someNotFinite aux || someNotFinite prev || someNotFinite a
+
+-- 11 for a chunk: the position below pos_dim, or the output below horizon x dim
+unfoldable pub chunkTooShort : ℕ → ℕ → ℕ → ℕ → Bool
+chunkTooShort pos-dim p size room = ltb p pos-dim || ltb room size
+
+-- 12 for a chunk
+unfoldable pub someChunkNotFinite : List Float → List Float → List Float → Bool
+someChunkNotFinite p aux rows = someNotFinite p || someNotFinite aux || someNotFinite rows
 
 -- the judgement where the refusal is 0
 abbrev pub answerAt : ℕ → Judgement → Check

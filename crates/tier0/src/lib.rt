@@ -1,16 +1,19 @@
 // Tier 0: the geometric limits, on rows as they came, and the projection of each row inside them.
 ghost use mathlib.Core.Path.{_≡_};
 ghost use mathlib.Core.List.{[], _++_};
-ghost use Prim.Native.Nat.{_≤_, _<_, min};
-ghost use lib.ListN.{length};
+ghost use Prim.Native.Nat.{_+_, _-_, _*_, _≤_, _<_, min};
+ghost use lib.ListN.{length, replicate};
 ghost use lib.Ieee.{binary64};
 ghost use Rattle.refusal.specs.Order.{refusal};
 ghost use Rattle.fmath.specs.Each.{at, over};
 ghost use Rattle.fmath.specs.Checked.{pure, each};
+ghost use Rattle.fmath.specs.Finite.{+0};
+ghost use Rattle.chunk.specs.Refusals.{chunkReasons};
 ghost use Rattle.envelope.specs.Refusals.{configJudged};
 ghost use Rattle.tier0.specs.Rule.{arms, clear, inZone, zoneIn, slowZone, outOfBox, outOfReach, bit, tripBits, towards, shortened, pulled, leash, boxed, leashed, reached, moves, held, moved, project, projection, checkAction};
-ghost use Rattle.tier0.specs.Refusals.{tooShort, someLentNotFinite};
-ghost use Rattle.tier0.specs.Of.{checksOf, slowOf, zoneFrom, rowFrom, testFrom, clampedFrom, verdictFrom, lentToAction, actionAnswer, actionOut};
+ghost use Rattle.tier0.specs.Chunk.{rawRow, startRow, rowBefore, stepTo, bends, jolts, someOf, bentAt, tooBent, joltedAt, tooJolted, putRow, runRows, projectedRows, checkChunk};
+ghost use Rattle.tier0.specs.Refusals.{tooShort, someLentNotFinite, chunkTooShort, someChunkNotFinite};
+ghost use Rattle.tier0.specs.Of.{checksOf, slowOf, zoneFrom, rowFrom, testFrom, clampedFrom, verdictFrom, stepsFrom, runFrom, ranFrom, rulingFrom, lentToAction, actionAnswer, actionOut, lentToChunk, chunkAnswer, chunkOut};
 use envelope::ClampMode;
 use envelope::Contact;
 use envelope::FuseConfig;
@@ -79,6 +82,29 @@ pub struct Verdict {
     pub mask: u32,
     pub peak: f64,
     pub at: [f64; 8],
+    pub sound: bool,
+}
+
+// What is found of the steps of a chunk.
+pub struct Stride {
+    pub peak: f64,
+    pub fast: bool,
+    pub close: bool,
+    pub out: bool,
+    pub sound: bool,
+}
+
+// The coordinates moved in any row.
+pub struct Ran {
+    pub mask: u32,
+    pub sound: bool,
+}
+
+// All that is found of a chunk, save its rows.
+pub struct Ruling {
+    pub trips: u32,
+    pub mask: u32,
+    pub peak: f64,
     pub sound: bool,
 }
 
@@ -559,5 +585,255 @@ pub fn check_action(
         trips: v.trips,
         clamped_dims: v.mask,
         peak_speed: v.peak,
+    }
+}
+
+// ---- rows
+
+// Row i as it came, with zeros up to eight numbers.
+fn raw_row(rows: &[f64], n: usize, i: usize) -> [f64; 8]
+    requires { ⌜ (n ≤ 8) × (i < 64) × (i * n + n ≤ length (now rows)) ⌝ }
+    ensures { λ r. ⌜ r ≡ rawRow (now (rows .entry)) n i ⌝ }
+{
+    let from = i * n;
+    held(&rows[from..], n)
+}
+
+// What stands before row 0: the position on the shared coordinates, row 0 itself on the others.
+fn start_row(s: Checks, pos: &[f64], rows: &[f64]) -> [f64; 8]
+    requires { ⌜ (s .dim ≤ 8) × (s .dim ≤ length (now rows)) × (s .«pos_dim» ≤ length (now pos)) ⌝ }
+    ensures { λ r. ⌜ r ≡ startRow s (now (pos .entry)) (now (rows .entry)) ⌝ }
+{
+    let n = shared(s);
+    let mut r = raw_row(rows, s.dim, 0);
+    let mut i = 0;
+    while i < n {
+        r[i] = pos[i];
+        i += 1;
+    }
+    r
+}
+
+// The row before row i; q stands before row 0.
+fn row_before(q: [f64; 8], rows: &[f64], n: usize, i: usize) -> [f64; 8]
+    requires { ⌜ (n ≤ 8) × (i < 64) × (i * n + n ≤ length (now rows)) ⌝ }
+    ensures { λ r. ⌜ r ≡ rowBefore q (now (rows .entry)) n i ⌝ }
+{
+    if i == 0 {
+        return q;
+    }
+    raw_row(rows, n, i - 1)
+}
+
+// The steps of the first h rows: the greatest, and which limits of a single step they exceed.
+fn step_rows(s: Checks, slow: f64, q: [f64; 8], rows: &[f64], h: usize) -> Stride
+    requires { ⌜ (s .dim ≤ 8) × (h ≤ 64) × (h * s .dim ≤ length (now rows)) ⌝ }
+    ensures { λ r. ⌜ r ≡ stepsFrom s slow q (now (rows .entry)) h ⌝ }
+{
+    let mut peak = 0.0;
+    let mut fast = false;
+    let mut close = false;
+    let mut out = false;
+    let mut sound = true;
+    let mut i = 0usize;
+    while i < h {
+        let a = raw_row(rows, s.dim, i);
+        let b = row_before(q, rows, s.dim, i);
+        let n = fmath::distance(&a, &b, s.dim);
+        peak = fmath::max(peak, n);
+        fast = fast | (s.step_max < n);
+        close = close | (slow < n);
+        out = out | out_of_box(s, &a);
+        sound = sound & fmath::finite(n);
+        i += 1;
+    }
+    Stride {
+        peak,
+        fast,
+        close,
+        out,
+        sound,
+    }
+}
+
+// next - 2 here + before, on each of the first n coordinates.
+fn bent(next: &[f64; 8], here: &[f64; 8], before: &[f64; 8], n: usize) -> Row
+    requires { ⌜ n ≤ 8 ⌝ }
+    ensures { λ r. ⌜ r ≡ rowFrom (each (bends binary64 (now (next .entry)) (now (here .entry)) (now (before .entry))) (replicate 8 +0) n) ⌝ }
+{
+    let mut r = [0.0; 8];
+    let mut sound = true;
+    let mut i = 0usize;
+    while i < n {
+        let x = (next[i] - 2.0 * here[i]) + before[i];
+        r[i] = x;
+        sound = sound & fmath::finite(x);
+        i += 1;
+    }
+    Row { at: r, sound }
+}
+
+// second - 3 next + 3 here - before, likewise.
+fn jolted(second: &[f64; 8], next: &[f64; 8], here: &[f64; 8], before: &[f64; 8], n: usize) -> Row
+    requires { ⌜ n ≤ 8 ⌝ }
+    ensures { λ r. ⌜ r ≡ rowFrom (each (jolts binary64 (now (second .entry)) (now (next .entry)) (now (here .entry)) (now (before .entry))) (replicate 8 +0) n) ⌝ }
+{
+    let mut r = [0.0; 8];
+    let mut sound = true;
+    let mut i = 0usize;
+    while i < n {
+        let x = ((second[i] - 3.0 * next[i]) + 3.0 * here[i]) - before[i];
+        r[i] = x;
+        sound = sound & fmath::finite(x);
+        i += 1;
+    }
+    Row { at: r, sound }
+}
+
+// ACCEL at row i.
+fn bent_at(s: Checks, q: [f64; 8], rows: &[f64], i: usize) -> Test
+    requires { ⌜ (s .dim ≤ 8) × (i < 63) × (i * s .dim + s .dim ≤ length (now rows)) × ((i + 1) * s .dim + s .dim ≤ length (now rows)) ⌝ }
+    ensures { λ r. ⌜ r ≡ testFrom (bentAt binary64 s q (now (rows .entry)) i) ⌝ }
+{
+    let next = raw_row(rows, s.dim, i + 1);
+    let here = raw_row(rows, s.dim, i);
+    let before = row_before(q, rows, s.dim, i);
+    let d = bent(&next, &here, &before, s.dim);
+    let at = d.at;
+    let v = fmath::magnitude(&at, s.dim);
+    let w = v * s.inv_dt2;
+    let fine = fmath::finite(w);
+    Test {
+        holds: s.a_max < w,
+        sound: d.sound & fine,
+    }
+}
+
+// JERK at row i.
+fn jolted_at(s: Checks, q: [f64; 8], rows: &[f64], i: usize) -> Test
+    requires { ⌜ (s .dim ≤ 8) × (i < 62) × (i * s .dim + s .dim ≤ length (now rows)) × ((i + 1) * s .dim + s .dim ≤ length (now rows)) × ((i + 2) * s .dim + s .dim ≤ length (now rows)) ⌝ }
+    ensures { λ r. ⌜ r ≡ testFrom (joltedAt binary64 s q (now (rows .entry)) i) ⌝ }
+{
+    let second = raw_row(rows, s.dim, i + 2);
+    let next = raw_row(rows, s.dim, i + 1);
+    let here = raw_row(rows, s.dim, i);
+    let before = row_before(q, rows, s.dim, i);
+    let d = jolted(&second, &next, &here, &before, s.dim);
+    let at = d.at;
+    let v = fmath::magnitude(&at, s.dim);
+    let w = v * s.inv_dt3;
+    let fine = fmath::finite(w);
+    Test {
+        holds: s.j_max < w,
+        sound: d.sound & fine,
+    }
+}
+
+// ACCEL at some of the first h - 1 rows.
+fn bent_rows(s: Checks, q: [f64; 8], rows: &[f64], h: usize) -> Test
+    requires { ⌜ (s .dim ≤ 8) × (h ≤ 64) × (h * s .dim ≤ length (now rows)) ⌝ }
+    ensures { λ r. ⌜ r ≡ testFrom (someOf (bentAt binary64 s q (now (rows .entry))) (h - 1)) ⌝ }
+{
+    let mut holds = false;
+    let mut sound = true;
+    let mut i = 0usize;
+    while i + 1 < h {
+        let t = bent_at(s, q, rows, i);
+        holds = holds | t.holds;
+        sound = sound & t.sound;
+        i += 1;
+    }
+    Test { holds, sound }
+}
+
+// ACCEL over h rows, where it is armed.
+fn too_bent(s: Checks, q: [f64; 8], rows: &[f64], h: usize) -> Test
+    requires { ⌜ (s .dim ≤ 8) × (h ≤ 64) × (h * s .dim ≤ length (now rows)) ⌝ }
+    ensures { λ r. ⌜ r ≡ testFrom (tooBent binary64 s q (now (rows .entry)) h) ⌝ }
+{
+    if !armed(s, TripMask::ACCEL) {
+        return Test {
+            holds: false,
+            sound: true,
+        };
+    }
+    bent_rows(s, q, rows, h)
+}
+
+// JERK at some of the first h - 2 rows.
+fn jolted_rows(s: Checks, q: [f64; 8], rows: &[f64], h: usize) -> Test
+    requires { ⌜ (s .dim ≤ 8) × (h ≤ 64) × (h * s .dim ≤ length (now rows)) ⌝ }
+    ensures { λ r. ⌜ r ≡ testFrom (someOf (joltedAt binary64 s q (now (rows .entry))) (h - 2)) ⌝ }
+{
+    let mut holds = false;
+    let mut sound = true;
+    let mut i = 0usize;
+    while i + 2 < h {
+        let t = jolted_at(s, q, rows, i);
+        holds = holds | t.holds;
+        sound = sound & t.sound;
+        i += 1;
+    }
+    Test { holds, sound }
+}
+
+// JERK over h rows, where it is armed.
+fn too_jolted(s: Checks, q: [f64; 8], rows: &[f64], h: usize) -> Test
+    requires { ⌜ (s .dim ≤ 8) × (h ≤ 64) × (h * s .dim ≤ length (now rows)) ⌝ }
+    ensures { λ r. ⌜ r ≡ testFrom (tooJolted binary64 s q (now (rows .entry)) h) ⌝ }
+{
+    if !armed(s, TripMask::JERK) {
+        return Test {
+            holds: false,
+            sound: true,
+        };
+    }
+    jolted_rows(s, q, rows, h)
+}
+
+// The first n numbers of a row, written over a slice from k on.
+fn put_row(r: [f64; 8], k: usize, n: usize, out: &mut [f64])
+    requires { ⌜ (n ≤ 8) × (k + n ≤ length (now out)) ⌝ }
+    ensures { λ _. ⌜ now (out .exit) ≡ putRow r (now (out .entry)) k n ⌝ }
+{
+    let mut i = 0usize;
+    while i < n {
+        out[k + i] = r[i];
+        i += 1;
+    }
+}
+
+// The projected rows, each from the projected one before it; q stands before row 0.
+fn run_rows(s: Checks, z: SlowZone, pos: &[f64], rows: &[f64], q0: [f64; 8], h: usize, out: &mut [f64]) -> Ran
+    requires { ⌜ (s .dim ≤ 8) × (s .«pos_dim» ≤ length (now pos)) × (h ≤ 64) × (h * s .dim ≤ length (now rows)) × (h * s .dim ≤ length (now out)) ⌝ }
+    ensures { λ r. ⌜ (r ≡ runFrom (runRows binary64 s (slowOf z) (now (pos .entry)) (now (rows .entry)) q0 (now (out .entry)) h)) × (now (out .exit) ≡ runRows binary64 s (slowOf z) (now (pos .entry)) (now (rows .entry)) q0 (now (out .entry)) h .value .out) ⌝ }
+{
+    let n = s.dim;
+    let mut q = q0;
+    let mut mask = 0u32;
+    let mut sound = true;
+    let mut i = 0usize;
+    while i < h {
+        let a = raw_row(rows, n, i);
+        let r = moves(s, z, pos, i == 0, &q, a);
+        let at = r.at;
+        mask = mask | moved(&a, &at, n);
+        put_row(at, i * n, n, out);
+        q = at;
+        sound = sound & r.sound;
+        i += 1;
+    }
+    Ran { mask, sound }
+}
+
+// The first n numbers of a slice, written over another; the rest stays.
+fn write_rows(rows: &[f64], n: usize, out: &mut [f64])
+    requires { ⌜ (n ≤ 512) × (n ≤ length (now rows)) × (n ≤ length (now out)) ⌝ }
+    ensures { λ _. ⌜ now (out .exit) ≡ over (at (now (rows .entry))) (now (out .entry)) n ⌝ }
+{
+    let mut i = 0usize;
+    while i < n {
+        out[i] = rows[i];
+        i += 1;
     }
 }
