@@ -11,7 +11,7 @@ use lib.Bits.{bitOr}
 use lib.Dec.{eqb}
 use lib.ListN.{length, set, take, drop, replicate, length-set, length-drop}
 use lib.Seq.{take-all}
-use lib.Ieee.{Float, Format, add, sub, mul, lt}
+use lib.Ieee.{Float, Format, binary64, add, sub, mul, lt}
 use Rattle.refusal.specs.Order.{if_then_else_}
 use Rattle.fmath.specs.Each.{at, all, some, over}
 use Rattle.fmath.specs.Finite.{finite, +0}
@@ -28,7 +28,7 @@ use Rattle.tier0.specs.declared.Test.{Test}
 use Rattle.tier0.specs.declared.Stride.{Stride}
 use Rattle.tier0.specs.declared.Ran.{Ran}
 use Rattle.tier0.specs.Rule.{Slow, ACCEL, JERK, arms, shared, outOfBox, moves, moved}
-use Rattle.tier0.specs.Chunk.{rawRow, startRow, rowBefore, stepTo, peakStep, someLonger, someOutOfBox, someOf, bend, jolt, exceeds, bentAt, tooBent, joltedAt, tooJolted, putRow, Run, nextRow, runRows}
+use Rattle.tier0.specs.Chunk.{rawRow, startRow, rowBefore, stepTo, peakStep, someLonger, someOutOfBox, someOf, bend, jolt, bends, jolts, exceeds, bentAt, tooBent, joltedAt, tooJolted, putRow, Run, nextRow, runRows}
 use Rattle.tier0.specs.Of.{rowFrom, testFrom, stepsFrom, runFrom}
 
 -- ---- one row
@@ -215,3 +215,20 @@ module _ (f : Format) (s : Checks) (slow : Float) (q rows : List Float) where
         out-so = some-more (λ (j : ℕ). outOfBox s (rawRow rows (s .dim) j)) i out o (h .out-so) (eo ∙ ap (outOfBox s) ea);
         ok-so = all-more (λ (j : ℕ). stepTo f q rows (s .dim) j .sound) i ok k (h .ok-so) (ek ∙ ap finite e ∙ sym (dist-tells f (rawRow rows (s .dim) i) (rowBefore q rows (s .dim) i) (s .dim)));
       }
+
+module _ (f : Format) (s : Checks) (q rows : List Float) (i : ℕ) {before here next : List Float} {d : Row} {v : Float} {k : Bool}
+    (eb : before ≡ rowBefore q rows (s .dim) i) (eh : here ≡ rawRow rows (s .dim) i) (en : next ≡ rawRow rows (s .dim) (i + 1)) (ev : v ≡ norm f (d .at) (s .dim) .value) where
+  pub bent-at-is : d ≡ rowFrom (each (bends f next here before) (replicate 8 +0) (s .dim)) → k ≡ finite (mul f v (s .«inv_dt2»))
+      → _≡_ {A = Test} (record { holds = lt (s .«a_max») (mul f v (s .«inv_dt2»)); sound = d .sound && k }) (testFrom (bentAt f s q rows i))
+  unfolding bentAt
+  bent-at-is ed ek = exceeds-is f _ (s .dim) (s .«inv_dt2») (s .«a_max») (ed ∙ rw (en, eh, eb)) ev ek
+
+  pub jolted-at-is : {second : List Float} → second ≡ rawRow rows (s .dim) (i + 2) → d ≡ rowFrom (each (jolts f second next here before) (replicate 8 +0) (s .dim)) → k ≡ finite (mul f v (s .«inv_dt3»))
+      → _≡_ {A = Test} (record { holds = lt (s .«j_max») (mul f v (s .«inv_dt3»)); sound = d .sound && k }) (testFrom (joltedAt f s q rows i))
+  unfolding joltedAt
+  jolted-at-is es ed ek = exceeds-is f _ (s .dim) (s .«inv_dt3») (s .«j_max») (ed ∙ rw (es, en, eh, eb)) ev ek
+
+pub strides-are : (s : Checks) (slow : Float) (q rows : List Float) {i h : ℕ} {peak : Float} {fast close out ok : Bool} → i ≡ h
+    → Strode binary64 s slow q rows i peak fast close out ok
+    → _≡_ {A = Stride} (record { peak = peak; fast = fast; close = close; out = out; sound = ok }) (stepsFrom s slow q rows h)
+strides-are s slow q rows e w = rw (← e, w .top, w .fast-so, w .close-so, w .out-so, w .ok-so)

@@ -837,3 +837,123 @@ fn write_rows(rows: &[f64], n: usize, out: &mut [f64])
         i += 1;
     }
 }
+
+// The rows projected, or as they came under ClampMode Off, written over out.
+fn projected_rows(s: Checks, z: SlowZone, pos: &[f64], rows: &[f64], q: [f64; 8], h: usize, out: &mut [f64]) -> Ran
+    requires { ⌜ (s .dim ≤ 8) × (s .«pos_dim» ≤ length (now pos)) × (h ≤ 64) × (h * s .dim ≤ length (now rows)) × (h * s .dim ≤ length (now out)) ⌝ }
+    ensures { λ r. ⌜ (r ≡ ranFrom (projectedRows binary64 s (s .clamp) (slowOf z) (now (pos .entry)) (now (rows .entry)) q (now (out .entry)) h)) × (now (out .exit) ≡ projectedRows binary64 s (s .clamp) (slowOf z) (now (pos .entry)) (now (rows .entry)) q (now (out .entry)) h .value .rows) ⌝ }
+{
+    let mode = s.clamp;
+    match mode {
+        ClampMode::Off => {
+            write_rows(rows, h * s.dim, out);
+            Ran {
+                mask: 0,
+                sound: true,
+            }
+        }
+        ClampMode::Project => run_rows(s, z, pos, rows, q, h, out),
+    }
+}
+
+// ---- the check of a chunk
+
+// Trips on the rows as they came, the greatest speed, and, over out, the projected rows.
+fn judge_chunk(s: Checks, pos: &[f64], aux: &[f64], rows: &[f64], h: usize, out: &mut [f64]) -> Ruling
+    requires { ⌜ (s .dim ≤ 8) × (s .«pos_dim» ≤ length (now pos)) × (0 < h) × (h ≤ 64) × (h * s .dim ≤ length (now rows)) × (h * s .dim ≤ length (now out)) ⌝ }
+    ensures { λ r. ⌜ (r ≡ rulingFrom (checkChunk binary64 s (now (pos .entry)) (now (aux .entry)) (now (rows .entry)) (now (out .entry)) h)) × (now (out .exit) ≡ checkChunk binary64 s (now (pos .entry)) (now (aux .entry)) (now (rows .entry)) (now (out .entry)) h .value .after .rows) ⌝ }
+{
+    let z = slow_zone(s, pos, aux);
+    let q = start_row(s, pos, rows);
+    let t = step_rows(s, z.step, q, rows, h);
+    let peak = t.peak * s.inv_dt;
+    let fine = fmath::finite(peak);
+    let bent = too_bent(s, q, rows, h);
+    let jolted = too_jolted(s, q, rows, h);
+    let first = raw_row(rows, s.dim, 0);
+    let far = out_of_reach(s, pos, &first);
+    let speed = armed(s, TripMask::SPEED);
+    let trips = trip_bits(t.out, speed & t.fast, bent.holds, jolted.holds, far.holds, z.inside & t.close);
+    let p = projected_rows(s, z, pos, rows, q, h, out);
+    let judged = t.sound & (fine & (bent.sound & (jolted.sound & (far.sound & p.sound))));
+    Ruling {
+        trips,
+        mask: p.mask,
+        peak,
+        sound: z.sound & judged,
+    }
+}
+
+// Whether the position is shorter than pos_dim, or the output than the chunk.
+fn chunk_too_short(pos_dim: usize, pos: usize, size: usize, room: usize) -> bool
+    ensures { λ r. ⌜ r ≡ chunkTooShort «pos_dim» pos size room ⌝ }
+{
+    (pos < pos_dim) | (room < size)
+}
+
+// Whether some number that is lent with a chunk, read or not, is not finite.
+fn chunk_not_finite(pos: &[f64], aux: &[f64], rows: &[f64]) -> bool
+    ensures { λ r. ⌜ r ≡ someChunkNotFinite (now (pos .entry)) (now (aux .entry)) (now (rows .entry)) ⌝ }
+{
+    let k = fmath::all_finite(pos, pos.len());
+    let l = fmath::all_finite(aux, aux.len());
+    let m = fmath::all_finite(rows, rows.len());
+    !k | !l | !m
+}
+
+// The number for what is lent with a chunk whose configuration and sizes are accepted: 10, then 11, then 12.
+fn rows_refusal(c: FuseConfig, pos: &[f64], aux: &[f64], rows: &[f64], horizon: u16, dim: u16, room: usize) -> u8
+    ensures { λ r. ⌜ r ≡ refusal (lentToChunk c (now (pos .entry)) (now (aux .entry)) (now (rows .entry)) horizon dim 0 room []) ⌝ }
+{
+    let h = horizon as usize;
+    let d = dim as usize;
+    if d != c.dim {
+        return Refusal::WIDTH;
+    }
+    if chunk_too_short(c.pos_dim, pos.len(), h * d, room) {
+        return Refusal::SHORT;
+    }
+    if chunk_not_finite(pos, aux, rows) {
+        return Refusal::NOT_FINITE;
+    }
+    0
+}
+
+// The number for a chunk: the configuration's own, then the sizes', then what is lent; 0 where there is none.
+fn chunk_refusal(c: FuseConfig, pos: &[f64], aux: &[f64], rows: &[f64], horizon: u16, dim: u16, exec_steps: u16, room: usize) -> u8
+    ensures { λ r. ⌜ r ≡ refusal (configJudged c ++ (chunkReasons horizon dim «exec_steps» (length (now (rows .entry))) ++ lentToChunk c (now (pos .entry)) (now (aux .entry)) (now (rows .entry)) horizon dim «exec_steps» room [])) ⌝ }
+{
+    let number = envelope::config_refusal(c);
+    if number != 0 {
+        return number;
+    }
+    let sizes = chunk::chunk_refusal(horizon, dim, exec_steps, rows.len());
+    if sizes != 0 {
+        return sizes;
+    }
+    rows_refusal(c, pos, aux, rows, horizon, dim, room)
+}
+
+// The check of a chunk of rows: which limits they exceed, the greatest speed, and, in out, the projected rows; the rest of
+// out stays. A refusal, by the lowest number that applies, leaves out as it was.
+pub fn check_chunk(c: FuseConfig, pos: &[f64], aux: &[f64], rows: &[f64], horizon: u16, dim: u16, exec_steps: u16, out: &mut [f64]) -> Check
+    ensures { λ r. ⌜ (r ≡ chunkAnswer c (now (pos .entry)) (now (aux .entry)) (now (rows .entry)) horizon dim «exec_steps» (length (now (out .entry)))) × (now (out .exit) ≡ chunkOut c (now (pos .entry)) (now (aux .entry)) (now (rows .entry)) horizon dim «exec_steps» (now (out .entry))) ⌝ }
+{
+    let number = chunk_refusal(c, pos, aux, rows, horizon, dim, exec_steps, out.len());
+    if number != 0 {
+        return Check::Refused(Refusal::of(number));
+    }
+    let s = checks_of(c);
+    let h = horizon as usize;
+    let mut all = [0.0; 512];
+    let v = judge_chunk(s, pos, aux, rows, h, &mut all);
+    if !v.sound {
+        return Check::Refused(Refusal::of(Refusal::COMPUTED));
+    }
+    write_rows(&all, h * c.dim, out);
+    Check::Passed {
+        trips: v.trips,
+        clamped_dims: v.mask,
+        peak_speed: v.peak,
+    }
+}

@@ -68,7 +68,7 @@ loop-less c = search needs
 
 loop-again : tie.Need-loop-again Inv-loop μ-loop
 unfolding jolt ofBits
-loop-again c = let l = c .before .before .before .before .before .before in let g = l .before .args in let e = jolts binary64 (now (g .second)) (now (g .next)) (now (g .here)) (now (g .t3)) in (omega arith, (each-value e (replicate 8 +0) (l .loop .i) _ _ (l .loop .inv .1 .0) refl, each-sound e (replicate 8 +0) (l .loop .i) _ _ _ (l .loop .inv .1 .1) (c .finite .ensures) refl (jolt-tells binary64 (at (now (g .second)) (l .loop .i)) (at (now (g .next)) (l .loop .i)) (at (now (g .here)) (l .loop .i)) (at (now (g .t3)) (l .loop .i)))))
+loop-again c = let l = c .before .before .before .before .before .before in let g = l .before .args in let e = jolts binary64 (now (g .second)) (now (g .next)) (now (g .here)) (now (g .before)) in (omega arith, (each-value e (replicate 8 +0) (l .loop .i) _ _ (l .loop .inv .1 .0) refl, each-sound e (replicate 8 +0) (l .loop .i) _ _ _ (l .loop .inv .1 .1) (c .finite .ensures) refl (jolt-tells binary64 (at (now (g .second)) (l .loop .i)) (at (now (g .next)) (l .loop .i)) (at (now (g .here)) (l .loop .i)) (at (now (g .before)) (l .loop .i)))))
 
 returns : tie.Need-returns Inv-loop μ-loop
 returns c = let l = c .before in let e = le-antisymm (l .loop .inv .0) (c .loop-test .left) in a-row _ (rw e at (l .loop .inv .1 .0)) (rw e at (l .loop .inv .1 .1))

@@ -1,4 +1,5 @@
 -- `tier0::start_row` meets its contract: the loop puts one coordinate of the position a turn over row 0.
+use lib.ListN.{length}
 use Prim.Native.Nat.{_≤_, _-_, _*_, min}
 use mathlib.Core.Path.{_≡_, refl, sym, ap, _∙_}
 use native.Mathlib.Nat.{le-antisymm}
@@ -12,7 +13,7 @@ use Rattle.tier0.proofs.start_row.Statement.{statement}
 use Rattle.tier0.proofs.start_row.Tie as tie
 
 abbrev Inv-loop : tie.InvT-loop
-Inv-loop pos rows n r₀ i₀ r i = (i ≤ n) × ((n ≡ min (s .dim) (s .«pos_dim»)) × (r ≡ over (at pos) (rawRow rows (s .dim) 0) i))
+Inv-loop pos rows n r₀ i₀ r i = (i ≤ n) × ((n ≤ 8) × ((n ≤ length pos) × (r ≡ over (at pos) r₀ i)))
 
 abbrev μ-loop : tie.MeasureT-loop
 μ-loop pos rows n r₀ i₀ r i = n - i
@@ -25,7 +26,7 @@ raw-row-requires c κs = let w = c .before .before .before .pre in (w .0, omega 
 
 loop-holds : tie.Need-loop-holds Inv-loop μ-loop
 unfolding over
-loop-holds c = (omega arith, (c .before .shared .ensures, c .raw-row .ensures))
+loop-holds c = let w = c .before .before .before .before .pre in let e = c .before .shared .ensures in (omega arith, (omega arith, (omega arith, refl)))
 
 mul-r : tie.Need-mul-r Inv-loop μ-loop
 mul-r c = search needs
@@ -46,11 +47,11 @@ loop-less : tie.Need-loop-less Inv-loop μ-loop
 loop-less c = search needs
 
 loop-again : tie.Need-loop-again Inv-loop μ-loop
-loop-again c = let l = c .before .before .loop in (omega arith, (l .inv .1 .0, over-more _ _ _ _ _ (l .inv .1 .1) refl))
+loop-again c = let l = c .before .before .loop in (omega arith, (l .inv .1 .0, (l .inv .1 .1 .0, over-more _ _ _ _ _ (l .inv .1 .1 .1) refl)))
 
 returns : tie.Need-returns Inv-loop μ-loop
 unfolding startRow
-returns c = let l = c .before .loop in let g = c .before .before .before .before .before .before .args in let e = le-antisymm (l .inv .0) (c .loop-test .left) in l .inv .1 .1 ∙ ap (over (at (now (g .pos))) (rawRow (now (g .rows)) (g .s .dim) 0)) (e ∙ l .inv .1 .0)
+returns c = let l = c .before .loop in let g = c .before .before .before .before .before .before .args in let e = le-antisymm (l .inv .0) (c .loop-test .left) in l .inv .1 .1 .1 ∙ rw (c .before .before .raw-row .ensures, e, c .before .before .before .shared .ensures)
 
 pub start-row-spec : {M : Type 1} → statement M
 start-row-spec =
