@@ -2,3 +2,4 @@ pub mod Loops
 pub mod Steps
 pub mod Refused
 pub mod Rows
+pub mod ChunkRefused

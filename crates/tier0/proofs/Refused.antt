@@ -69,11 +69,11 @@ only-computed false false false false false false false h = refl
 
 -- ---- what is known of an accepted call
 
-or-left : (a b : Bool) → (a || b) ≡ false → a ≡ false
+pub or-left : (a b : Bool) → (a || b) ≡ false → a ≡ false
 or-left true b e = e
 or-left false b e = refl
 
-or-right : (a b : Bool) → (a || b) ≡ false → b ≡ false
+pub or-right : (a b : Bool) → (a || b) ≡ false → b ≡ false
 or-right true true e = e
 or-right true false e = refl
 or-right false b e = e
@@ -97,11 +97,11 @@ pub record Answered (c : FuseConfig) (p aux prev a l : List Float) (r : Check) (
   pub gives : r ≡ actionAnswer c p aux prev a (length l)
   pub leaves : m ≡ actionOut c p aux prev a l
 
-at-number : (k : ℕ) → (k ≡ 0 → ⊥) → (j : Judgement) → Refused (refusedFor k) ≡ answerAt k j
+pub at-number : (k : ℕ) → (k ≡ 0 → ⊥) → (j : Judgement) → Refused (refusedFor k) ≡ answerAt k j
 at-number zero h j = absurd (h refl)
 at-number (suc k) h j = refl
 
-out-number : (k : ℕ) → (k ≡ 0 → ⊥) → (j : Judgement) (n : ℕ) (l : List Float) → l ≡ outAt k j n l
+pub out-number : (k : ℕ) → (k ≡ 0 → ⊥) → (j : Judgement) (n : ℕ) (l : List Float) → l ≡ outAt k j n l
 out-number zero h j n l = absurd (h refl)
 out-number (suc k) h j n l = refl
 

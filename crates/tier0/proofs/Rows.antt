@@ -22,14 +22,18 @@ use Rattle.fmath.proofs.Absorbing.{fine-add-left, fine-add-right, fine-sub-left
 use Rattle.fmath.proofs.Each.{all-more, some-more}
 use Rattle.fmath.proofs.Extremes.{greatest-more}
 use Rattle.fmath.proofs.Told.{Tells, implied, dist-tells, norm-tells}
+use Rattle.envelope.specs.declared.ClampMode.{ClampMode}
+use Rattle.envelope.specs.declared.ClampMode.the-variants as M
 use Rattle.tier0.specs.declared.Checks.{Checks}
+use Rattle.tier0.specs.declared.SlowZone.{SlowZone}
+use Rattle.tier0.specs.declared.Ruling.{Ruling}
 use Rattle.tier0.specs.declared.Row.{Row}
 use Rattle.tier0.specs.declared.Test.{Test}
 use Rattle.tier0.specs.declared.Stride.{Stride}
 use Rattle.tier0.specs.declared.Ran.{Ran}
-use Rattle.tier0.specs.Rule.{Slow, ACCEL, JERK, arms, shared, outOfBox, moves, moved}
-use Rattle.tier0.specs.Chunk.{rawRow, startRow, rowBefore, stepTo, peakStep, someLonger, someOutOfBox, someOf, bend, jolt, bends, jolts, exceeds, bentAt, tooBent, joltedAt, tooJolted, putRow, Run, nextRow, runRows}
-use Rattle.tier0.specs.Of.{rowFrom, testFrom, stepsFrom, runFrom}
+use Rattle.tier0.specs.Rule.{Slow, SPEED, ACCEL, JERK, arms, shared, slowZone, outOfBox, outOfReach, tripBits, moves, moved, Projected, Judgement}
+use Rattle.tier0.specs.Chunk.{rawRow, startRow, rowBefore, stepTo, peakStep, someLonger, someOutOfBox, someOf, bend, jolt, bends, jolts, exceeds, bentAt, tooBent, joltedAt, tooJolted, putRow, Run, nextRow, runRows, projectedRows, checkChunk}
+use Rattle.tier0.specs.Of.{slowOf, zoneFrom, rowFrom, testFrom, stepsFrom, runFrom, ranFrom, rulingFrom}
 
 -- ---- one row
 
@@ -232,3 +236,45 @@ pub strides-are : (s : Checks) (slow : Float) (q rows : List Float) {i h : ℕ} 
     → Strode binary64 s slow q rows i peak fast close out ok
     → _≡_ {A = Stride} (record { peak = peak; fast = fast; close = close; out = out; sound = ok }) (stepsFrom s slow q rows h)
 strides-are s slow q rows e w = rw (← e, w .top, w .fast-so, w .close-so, w .out-so, w .ok-so)
+
+-- ---- the projected rows, and the whole check
+
+module _ (f : Format) (s : Checks) (m : ClampMode) (z : Slow) (p rows q l : List Float) (h : ℕ) where
+  abbrev projected : Checked Projected
+  projected = projectedRows f s m z p rows q l h
+
+  pub rows-off : m ≡ M.Off → {o : List Float} → o ≡ over (at rows) l (h * s .dim) → (_≡_ {A = Ran} (record { mask = 0; sound = true }) (ranFrom projected)) × (o ≡ projected .value .rows)
+  unfolding projectedRows
+  rows-off e g = rw e (refl, g)
+
+  pub rows-on : m ≡ M.Project → {r : Ran} {o : List Float} → (r ≡ runFrom (runRows f s z p rows q l h)) × (o ≡ runRows f s z p rows q l h .value .out) → (r ≡ ranFrom projected) × (o ≡ projected .value .rows)
+  unfolding projectedRows
+  rows-on e u = rw (e, and-true) u
+
+pub judge-chunk-is : (s : Checks) (p aux rows l : List Float) (h : ℕ) {z : SlowZone} {q first m : List Float} {t : Stride} {k speed : Bool} {bent jolted far : Test} {c : Ran} {bits : ℕ}
+    → z ≡ zoneFrom (slowZone binary64 s p aux)
+    → q ≡ startRow s p rows
+    → t ≡ stepsFrom s (z .step) q rows h
+    → k ≡ finite (mul binary64 (t .peak) (s .«inv_dt»))
+    → bent ≡ testFrom (tooBent binary64 s q rows h)
+    → jolted ≡ testFrom (tooJolted binary64 s q rows h)
+    → first ≡ rawRow rows (s .dim) 0
+    → far ≡ testFrom (outOfReach binary64 s p first)
+    → speed ≡ arms s SPEED
+    → bits ≡ tripBits (t .out) (speed && t .fast) (bent .holds) (jolted .holds) (far .holds) (z .inside && t .close)
+    → (c ≡ ranFrom (projectedRows binary64 s (s .clamp) (slowOf z) p rows q l h)) × (m ≡ projectedRows binary64 s (s .clamp) (slowOf z) p rows q l h .value .rows)
+    → (_≡_ {A = Ruling} (record { trips = bits; mask = c .mask; peak = mul binary64 (t .peak) (s .«inv_dt»); sound = z .sound && (t .sound && (k && (bent .sound && (jolted .sound && (far .sound && c .sound))))) })
+        (rulingFrom (checkChunk binary64 s p aux rows l h))) × (m ≡ checkChunk binary64 s p aux rows l h .value .after .rows)
+unfolding checkChunk
+judge-chunk-is s p aux rows l h ez eq et ek eb ej e1 ef es ew ec = (rw (ew, ec .0, ef, e1, ej, eb, es, ek, et, eq, ez, and-true), ec .1 ∙ rw (eq, ez))
+
+-- the first row lies in the rows
+pub first-fits : (h n len : ℕ) → 0 < h → h * n ≤ len → n ≤ len
+first-fits h n len l b = let w = row-fits 0 h n len l b in omega arith
+
+-- so many rows are a small number of numbers
+pub size-small : (h n : ℕ) → h ≤ 64 → n ≤ 8 → h * n ≤ 512
+size-small h n l b = le-trans (mul-le-mul-right {m = h} {n = 64} n l) (omega arith)
+
+pub words-small : (h d : ℕ) → h < 65536 → d < 65536 → h * d < 4294967296
+words-small h d l b = let w = mul-le-mul-right {m = h} {n = 65535} d (omega arith) in omega arith

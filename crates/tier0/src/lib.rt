@@ -803,7 +803,15 @@ fn put_row(r: [f64; 8], k: usize, n: usize, out: &mut [f64])
     }
 }
 
-// The projected rows, each from the projected one before it; q stands before row 0.
+// A row after its moves, from the projected one before it.
+fn next_row(s: Checks, z: SlowZone, pos: &[f64], first: bool, q: [f64; 8], a: [f64; 8]) -> Row
+    requires { ⌜ (s .dim ≤ 8) × (s .«pos_dim» ≤ length (now pos)) ⌝ }
+    ensures { λ r. ⌜ r ≡ rowFrom (moves binary64 s (slowOf z) (now (pos .entry)) first q a) ⌝ }
+{
+    moves(s, z, pos, first, &q, a)
+}
+
+// The projected rows, each from the projected one before it; q0 stands before row 0.
 fn run_rows(s: Checks, z: SlowZone, pos: &[f64], rows: &[f64], q0: [f64; 8], h: usize, out: &mut [f64]) -> Ran
     requires { ⌜ (s .dim ≤ 8) × (s .«pos_dim» ≤ length (now pos)) × (h ≤ 64) × (h * s .dim ≤ length (now rows)) × (h * s .dim ≤ length (now out)) ⌝ }
     ensures { λ r. ⌜ (r ≡ runFrom (runRows binary64 s (slowOf z) (now (pos .entry)) (now (rows .entry)) q0 (now (out .entry)) h)) × (now (out .exit) ≡ runRows binary64 s (slowOf z) (now (pos .entry)) (now (rows .entry)) q0 (now (out .entry)) h .value .out) ⌝ }
@@ -815,7 +823,7 @@ fn run_rows(s: Checks, z: SlowZone, pos: &[f64], rows: &[f64], q0: [f64; 8], h: 
     let mut i = 0usize;
     while i < h {
         let a = raw_row(rows, n, i);
-        let r = moves(s, z, pos, i == 0, &q, a);
+        let r = next_row(s, z, pos, i == 0, q, a);
         let at = r.at;
         mask = mask | moved(&a, &at, n);
         put_row(at, i * n, n, out);
