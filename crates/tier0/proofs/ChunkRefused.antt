@@ -119,10 +119,10 @@ pub record Sized (c : FuseConfig) (p rows : List Float) (h room : ℕ) : Type 0 
   pub out : h * c .dim ≤ room
 
 -- the same of what the checks read
-pub sized-checks : (c : FuseConfig) (p rows : List Float) (h room : ℕ) {s : Checks} → s ≡ checksOf c → Sized c p rows h room → (l : List Float) → length l ≡ 512
-    → (s .dim ≤ 8) × (s .«pos_dim» ≤ length p) × (0 < h) × (h ≤ 64) × (h * s .dim ≤ length rows) × (h * s .dim ≤ length l)
+pub sized-checks : (c : FuseConfig) (p rows : List Float) (h room : ℕ) {s : Checks} → s ≡ checksOf c → Sized c p rows h room
+    → (s .dim ≤ 8) × (s .«pos_dim» ≤ length p) × (0 < h) × (h ≤ 64) × (h * s .dim ≤ length rows) × (h * s .dim ≤ 512)
 unfolding checksOf
-sized-checks c p rows h room e w l g = rw (e, g) (w .narrow, w .pos, w .some, w .few, w .there, w .small)
+sized-checks c p rows h room e w = rw e (w .narrow, w .pos, w .some, w .few, w .there, w .small)
 
 -- ---- the whole answer
 

@@ -180,7 +180,7 @@ module _ (f : Format) (s : Checks) (z : Slow) (p rows q₀ l₀ : List Float) wh
       let x : Run = record { last = q; out = l; mask = mask } in
       record {
         all = value-turn i x _ (h .all) (rw (ek, em, er, ea));
-        flag = sound-turn i x ok (r .sound) (h .all) (h .flag) (rw (er, ea, and-true))
+        flag = sound-turn i x ok (r .sound) (h .all) (h .flag) (rw (er, ea, and-true));
       }
 
   pub ran : {h i : ℕ} {q l : List Float} {mask : ℕ} {ok : Bool} → i ≡ h → Kept (run i) q l mask ok
@@ -264,7 +264,7 @@ pub judge-chunk-is : (s : Checks) (p aux rows l : List Float) (h : ℕ) {z : Slo
     → bits ≡ tripBits (t .out) (speed && t .fast) (bent .holds) (jolted .holds) (far .holds) (z .inside && t .close)
     → (c ≡ ranFrom (projectedRows binary64 s (s .clamp) (slowOf z) p rows q l h)) × (m ≡ projectedRows binary64 s (s .clamp) (slowOf z) p rows q l h .value .rows)
     → (_≡_ {A = Ruling} (record { trips = bits; mask = c .mask; peak = mul binary64 (t .peak) (s .«inv_dt»); sound = z .sound && (t .sound && (k && (bent .sound && (jolted .sound && (far .sound && c .sound))))) })
-        (rulingFrom (checkChunk binary64 s p aux rows l h))) × (m ≡ checkChunk binary64 s p aux rows l h .value .after .rows)
+    (rulingFrom (checkChunk binary64 s p aux rows l h))) × (m ≡ checkChunk binary64 s p aux rows l h .value .after .rows)
 unfolding checkChunk
 judge-chunk-is s p aux rows l h ez eq et ek eb ej e1 ef es ew ec = (rw (ew, ec .0, ef, e1, ej, eb, es, ek, et, eq, ez, and-true), ec .1 ∙ rw (eq, ez))
 

@@ -812,7 +812,15 @@ fn next_row(s: Checks, z: SlowZone, pos: &[f64], first: bool, q: [f64; 8], a: [f
 }
 
 // The projected rows, each from the projected one before it; q0 stands before row 0.
-fn run_rows(s: Checks, z: SlowZone, pos: &[f64], rows: &[f64], q0: [f64; 8], h: usize, out: &mut [f64]) -> Ran
+fn run_rows(
+    s: Checks,
+    z: SlowZone,
+    pos: &[f64],
+    rows: &[f64],
+    q0: [f64; 8],
+    h: usize,
+    out: &mut [f64],
+) -> Ran
     requires { ⌜ (s .dim ≤ 8) × (s .«pos_dim» ≤ length (now pos)) × (h ≤ 64) × (h * s .dim ≤ length (now rows)) × (h * s .dim ≤ length (now out)) ⌝ }
     ensures { λ r. ⌜ (r ≡ runFrom (runRows binary64 s (slowOf z) (now (pos .entry)) (now (rows .entry)) q0 (now (out .entry)) h)) × (now (out .exit) ≡ runRows binary64 s (slowOf z) (now (pos .entry)) (now (rows .entry)) q0 (now (out .entry)) h .value .out) ⌝ }
 {
@@ -847,7 +855,15 @@ fn write_rows(rows: &[f64], n: usize, out: &mut [f64])
 }
 
 // The rows projected, or as they came under ClampMode Off, written over out.
-fn projected_rows(s: Checks, z: SlowZone, pos: &[f64], rows: &[f64], q: [f64; 8], h: usize, out: &mut [f64]) -> Ran
+fn projected_rows(
+    s: Checks,
+    z: SlowZone,
+    pos: &[f64],
+    rows: &[f64],
+    q: [f64; 8],
+    h: usize,
+    out: &mut [f64],
+) -> Ran
     requires { ⌜ (s .dim ≤ 8) × (s .«pos_dim» ≤ length (now pos)) × (h ≤ 64) × (h * s .dim ≤ length (now rows)) × (h * s .dim ≤ length (now out)) ⌝ }
     ensures { λ r. ⌜ (r ≡ ranFrom (projectedRows binary64 s (s .clamp) (slowOf z) (now (pos .entry)) (now (rows .entry)) q (now (out .entry)) h)) × (now (out .exit) ≡ projectedRows binary64 s (s .clamp) (slowOf z) (now (pos .entry)) (now (rows .entry)) q (now (out .entry)) h .value .rows) ⌝ }
 {
@@ -867,7 +883,14 @@ fn projected_rows(s: Checks, z: SlowZone, pos: &[f64], rows: &[f64], q: [f64; 8]
 // ---- the check of a chunk
 
 // Trips on the rows as they came, the greatest speed, and, over out, the projected rows.
-fn judge_chunk(s: Checks, pos: &[f64], aux: &[f64], rows: &[f64], h: usize, out: &mut [f64]) -> Ruling
+fn judge_chunk(
+    s: Checks,
+    pos: &[f64],
+    aux: &[f64],
+    rows: &[f64],
+    h: usize,
+    out: &mut [f64],
+) -> Ruling
     requires { ⌜ (s .dim ≤ 8) × (s .«pos_dim» ≤ length (now pos)) × (0 < h) × (h ≤ 64) × (h * s .dim ≤ length (now rows)) × (h * s .dim ≤ length (now out)) ⌝ }
     ensures { λ r. ⌜ (r ≡ rulingFrom (checkChunk binary64 s (now (pos .entry)) (now (aux .entry)) (now (rows .entry)) (now (out .entry)) h)) × (now (out .exit) ≡ checkChunk binary64 s (now (pos .entry)) (now (aux .entry)) (now (rows .entry)) (now (out .entry)) h .value .after .rows) ⌝ }
 {
@@ -881,7 +904,14 @@ fn judge_chunk(s: Checks, pos: &[f64], aux: &[f64], rows: &[f64], h: usize, out:
     let first = raw_row(rows, s.dim, 0);
     let far = out_of_reach(s, pos, &first);
     let speed = armed(s, TripMask::SPEED);
-    let trips = trip_bits(t.out, speed & t.fast, bent.holds, jolted.holds, far.holds, z.inside & t.close);
+    let trips = trip_bits(
+        t.out,
+        speed & t.fast,
+        bent.holds,
+        jolted.holds,
+        far.holds,
+        z.inside & t.close,
+    );
     let p = projected_rows(s, z, pos, rows, q, h, out);
     let judged = t.sound & (fine & (bent.sound & (jolted.sound & (far.sound & p.sound))));
     Ruling {
@@ -910,7 +940,15 @@ fn chunk_not_finite(pos: &[f64], aux: &[f64], rows: &[f64]) -> bool
 }
 
 // The number for what is lent with a chunk whose configuration and sizes are accepted: 10, then 11, then 12.
-fn rows_refusal(c: FuseConfig, pos: &[f64], aux: &[f64], rows: &[f64], horizon: u16, dim: u16, room: usize) -> u8
+fn rows_refusal(
+    c: FuseConfig,
+    pos: &[f64],
+    aux: &[f64],
+    rows: &[f64],
+    horizon: u16,
+    dim: u16,
+    room: usize,
+) -> u8
     ensures { λ r. ⌜ r ≡ refusal (lentToChunk c (now (pos .entry)) (now (aux .entry)) (now (rows .entry)) horizon dim 0 room []) ⌝ }
 {
     let h = horizon as usize;
@@ -928,7 +966,16 @@ fn rows_refusal(c: FuseConfig, pos: &[f64], aux: &[f64], rows: &[f64], horizon: 
 }
 
 // The number for a chunk: the configuration's own, then the sizes', then what is lent; 0 where there is none.
-fn chunk_refusal(c: FuseConfig, pos: &[f64], aux: &[f64], rows: &[f64], horizon: u16, dim: u16, exec_steps: u16, room: usize) -> u8
+fn chunk_refusal(
+    c: FuseConfig,
+    pos: &[f64],
+    aux: &[f64],
+    rows: &[f64],
+    horizon: u16,
+    dim: u16,
+    exec_steps: u16,
+    room: usize,
+) -> u8
     ensures { λ r. ⌜ r ≡ refusal (configJudged c ++ (chunkReasons horizon dim «exec_steps» (length (now (rows .entry))) ++ lentToChunk c (now (pos .entry)) (now (aux .entry)) (now (rows .entry)) horizon dim «exec_steps» room [])) ⌝ }
 {
     let number = envelope::config_refusal(c);
@@ -944,7 +991,16 @@ fn chunk_refusal(c: FuseConfig, pos: &[f64], aux: &[f64], rows: &[f64], horizon:
 
 // The check of a chunk of rows: which limits they exceed, the greatest speed, and, in out, the projected rows; the rest of
 // out stays. A refusal, by the lowest number that applies, leaves out as it was.
-pub fn check_chunk(c: FuseConfig, pos: &[f64], aux: &[f64], rows: &[f64], horizon: u16, dim: u16, exec_steps: u16, out: &mut [f64]) -> Check
+pub fn check_chunk(
+    c: FuseConfig,
+    pos: &[f64],
+    aux: &[f64],
+    rows: &[f64],
+    horizon: u16,
+    dim: u16,
+    exec_steps: u16,
+    out: &mut [f64],
+) -> Check
     ensures { λ r. ⌜ (r ≡ chunkAnswer c (now (pos .entry)) (now (aux .entry)) (now (rows .entry)) horizon dim «exec_steps» (length (now (out .entry)))) × (now (out .exit) ≡ chunkOut c (now (pos .entry)) (now (aux .entry)) (now (rows .entry)) horizon dim «exec_steps» (now (out .entry))) ⌝ }
 {
     let number = chunk_refusal(c, pos, aux, rows, horizon, dim, exec_steps, out.len());

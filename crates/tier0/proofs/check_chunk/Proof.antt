@@ -25,7 +25,7 @@ slice-aggregate-judge-chunk : tie.Need-slice-aggregate-judge-chunk
 slice-aggregate-judge-chunk c = search needs
 
 judge-chunk-requires : tie.Need-judge-chunk-requires
-judge-chunk-requires c κs = let g = c .before .before .before .before .before .before .before .before .args in sized-checks (g .c) (now (g .pos)) (now (g .rows)) (g .horizon) _ (c .before .checks-of .ensures) (accepted-sizes (g .c) (now (g .pos)) (now (g .aux)) (now (g .rows)) (g .horizon) (g .dim) (g .exec-steps) _ (sym (c .before .before .before .chunk-refusal .ensures) ∙ c .before .before .if1 .left)) _ refl
+judge-chunk-requires c κs = let g = c .before .before .before .before .before .before .before .before .args in sized-checks (g .c) (now (g .pos)) (now (g .rows)) (g .horizon) _ (c .before .checks-of .ensures) (accepted-sizes (g .c) (now (g .pos)) (now (g .aux)) (now (g .rows)) (g .horizon) (g .dim) (g .exec-steps) _ (sym (c .before .before .before .chunk-refusal .ensures) ∙ c .before .before .if1 .left))
 
 of-requires-2 : tie.Need-of-requires-2
 of-requires-2 c κs = search needs
