@@ -3,3 +3,4 @@ pub mod Steps
 pub mod Refused
 pub mod Rows
 pub mod ChunkRefused
+pub mod Promises
