@@ -8,15 +8,15 @@ use native.Mathlib.Omega.{arith}
 use borrow.Author.Count.{below-more}
 use borrow.Author.Tests.{eq-eqb}
 use lib.Dec.{eqb}
-use lib.ListN.{length, set}
+use lib.ListN.{length, set, replicate}
 use lib.Seq.{getD-set-same, getD-set-other}
-use lib.Ieee.{Float, Format, nan, inf, fin, lt, le, ne, eq, up, down}
+use lib.Ieee.{Float, Format, nan, inf, fin, mul, lt, le, ne, eq, up, down}
 use Rattle.refusal.specs.Order.{if_then_else_}
 use Rattle.fmath.specs.Each.{at, some, over}
-use Rattle.fmath.specs.Finite.{finite}
+use Rattle.fmath.specs.Finite.{finite, +0}
 use Rattle.fmath.specs.Least.{clamped}
-use Rattle.fmath.specs.Checked.{Checked, pure}
-use Rattle.fmath.specs.Norm.{dist}
+use Rattle.fmath.specs.Checked.{Checked, pure, each}
+use Rattle.fmath.specs.Norm.{norm, dist}
 use Rattle.fmath.proofs.Clamping.{clamp-above-lo, clamp-below-hi}
 use Rattle.fmath.proofs.Each.{length-over}
 use Rattle.fmath.proofs.Ordered.{lt-irrefl}
@@ -27,7 +27,7 @@ use Rattle.envelope.specs.declared.Contact.{Contact}
 use Rattle.envelope.specs.declared.Contact.the-variants.{None}
 use Rattle.tier0.specs.declared.Checks.{Checks}
 use Rattle.tier0.specs.Rule.{WORKSPACE, SPEED, ACCEL, JERK, REACH, CONTACT, arms, shared, Slow, clear, inZone, zoneIn, slowZone, outOfBox, outOfReach, bit, tripBits, leash, boxed, leashed, reached, moves, moved, Projected, project, projection, Judgement, checkAction}
-use Rattle.tier0.specs.Chunk.{startRow, stepTo, someLonger, someOutOfBox, tooBent, tooJolted, rawRow, checkChunk}
+use Rattle.tier0.specs.Chunk.{startRow, stepTo, someLonger, someOutOfBox, tooBent, tooJolted, rawRow, exceeds, checkChunk}
 
 -- ---- the bits
 
@@ -289,3 +289,8 @@ unfolding inward
 box-move-inside w a n j h k o =
     rw (over-at (λ (i : ℕ). clamped (at a i) (at (w .lo) i) (at (w .hi) i)) a n h j k)
     (clamp-above-lo (at a j) (at (w .lo) j) (at (w .hi) j) o, clamp-below-hi (at a j) (at (w .lo) j) (at (w .hi) j) o)
+
+-- a difference of rows whose scaled length touches its limit: ACCEL and JERK
+pub difference-touched : (f : Format) (g : ℕ → Checked Float) (n : ℕ) (inv most : Float) → mul f (norm f (each g (replicate 8 +0) n .value) n .value) inv ≡ most → exceeds f g n inv most .value ≡ false
+unfolding exceeds
+difference-touched f g n inv most e = ap (λ (x : Float). lt most x) e ∙ lt-irrefl most

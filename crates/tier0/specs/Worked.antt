@@ -71,3 +71,41 @@ six-eight = refl
 pub three-four : to 3! 4! ≡ record { value = record { trips = 0; peak = 5!; after = record { rows = 3! ∷ 4! ∷ zeros; mask = 0 } }; sound = true }
 unfolding checkAction tripBits mul projection slowZone outOfBox dist project moves arms lt rootOf reached moved sumFrom add leashed ne squaredGap sub outOfReach pulled held over finite boxed shortened each toward div number rootExponent half nearRoot floorRoot scaled
 three-four = refl
+
+-- one coordinate, SPEED alone armed, step 1.5
+abbrev line : Checks
+line = record {
+  dim = 1;
+  «pos_dim» = 1;
+  armed = SPEED;
+  contact = None;
+  clamp = Project;
+  dt = 1!;
+  «a_max» = 1!;
+  «j_max» = 1!;
+  «reach_max» = 1!;
+  «inv_dt» = 1!;
+  «inv_dt2» = 1!;
+  «inv_dt3» = 1!;
+  «step_max» = fin false 3 (negsuc 0);
+  walls = record { lo = []; hi = [] };
+}
+
+-- from 2^53 to x
+abbrev along : Float → Checked Judgement
+along x = checkAction binary64 line (fin false 1 (pos 53) ∷ []) [] (fin false 1 (pos 53) ∷ []) (x ∷ [])
+
+abbrev 2^53+2 : Float
+2^53+2 = fin false 4503599627370497 (pos 1)
+
+abbrev 2^53+4 : Float
+2^53+4 = fin false 2251799813685249 (pos 2)
+
+-- what is not promised: 2^53 + 4 is projected to 2^53 + 2, which trips again
+pub projected-to : along 2^53+4 .value .after .rows ≡ 2^53+2 ∷ +0 ∷ zeros
+unfolding checkAction tripBits mul projection slowZone outOfBox dist project moves arms lt rootOf reached moved sumFrom add leashed ne squaredGap sub outOfReach pulled held over finite boxed shortened each toward div number rootExponent half nearRoot floorRoot scaled
+projected-to = refl
+
+pub trips-again : along 2^53+2 .value .trips ≡ SPEED
+unfolding checkAction tripBits mul projection slowZone outOfBox dist project moves arms lt rootOf reached moved sumFrom add leashed ne squaredGap sub outOfReach pulled held over finite boxed shortened each toward div number rootExponent half nearRoot floorRoot scaled
+trips-again = refl
