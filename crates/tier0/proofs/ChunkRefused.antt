@@ -1,7 +1,7 @@
 -- The number of a chunk's refusal, case by case; what is known where nothing is refused; and the whole answer in each case.
-use Prim.Native.Nat.{ℕ, zero, suc, _*_, _≤_, _<_}
+use Prim.Native.Nat.{ℕ, _*_, _≤_, _<_}
 use mathlib.Core.Path.{_≡_, refl, sym, ap, _∙_}
-use mathlib.Core.Bool.{Bool, true, false, not, _&&_, _||_}
+use mathlib.Core.Bool.{Bool, true, false, not, _||_}
 use mathlib.Core.List.{List, [], _∷_, _++_}
 use native.Mathlib.Omega.{arith}
 use borrow.Author.Tests.{ltb-false, eqb-true, eq-eqb, ne-eqb, not-false}
@@ -22,9 +22,8 @@ use Rattle.tier0.specs.declared.Check.{Check}
 use Rattle.tier0.specs.declared.Check.the-variants.{Passed, Refused}
 use Rattle.tier0.specs.declared.Checks.{Checks}
 use Rattle.tier0.specs.declared.Ruling.{Ruling}
-use Rattle.tier0.specs.Rule.{Judgement}
 use Rattle.tier0.specs.Chunk.{checkChunk}
-use Rattle.tier0.specs.Refusals.{chunkTooShort, someChunkNotFinite, answerAt, outAt}
+use Rattle.tier0.specs.Refusals.{chunkTooShort, someChunkNotFinite}
 use Rattle.tier0.specs.Of.{checksOf, rulingFrom, lentToChunk, chunkRuling, chunkRefusal, chunkAnswer, chunkOut}
 use Rattle.tier0.proofs.Refused.{or-left, or-right, at-number, out-number}
 

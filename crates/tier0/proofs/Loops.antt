@@ -1,14 +1,14 @@
 -- One turn of each loop over the coordinates, on plain values; and that a coordinate pulled towards another tells whether its numbers are finite.
-use Prim.Native.Nat.{ℕ, zero, suc, _+_, _*_, _^_, _≤_, _<_}
-use mathlib.Core.Path.{_≡_, refl, sym, ap, _∙_}
+use Prim.Native.Nat.{ℕ, _+_, _*_, _^_, _≤_, _<_}
+use mathlib.Core.Path.{_≡_, refl, ap, _∙_}
 use mathlib.Core.Bool.{Bool, true, false, _&&_, and-true}
 use mathlib.Core.List.{List}
 use native.Mathlib.Numerals.{add-one}
 use native.Mathlib.Nat.{pow-suc, pow-le-pow-right}
 use native.Mathlib.Omega.{arith}
-use lib.ListN.{length, set, replicate, length-set}
-use lib.Ieee.{Float, Format, add, sub, mul, ne}
-use Rattle.fmath.specs.Each.{at, over}
+use lib.ListN.{set, replicate}
+use lib.Ieee.{Float, Format, sub, mul, ne}
+use Rattle.fmath.specs.Each.{at}
 use Rattle.fmath.specs.Finite.{finite, +0}
 use Rattle.fmath.specs.Checked.{Checked, each}
 use Rattle.fmath.proofs.Absorbing.{fine-add-right, fine-mul-left}

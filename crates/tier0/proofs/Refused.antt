@@ -4,27 +4,25 @@ use mathlib.Core.Path.{_≡_, refl, sym, ap, _∙_}
 use mathlib.Core.Bool.{Bool, true, false, not, _&&_, _||_}
 use mathlib.Core.List.{List, [], _∷_, _++_}
 use native.Mathlib.Omega.{arith}
-use borrow.Author.Tests.{leb-true, ltb-true, ltb-false}
+use borrow.Author.Tests.{ltb-true, ltb-false}
 use lib.Dec.{leb, ltb}
 use lib.ListN.{length}
 use lib.Ieee.{Float, binary64}
-use Rattle.refusal.specs.Order.{Judged, size, number, steps, channels, short, notFinite, computed, _when_, refusal, refusedFor, if_then_else_}
+use Rattle.refusal.specs.Order.{Judged, short, notFinite, computed, _when_, refusal, refusedFor, if_then_else_}
 use Rattle.refusal.specs.declared.Refusal.{Refusal}
 use Rattle.fmath.specs.Each.{at, over}
-use Rattle.fmath.specs.Checked.{Checked}
 use Rattle.fmath.proofs.Each.{and-left, and-right}
-use Rattle.envelope.specs.Derive.{derived}
 use Rattle.envelope.specs.Refusals.{numbersOk, sizesFit, stepsFit, channelsFit, configJudged}
 use Rattle.envelope.specs.declared.FuseConfig.{FuseConfig}
 use Rattle.envelope.proofs.Judged.{four, config-first, config-passed}
-use Rattle.envelope.proofs.Accepted.{accepted, dim-most, pos-dim-most}
+use Rattle.envelope.proofs.Accepted.{accepted, dim-most}
 use Rattle.tier0.specs.declared.Check.{Check}
 use Rattle.tier0.specs.declared.Check.the-variants.{Passed, Refused}
 use Rattle.tier0.specs.declared.Checks.{Checks}
 use Rattle.tier0.specs.declared.Verdict.{Verdict}
 use Rattle.tier0.specs.Rule.{Judgement, seen, checkAction}
 use Rattle.tier0.specs.Refusals.{tooShort, someLentNotFinite, answerAt, outAt}
-use Rattle.tier0.specs.Of.{checksFrom, checksOf, verdictFrom, lentToAction, actionRuling, actionRefusal, actionAnswer, actionOut}
+use Rattle.tier0.specs.Of.{checksOf, verdictFrom, lentToAction, actionRuling, actionRefusal, actionAnswer, actionOut}
 
 pub seen-parts : (p aux : List Float) (i j : ℕ) → seen p aux i j ≡ true → (i < length aux) × (j < length aux)
 seen-parts p aux i j e =

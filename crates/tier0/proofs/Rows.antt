@@ -12,10 +12,9 @@ use lib.Dec.{eqb}
 use lib.ListN.{length, set, take, drop, replicate, length-set, length-drop}
 use lib.Seq.{take-all}
 use lib.Ieee.{Float, Format, binary64, add, sub, mul, lt}
-use Rattle.refusal.specs.Order.{if_then_else_}
 use Rattle.fmath.specs.Each.{at, all, some, over}
 use Rattle.fmath.specs.Finite.{finite, +0}
-use Rattle.fmath.specs.Checked.{Checked, pure, each}
+use Rattle.fmath.specs.Checked.{Checked, each}
 use Rattle.fmath.specs.Least.{greater, greatest}
 use Rattle.fmath.specs.Norm.{norm, dist}
 use Rattle.fmath.proofs.Absorbing.{fine-add-left, fine-add-right, fine-sub-left, fine-sub-right, fine-mul-left}
@@ -31,7 +30,7 @@ use Rattle.tier0.specs.declared.Row.{Row}
 use Rattle.tier0.specs.declared.Test.{Test}
 use Rattle.tier0.specs.declared.Stride.{Stride}
 use Rattle.tier0.specs.declared.Ran.{Ran}
-use Rattle.tier0.specs.Rule.{Slow, SPEED, ACCEL, JERK, arms, shared, slowZone, outOfBox, outOfReach, tripBits, moves, moved, Projected, Judgement}
+use Rattle.tier0.specs.Rule.{Slow, SPEED, ACCEL, JERK, arms, slowZone, outOfBox, outOfReach, tripBits, moves, moved, Projected}
 use Rattle.tier0.specs.Chunk.{rawRow, startRow, rowBefore, stepTo, peakStep, someLonger, someOutOfBox, someOf, bend, jolt, bends, jolts, exceeds, bentAt, tooBent, joltedAt, tooJolted, putRow, Run, nextRow, runRows, projectedRows, checkChunk}
 use Rattle.tier0.specs.Of.{slowOf, zoneFrom, rowFrom, testFrom, stepsFrom, runFrom, ranFrom, rulingFrom}
 
@@ -117,11 +116,7 @@ exceeds-is f g n inv most {d} {v} {k} ed ev ek =
 
 -- ---- loops over the rows
 
--- what a loop over a checked test keeps
-pub record Some (g : ℕ → Checked Bool) (i : ℕ) (t : Test) : Type 0 where
-  pub holds : t .holds ≡ someOf g i .value
-  pub sound : t .sound ≡ someOf g i .sound
-
+-- one turn of a loop over a checked test, and its end
 pub some-turn : (g : ℕ → Checked Bool) (i : ℕ) (b k : Bool) (t : Test) → (b ≡ someOf g i .value) × (k ≡ someOf g i .sound) → t ≡ testFrom (g i)
     → ((b || t .holds) ≡ someOf g (i + 1) .value) × ((k && t .sound) ≡ someOf g (i + 1) .sound)
 unfolding someOf

@@ -1,7 +1,7 @@
 -- The rules of document 01's module 5 for a chunk: trips over the rows as they came, and projection row by row from the projected row before.
 use Prim.Native.Nat.{ℕ, zero, suc, _+_, _-_, _*_}
-use mathlib.Core.Bool.{Bool, true, false, _&&_, _||_}
-use mathlib.Core.List.{List, [], _∷_}
+use mathlib.Core.Bool.{Bool, false, _&&_}
+use mathlib.Core.List.{List}
 use lib.Bits.{bitOr}
 use lib.Dec.{eqb}
 use lib.IntN.{pos}

@@ -9,7 +9,6 @@ use Rattle.refusal.specs.Order.{Judged, width, short, notFinite, computed, _whe
 use Rattle.fmath.specs.Finite.{+0}
 use Rattle.fmath.specs.Checked.{Checked}
 use Rattle.chunk.specs.Refusals.{chunkReasons}
-use Rattle.workspace.specs.declared.Workspace.{Workspace}
 use Rattle.envelope.specs.Derive.{derived}
 use Rattle.envelope.specs.Refusals.{configJudged}
 use Rattle.envelope.specs.declared.Derived.{Derived}
@@ -25,7 +24,7 @@ use Rattle.tier0.specs.declared.Stride.{Stride}
 use Rattle.tier0.specs.declared.Ran.{Ran}
 use Rattle.tier0.specs.declared.Ruling.{Ruling}
 use Rattle.tier0.specs.Rule.{Slow, Projected, Judgement, checkAction}
-use Rattle.tier0.specs.Chunk.{Run, stepTo, peakStep, someLonger, someOutOfBox, checkChunk}
+use Rattle.tier0.specs.Chunk.{Run, peakStep, someLonger, someOutOfBox, checkChunk}
 use Rattle.tier0.specs.Refusals.{tooShort, someLentNotFinite, chunkTooShort, someChunkNotFinite, answerAt, outAt}
 
 -- what the checks read of a configuration and of the numbers derived from it

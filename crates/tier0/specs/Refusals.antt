@@ -1,11 +1,10 @@
 -- What the two entries judge besides the configuration, and the answer.
 use Prim.Native.Nat.{ℕ, zero, suc}
-use mathlib.Core.Bool.{Bool, not, _||_}
-use mathlib.Core.List.{List, [], _∷_, _++_}
+use mathlib.Core.Bool.{Bool, _||_}
+use mathlib.Core.List.{List}
 use lib.Dec.{ltb}
-use lib.ListN.{length}
 use lib.Ieee.{Float}
-use Rattle.refusal.specs.Order.{Judged, short, notFinite, computed, _when_, refusedFor}
+use Rattle.refusal.specs.Order.{refusedFor}
 use Rattle.fmath.specs.Each.{at, over}
 use Rattle.fmath.specs.Answer.{someNotFinite}
 use Rattle.tier0.specs.declared.Check.{Check}

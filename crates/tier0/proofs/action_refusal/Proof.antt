@@ -1,6 +1,5 @@
 -- `tier0::action_refusal` meets its contract, by the tests that led to each answer.
 use denote.Ref.{now}
-use mathlib.Core.Path.{sym, _∙_}
 use Rattle.tier0.proofs.Refused.{by-config, by-11, by-12, by-none}
 use borrow.Author.Needs.{needs}
 use Rattle.tier0.proofs.action_refusal.Statement.{statement}

@@ -1,5 +1,5 @@
 -- `tier0::check_action` meets its contract: refused by what is lent, refused by a computed number, or passed.
-use mathlib.Core.Path.{sym, ap, _∙_}
+use mathlib.Core.Path.{sym, _∙_}
 use borrow.Author.Tests.{not-true, not-false}
 use denote.Ref.{now}
 use Rattle.tier0.proofs.Refused.{accepted-sizes, sized-checks, lent-refused, not-sound, passes}

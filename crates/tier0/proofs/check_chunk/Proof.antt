@@ -1,5 +1,5 @@
 -- `tier0::check_chunk` meets its contract: refused by what is lent, refused by a computed number, or passed.
-use mathlib.Core.Path.{refl, sym, ap, _∙_}
+use mathlib.Core.Path.{refl, sym, _∙_}
 use native.Mathlib.Omega.{arith}
 use borrow.Author.Tests.{not-true, not-false}
 use denote.Ref.{now}

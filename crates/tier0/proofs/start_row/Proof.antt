@@ -1,14 +1,13 @@
 -- `tier0::start_row` meets its contract: the loop puts one coordinate of the position a turn over row 0.
 use lib.ListN.{length}
-use Prim.Native.Nat.{_≤_, _-_, _*_, min}
-use mathlib.Core.Path.{_≡_, refl, sym, ap, _∙_}
+use Prim.Native.Nat.{_≤_, _-_}
+use mathlib.Core.Path.{_≡_, refl, _∙_}
 use native.Mathlib.Nat.{le-antisymm}
 use native.Mathlib.Omega.{arith}
 use borrow.Author.Needs.{needs}
-use denote.Ref.{now}
 use Rattle.fmath.specs.Each.{at, over}
 use Rattle.fmath.proofs.Each.{over-more}
-use Rattle.tier0.specs.Chunk.{rawRow, startRow}
+use Rattle.tier0.specs.Chunk.{startRow}
 use Rattle.tier0.proofs.start_row.Statement.{statement}
 use Rattle.tier0.proofs.start_row.Tie as tie
 

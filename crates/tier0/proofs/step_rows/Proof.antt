@@ -1,10 +1,8 @@
 -- `tier0::step_rows` meets its contract: each turn adds one step to what is kept of all.
-use Prim.Native.Nat.{ℕ, _≤_, _-_, _+_}
-use mathlib.Core.Path.{_≡_, refl}
+use Prim.Native.Nat.{_≤_, _-_}
 use native.Mathlib.Nat.{le-antisymm}
 use native.Mathlib.Omega.{arith}
 use borrow.Author.Needs.{needs}
-use denote.Ref.{now}
 use lib.Ieee.{binary64, ofBits}
 use Rattle.tier0.proofs.Rows.{Strode, set-out, stride, strides-are, row-fits}
 use Rattle.tier0.proofs.step_rows.Statement.{statement}
