@@ -21,11 +21,13 @@ use Rattle.fmath.proofs.Clamping.{clamp-above-lo, clamp-below-hi}
 use Rattle.fmath.proofs.Each.{length-over}
 use Rattle.fmath.proofs.Ordered.{lt-irrefl}
 use Rattle.workspace.specs.Rule.{Walls, beyond, inward}
+use Rattle.envelope.specs.declared.ClampMode.{ClampMode}
+use Rattle.envelope.specs.declared.ClampMode.the-variants.{Off, Project}
 use Rattle.envelope.specs.declared.Contact.{Contact}
 use Rattle.envelope.specs.declared.Contact.the-variants.{None}
 use Rattle.tier0.specs.declared.Checks.{Checks}
-use Rattle.tier0.specs.Rule.{WORKSPACE, SPEED, ACCEL, JERK, REACH, CONTACT, arms, shared, Slow, clear, inZone, zoneIn, slowZone, outOfBox, outOfReach, tripBits, leash, boxed, leashed, reached, moves, moved, checkAction}
-use Rattle.tier0.specs.Chunk.{startRow, stepTo, someLonger, someOutOfBox, tooBent, tooJolted, rawRow, exceeds, checkChunk}
+use Rattle.tier0.specs.Rule.{WORKSPACE, SPEED, ACCEL, JERK, REACH, CONTACT, arms, shared, Slow, clear, inZone, zoneIn, slowZone, outOfBox, outOfReach, tripBits, leash, boxed, leashed, reached, moves, held, moved, project, projection, checkAction}
+use Rattle.tier0.specs.Chunk.{startRow, stepTo, someLonger, someOutOfBox, tooBent, tooJolted, rawRow, exceeds, putRow, nextRow, runRows, checkChunk}
 
 -- ---- the bits
 
@@ -292,3 +294,33 @@ box-move-inside w a n j h k o =
 pub difference-touched : (f : Format) (g : ℕ → Checked Float) (n : ℕ) (inv most : Float) → mul f (norm f (each g (replicate 8 +0) n .value) n .value) inv ≡ most → exceeds f g n inv most .value ≡ false
 unfolding exceeds
 difference-touched f g n inv most e = ap (λ (x : Float). lt most x) e ∙ lt-irrefl most
+
+-- ---- with everything unarmed, said of the whole checks
+
+module _ (f : Format) (s : Checks) (e : s .armed ≡ 0) (p : List Float) where
+  after-unarmed : (m : ClampMode) (x : Checked Slow) (prev b : List Float) → x ≡ pure clear → ((j : ℕ) → j < s .dim → finite (at b j) ≡ true) → projection f s m (x .value) p prev b .value ≡ record { rows = b; mask = 0 }
+  unfolding projection project
+  after-unarmed Off x prev b ex real = refl
+  after-unarmed Project x prev b ex real = rw (ex, unarmed-stays f s p prev b true e, unmoved b (s .dim) real)
+
+  -- an action comes out as it went in, and clamped_dims is 0
+  pub unarmed-action : (aux prev a : List Float) → ((j : ℕ) → j < s .dim → finite (at (held a (s .dim)) j) ≡ true) → checkAction f s p aux prev a .value .after ≡ record { rows = held a (s .dim); mask = 0 }
+  unfolding checkAction
+  unarmed-action aux prev a real = after-unarmed (s .clamp) (slowZone f s p aux) prev (held a (s .dim)) (unarmed-no-zone f s p aux e) real
+
+  module _ (rows q l : List Float) where
+    -- each row of a chunk is written as it came
+    pub unarmed-rows : (i : ℕ) → runRows f s clear p rows q l (suc i) .value .out ≡ putRow (rawRow rows (s .dim) i) (runRows f s clear p rows q l i .value .out) (i * s .dim) (s .dim)
+    unfolding runRows nextRow
+    unarmed-rows i = rw (unarmed-stays f s p (runRows f s clear p rows q l i .value .last) (rawRow rows (s .dim) i) (eqb i 0) e)
+
+    -- .. and clamped_dims is 0
+    pub unarmed-mask : (h : ℕ) → ((i j : ℕ) → i < h → j < s .dim → finite (at (rawRow rows (s .dim) i) j) ≡ true) → runRows f s clear p rows q l h .value .mask ≡ 0
+    unfolding runRows nextRow
+    unarmed-mask zero real = refl
+    unarmed-mask (suc i) real =
+        rw (
+          unarmed-stays f s p (runRows f s clear p rows q l i .value .last) (rawRow rows (s .dim) i) (eqb i 0) e,
+          unmoved (rawRow rows (s .dim) i) (s .dim) (λ j k. real i j (omega arith) k),
+          unarmed-mask i (λ a j k w. real a j (omega arith) w),
+        )
