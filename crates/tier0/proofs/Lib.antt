@@ -1,0 +1,6 @@
+pub mod Loops
+pub mod Steps
+pub mod Refused
+pub mod Rows
+pub mod ChunkRefused
+pub mod Promises

@@ -1,0 +1,326 @@
+-- What document 01 promises of tier 0, from its rules: when each bit is raised, that a limit which is touched does not trip, when there is no slow zone, that
+-- unarmed checks move nothing, and that the box move ends inside the box. A projected row re-passing its check is not promised.
+use Prim.Native.Nat.{ℕ, zero, suc, _+_, _-_, _*_, _/_, _%_, _≤_, _<_}
+use mathlib.Core.Path.{_≡_, refl, sym, ap, _∙_}
+use mathlib.Core.Bool.{Bool, true, false, _&&_, false≢true}
+use mathlib.Core.List.{List, [], _∷_}
+use native.Mathlib.Omega.{arith}
+use borrow.Author.Count.{below-more}
+use borrow.Author.Tests.{eq-eqb}
+use lib.Dec.{eqb}
+use lib.ListN.{length, replicate}
+use lib.Seq.{getD-set-same, getD-set-other}
+use lib.Ieee.{Float, Format, nan, inf, fin, mul, lt, le, ne, eq, up, down}
+use Rattle.refusal.specs.Order.{if_then_else_}
+use Rattle.fmath.specs.Each.{at, some, over}
+use Rattle.fmath.specs.Finite.{finite, +0}
+use Rattle.fmath.specs.Least.{clamped}
+use Rattle.fmath.specs.Checked.{Checked, pure, each}
+use Rattle.fmath.specs.Norm.{norm, dist}
+use Rattle.fmath.proofs.Clamping.{clamp-above-lo, clamp-below-hi}
+use Rattle.fmath.proofs.Each.{length-over}
+use Rattle.fmath.proofs.Ordered.{lt-irrefl}
+use Rattle.workspace.specs.Rule.{Walls, beyond, inward}
+use Rattle.envelope.specs.declared.ClampMode.{ClampMode}
+use Rattle.envelope.specs.declared.ClampMode.the-variants.{Off, Project}
+use Rattle.envelope.specs.declared.Contact.{Contact}
+use Rattle.envelope.specs.declared.Contact.the-variants.{None}
+use Rattle.tier0.specs.declared.Checks.{Checks}
+use Rattle.tier0.specs.Rule.{WORKSPACE, SPEED, ACCEL, JERK, REACH, CONTACT, arms, shared, Slow, clear, inZone, zoneIn, slowZone, outOfBox, outOfReach, tripBits, leash, boxed, leashed, reached, moves, held, moved, project, projection, checkAction}
+use Rattle.tier0.specs.Chunk.{startRow, stepTo, someLonger, someOutOfBox, tooBent, tooJolted, rawRow, exceeds, putRow, nextRow, runRows, checkChunk}
+
+-- ---- the bits
+
+-- a bit of the trips is raised
+abbrev pub raised : ℕ → ℕ → Bool
+raised w t = eqb (t / w % 2) 1
+
+-- each bit says its own test
+bits : (a b c d e g : Bool) → (raised WORKSPACE (tripBits a b c d e g) ≡ a) × (raised SPEED (tripBits a b c d e g) ≡ b) × (raised ACCEL (tripBits a b c d e g) ≡ c) × (raised JERK (tripBits a b c d e g) ≡ d) × (raised REACH (tripBits a b c d e g) ≡ e) × (raised CONTACT (tripBits a b c d e g) ≡ g)
+unfolding tripBits
+bits false false false false false false = (refl, refl, refl, refl, refl, refl)
+bits false false false false false true = (refl, refl, refl, refl, refl, refl)
+bits false false false false true false = (refl, refl, refl, refl, refl, refl)
+bits false false false false true true = (refl, refl, refl, refl, refl, refl)
+bits false false false true false false = (refl, refl, refl, refl, refl, refl)
+bits false false false true false true = (refl, refl, refl, refl, refl, refl)
+bits false false false true true false = (refl, refl, refl, refl, refl, refl)
+bits false false false true true true = (refl, refl, refl, refl, refl, refl)
+bits false false true false false false = (refl, refl, refl, refl, refl, refl)
+bits false false true false false true = (refl, refl, refl, refl, refl, refl)
+bits false false true false true false = (refl, refl, refl, refl, refl, refl)
+bits false false true false true true = (refl, refl, refl, refl, refl, refl)
+bits false false true true false false = (refl, refl, refl, refl, refl, refl)
+bits false false true true false true = (refl, refl, refl, refl, refl, refl)
+bits false false true true true false = (refl, refl, refl, refl, refl, refl)
+bits false false true true true true = (refl, refl, refl, refl, refl, refl)
+bits false true false false false false = (refl, refl, refl, refl, refl, refl)
+bits false true false false false true = (refl, refl, refl, refl, refl, refl)
+bits false true false false true false = (refl, refl, refl, refl, refl, refl)
+bits false true false false true true = (refl, refl, refl, refl, refl, refl)
+bits false true false true false false = (refl, refl, refl, refl, refl, refl)
+bits false true false true false true = (refl, refl, refl, refl, refl, refl)
+bits false true false true true false = (refl, refl, refl, refl, refl, refl)
+bits false true false true true true = (refl, refl, refl, refl, refl, refl)
+bits false true true false false false = (refl, refl, refl, refl, refl, refl)
+bits false true true false false true = (refl, refl, refl, refl, refl, refl)
+bits false true true false true false = (refl, refl, refl, refl, refl, refl)
+bits false true true false true true = (refl, refl, refl, refl, refl, refl)
+bits false true true true false false = (refl, refl, refl, refl, refl, refl)
+bits false true true true false true = (refl, refl, refl, refl, refl, refl)
+bits false true true true true false = (refl, refl, refl, refl, refl, refl)
+bits false true true true true true = (refl, refl, refl, refl, refl, refl)
+bits true false false false false false = (refl, refl, refl, refl, refl, refl)
+bits true false false false false true = (refl, refl, refl, refl, refl, refl)
+bits true false false false true false = (refl, refl, refl, refl, refl, refl)
+bits true false false false true true = (refl, refl, refl, refl, refl, refl)
+bits true false false true false false = (refl, refl, refl, refl, refl, refl)
+bits true false false true false true = (refl, refl, refl, refl, refl, refl)
+bits true false false true true false = (refl, refl, refl, refl, refl, refl)
+bits true false false true true true = (refl, refl, refl, refl, refl, refl)
+bits true false true false false false = (refl, refl, refl, refl, refl, refl)
+bits true false true false false true = (refl, refl, refl, refl, refl, refl)
+bits true false true false true false = (refl, refl, refl, refl, refl, refl)
+bits true false true false true true = (refl, refl, refl, refl, refl, refl)
+bits true false true true false false = (refl, refl, refl, refl, refl, refl)
+bits true false true true false true = (refl, refl, refl, refl, refl, refl)
+bits true false true true true false = (refl, refl, refl, refl, refl, refl)
+bits true false true true true true = (refl, refl, refl, refl, refl, refl)
+bits true true false false false false = (refl, refl, refl, refl, refl, refl)
+bits true true false false false true = (refl, refl, refl, refl, refl, refl)
+bits true true false false true false = (refl, refl, refl, refl, refl, refl)
+bits true true false false true true = (refl, refl, refl, refl, refl, refl)
+bits true true false true false false = (refl, refl, refl, refl, refl, refl)
+bits true true false true false true = (refl, refl, refl, refl, refl, refl)
+bits true true false true true false = (refl, refl, refl, refl, refl, refl)
+bits true true false true true true = (refl, refl, refl, refl, refl, refl)
+bits true true true false false false = (refl, refl, refl, refl, refl, refl)
+bits true true true false false true = (refl, refl, refl, refl, refl, refl)
+bits true true true false true false = (refl, refl, refl, refl, refl, refl)
+bits true true true false true true = (refl, refl, refl, refl, refl, refl)
+bits true true true true false false = (refl, refl, refl, refl, refl, refl)
+bits true true true true false true = (refl, refl, refl, refl, refl, refl)
+bits true true true true true false = (refl, refl, refl, refl, refl, refl)
+bits true true true true true true = (refl, refl, refl, refl, refl, refl)
+
+never : (b : Bool) → (b && false) ≡ false
+never true = refl
+never false = refl
+
+-- ---- check_chunk: each check is raised exactly when it is armed and some row strictly exceeds
+
+module _ (f : Format) (s : Checks) (p aux rows l : List Float) (h : ℕ) where
+  abbrev pub chunkTrips : ℕ
+  chunkTrips = checkChunk f s p aux rows l h .value .trips
+
+  abbrev q : List Float
+  q = startRow s p rows
+
+  abbrev z : Slow
+  z = slowZone f s p aux .value
+
+  pub chunk-workspace-exactly : raised WORKSPACE chunkTrips ≡ someOutOfBox s rows h
+  unfolding checkChunk
+  chunk-workspace-exactly = bits _ _ _ _ _ _ .0
+
+  pub chunk-speed-exactly : raised SPEED chunkTrips ≡ (arms s SPEED && someLonger f q rows (s .dim) (s .«step_max») h)
+  unfolding checkChunk
+  chunk-speed-exactly = bits _ _ _ _ _ _ .1
+
+  pub chunk-accel-exactly : raised ACCEL chunkTrips ≡ tooBent f s q rows h .value
+  unfolding checkChunk
+  chunk-accel-exactly = bits _ _ _ _ _ _ .2
+
+  pub chunk-jerk-exactly : raised JERK chunkTrips ≡ tooJolted f s q rows h .value
+  unfolding checkChunk
+  chunk-jerk-exactly = bits _ _ _ _ _ _ .3
+
+  pub chunk-reach-exactly : raised REACH chunkTrips ≡ outOfReach f s p (rawRow rows (s .dim) 0) .value
+  unfolding checkChunk
+  chunk-reach-exactly = bits _ _ _ _ _ _ .4
+
+  pub chunk-contact-exactly : raised CONTACT chunkTrips ≡ (z .inside && someLonger f q rows (s .dim) (z .step) h)
+  unfolding checkChunk
+  chunk-contact-exactly = bits _ _ _ _ _ _ .5
+
+-- ---- check_action, likewise; ACCEL and JERK are a chunk's
+
+module _ (f : Format) (s : Checks) (p aux prev a : List Float) where
+  abbrev pub actionTrips : ℕ
+  actionTrips = checkAction f s p aux prev a .value .trips
+
+  -- the computed step
+  abbrev pub actionStep : Float
+  actionStep = dist f a prev (s .dim) .value
+
+  abbrev zone : Slow
+  zone = slowZone f s p aux .value
+
+  pub action-workspace-exactly : raised WORKSPACE actionTrips ≡ outOfBox s a
+  unfolding checkAction
+  action-workspace-exactly = bits _ _ _ _ _ _ .0
+
+  pub action-speed-exactly : raised SPEED actionTrips ≡ (arms s SPEED && lt (s .«step_max») actionStep)
+  unfolding checkAction
+  action-speed-exactly = bits _ _ _ _ _ _ .1
+
+  pub action-accel-never : raised ACCEL actionTrips ≡ false
+  unfolding checkAction
+  action-accel-never = bits _ _ _ _ _ _ .2
+
+  pub action-jerk-never : raised JERK actionTrips ≡ false
+  unfolding checkAction
+  action-jerk-never = bits _ _ _ _ _ _ .3
+
+  pub action-reach-exactly : raised REACH actionTrips ≡ outOfReach f s p a .value
+  unfolding checkAction
+  action-reach-exactly = bits _ _ _ _ _ _ .4
+
+  pub action-contact-exactly : raised CONTACT actionTrips ≡ (zone .inside && lt (zone .step) actionStep)
+  unfolding checkAction
+  action-contact-exactly = bits _ _ _ _ _ _ .5
+
+  -- a limit that is touched does not trip
+  pub action-speed-touched : actionStep ≡ s .«step_max» → raised SPEED actionTrips ≡ false
+  action-speed-touched e = action-speed-exactly ∙ ap (λ (x : Float). arms s SPEED && lt (s .«step_max») x) e ∙ ap (λ (b : Bool). arms s SPEED && b) (lt-irrefl (s .«step_max»)) ∙ never (arms s SPEED)
+
+  pub action-contact-touched : actionStep ≡ zone .step → raised CONTACT actionTrips ≡ false
+  action-contact-touched e = action-contact-exactly ∙ ap (λ (x : Float). zone .inside && lt (zone .step) x) e ∙ ap (λ (b : Bool). zone .inside && b) (lt-irrefl (zone .step)) ∙ never (zone .inside)
+
+-- ---- touched
+
+none-so : (g : ℕ → Bool) (n : ℕ) → ((j : ℕ) → j < n → g j ≡ false) → some g n ≡ false
+unfolding some
+none-so g zero h = refl
+none-so g (suc n) h = rw (none-so g n (λ j l. h j (omega arith)), h n (omega arith))
+
+-- no step that touches a limit, or stays below it, is longer
+pub steps-touched : (f : Format) (q rows : List Float) (n : ℕ) (most : Float) (h : ℕ) → ((i : ℕ) → i < h → stepTo f q rows n i .value ≡ most) → someLonger f q rows n most h ≡ false
+unfolding someLonger
+steps-touched f q rows n most h e = none-so (λ (i : ℕ). lt most (stepTo f q rows n i .value)) h (λ i l. ap (λ (x : Float). lt most x) (e i l) ∙ lt-irrefl most)
+
+pub reach-touched : (f : Format) (s : Checks) (p a : List Float) → dist f a p (shared s) .value ≡ s .«reach_max» → outOfReach f s p a .value ≡ false
+unfolding outOfReach
+reach-touched f s p a e = go (arms s REACH)
+  where
+    go : (b : Bool) → (if b then record { value = lt (s .«reach_max») (dist f a p (shared s) .value); sound = dist f a p (shared s) .sound && true } else pure false) .value ≡ false
+    go true = ap (λ (x : Float). lt (s .«reach_max») x) e ∙ lt-irrefl (s .«reach_max»)
+    go false = refl
+
+-- a coordinate on one of its walls is not beyond them
+pub low-wall-touched : (w : Walls) (a : List Float) (j : ℕ) → lt (at (w .hi) j) (at (w .lo) j) ≡ false → at a j ≡ at (w .lo) j → beyond w a j ≡ false
+low-wall-touched w a j o e = rw (e, lt-irrefl (at (w .lo) j), o)
+
+pub high-wall-touched : (w : Walls) (a : List Float) (j : ℕ) → lt (at (w .hi) j) (at (w .lo) j) ≡ false → at a j ≡ at (w .hi) j → beyond w a j ≡ false
+high-wall-touched w a j o e = rw (e, lt-irrefl (at (w .hi) j), o)
+
+-- ---- no slow zone
+
+-- with no contact configured there is none, whatever the camera says
+pub no-contact : (f : Format) (s : Checks) (p aux : List Float) → s .contact ≡ None → slowZone f s p aux ≡ pure clear
+unfolding slowZone zoneIn
+no-contact f s p aux e = go (arms s CONTACT) (s .contact) e
+  where
+    go : (b : Bool) (c : Contact) → c ≡ None → (if b then zoneIn f (s .dt) c p aux else pure clear) ≡ pure clear
+    go true c h = rw h
+    go false c h = refl
+
+-- .. so CONTACT is not raised
+pub no-contact-no-trip : (f : Format) (s : Checks) (p aux rows l : List Float) (h : ℕ) → s .contact ≡ None → raised CONTACT (chunkTrips f s p aux rows l h) ≡ false
+no-contact-no-trip f s p aux rows l h e =
+    chunk-contact-exactly f s p aux rows l h
+    ∙ ap (λ (x : Checked Slow). x .value .inside && someLonger f (startRow s p rows) rows (s .dim) (x .value .step) h) (no-contact f s p aux e)
+
+-- .. and no slow step enters the leash
+pub no-contact-no-leash : (speed : Bool) (most : Float) → leash speed most clear ≡ (if speed then most else clear .step)
+no-contact-no-leash true most = refl
+no-contact-no-leash false most = refl
+
+-- outside the radius likewise
+pub outside-radius : (f : Format) (dt radius speed : Float) (i j : ℕ) (p aux : List Float) → le (dist f p (at aux i ∷ at aux j ∷ []) 2 .value) radius ≡ false → inZone f dt radius speed i j p aux .value ≡ clear
+unfolding inZone
+outside-radius f dt radius speed i j p aux e = rw e
+
+-- ---- with everything unarmed nothing is moved
+
+none-armed : (s : Checks) → s .armed ≡ 0 → (arms s WORKSPACE ≡ false) × ((arms s SPEED ≡ false) × ((arms s REACH ≡ false) × (arms s CONTACT ≡ false)))
+unfolding arms
+none-armed s e = rw e (refl, (refl, (refl, refl)))
+
+-- a row comes out as it went in
+pub unarmed-stays : (f : Format) (s : Checks) (p prev a : List Float) (isFirst : Bool) → s .armed ≡ 0 → moves f s clear p isFirst prev a ≡ pure a
+unfolding moves boxed leashed reached
+unarmed-stays f s p prev a true e = let w = none-armed s e in rw (w .0, w .1 .0, w .1 .1 .0)
+unarmed-stays f s p prev a false e = let w = none-armed s e in rw (w .0, w .1 .0)
+
+-- .. and there is no slow zone
+pub unarmed-no-zone : (f : Format) (s : Checks) (p aux : List Float) → s .armed ≡ 0 → slowZone f s p aux ≡ pure clear
+unfolding slowZone
+unarmed-no-zone f s p aux e = rw (none-armed s e .1 .1 .1)
+
+equal-itself : (x : Float) → finite x ≡ true → ne x x ≡ false
+unfolding finite ne eq
+equal-itself nan e = sym e
+equal-itself (inf s) e = absurd (false≢true e)
+equal-itself (fin true m e) h = rw (eq-eqb (m * up e * down e) (m * up e * down e) refl)
+equal-itself (fin false m e) h = rw (eq-eqb (m * up e * down e) (m * up e * down e) refl)
+
+-- .. and of a row that stays no bit is set in clamped_dims
+pub unmoved : (a : List Float) (n : ℕ) → ((j : ℕ) → j < n → finite (at a j) ≡ true) → moved a a n ≡ 0
+unfolding moved
+unmoved a zero e = refl
+unmoved a (suc n) e = rw (unmoved a n (λ j l. e j (omega arith)), equal-itself (at a n) (e n (omega arith)))
+
+-- ---- inside the box
+
+over-at : (g : ℕ → Float) (l : List Float) (n : ℕ) → n ≤ length l → (j : ℕ) → j < n → at (over g l n) j ≡ g j
+unfolding over
+over-at g l zero w j h = absurd (omega arith)
+over-at g l (suc n) w j h =
+    below-more (λ (i : ℕ). at (over g l (suc n)) i ≡ g i) n
+    (λ i k. getD-set-other (over g l n) n i (g n) nan (omega arith) ∙ over-at g l n (omega arith) i k)
+    (getD-set-same (over g l n) n (g n) nan (omega (arith, length-over g l n)))
+    j (omega arith)
+
+-- after the box move each shared coordinate lies in its box
+pub box-move-inside : (w : Walls) (a : List Float) (n j : ℕ) → n ≤ length a → j < n → lt (at (w .hi) j) (at (w .lo) j) ≡ false
+    → (lt (at (inward w a n) j) (at (w .lo) j) ≡ false) × (lt (at (w .hi) j) (at (inward w a n) j) ≡ false)
+unfolding inward
+box-move-inside w a n j h k o =
+    rw (over-at (λ (i : ℕ). clamped (at a i) (at (w .lo) i) (at (w .hi) i)) a n h j k)
+    (clamp-above-lo (at a j) (at (w .lo) j) (at (w .hi) j) o, clamp-below-hi (at a j) (at (w .lo) j) (at (w .hi) j) o)
+
+-- a difference of rows whose scaled length touches its limit: ACCEL and JERK
+pub difference-touched : (f : Format) (g : ℕ → Checked Float) (n : ℕ) (inv most : Float) → mul f (norm f (each g (replicate 8 +0) n .value) n .value) inv ≡ most → exceeds f g n inv most .value ≡ false
+unfolding exceeds
+difference-touched f g n inv most e = ap (λ (x : Float). lt most x) e ∙ lt-irrefl most
+
+-- ---- with everything unarmed, said of the whole checks
+
+module _ (f : Format) (s : Checks) (e : s .armed ≡ 0) (p : List Float) where
+  after-unarmed : (m : ClampMode) (x : Checked Slow) (prev b : List Float) → x ≡ pure clear → ((j : ℕ) → j < s .dim → finite (at b j) ≡ true) → projection f s m (x .value) p prev b .value ≡ record { rows = b; mask = 0 }
+  unfolding projection project
+  after-unarmed Off x prev b ex real = refl
+  after-unarmed Project x prev b ex real = rw (ex, unarmed-stays f s p prev b true e, unmoved b (s .dim) real)
+
+  -- an action comes out as it went in, and clamped_dims is 0
+  pub unarmed-action : (aux prev a : List Float) → ((j : ℕ) → j < s .dim → finite (at (held a (s .dim)) j) ≡ true) → checkAction f s p aux prev a .value .after ≡ record { rows = held a (s .dim); mask = 0 }
+  unfolding checkAction
+  unarmed-action aux prev a real = after-unarmed (s .clamp) (slowZone f s p aux) prev (held a (s .dim)) (unarmed-no-zone f s p aux e) real
+
+  module _ (rows q l : List Float) where
+    -- each row of a chunk is written as it came
+    pub unarmed-rows : (i : ℕ) → runRows f s clear p rows q l (suc i) .value .out ≡ putRow (rawRow rows (s .dim) i) (runRows f s clear p rows q l i .value .out) (i * s .dim) (s .dim)
+    unfolding runRows nextRow
+    unarmed-rows i = rw (unarmed-stays f s p (runRows f s clear p rows q l i .value .last) (rawRow rows (s .dim) i) (eqb i 0) e)
+
+    -- .. and clamped_dims is 0
+    pub unarmed-mask : (h : ℕ) → ((i j : ℕ) → i < h → j < s .dim → finite (at (rawRow rows (s .dim) i) j) ≡ true) → runRows f s clear p rows q l h .value .mask ≡ 0
+    unfolding runRows nextRow
+    unarmed-mask zero real = refl
+    unarmed-mask (suc i) real =
+        rw (
+          unarmed-stays f s p (runRows f s clear p rows q l i .value .last) (rawRow rows (s .dim) i) (eqb i 0) e,
+          unmoved (rawRow rows (s .dim) i) (s .dim) (λ j k. real i j (omega arith) k),
+          unarmed-mask i (λ a j k w. real a j (omega arith) w),
+        )

@@ -1,0 +1,185 @@
+-- The number of a refusal, case by case; what is known where nothing is refused; and the whole answer in each case.
+use Prim.Native.Nat.{ℕ, zero, suc, _≤_, _<_}
+use mathlib.Core.Path.{_≡_, refl, sym, ap, _∙_}
+use mathlib.Core.Bool.{Bool, true, false, not, _&&_, _||_}
+use mathlib.Core.List.{List, [], _∷_, _++_}
+use native.Mathlib.Omega.{arith}
+use borrow.Author.Tests.{ltb-true, ltb-false}
+use lib.Dec.{leb, ltb}
+use lib.ListN.{length}
+use lib.Ieee.{Float, binary64}
+use Rattle.refusal.specs.Order.{Judged, short, notFinite, computed, _when_, refusal, refusedFor, if_then_else_}
+use Rattle.refusal.specs.declared.Refusal.{Refusal}
+use Rattle.fmath.specs.Each.{at, over}
+use Rattle.fmath.proofs.Each.{and-left, and-right}
+use Rattle.envelope.specs.Refusals.{numbersOk, sizesFit, stepsFit, channelsFit, configJudged}
+use Rattle.envelope.specs.declared.FuseConfig.{FuseConfig}
+use Rattle.envelope.proofs.Judged.{four, config-first, config-passed}
+use Rattle.envelope.proofs.Accepted.{accepted, dim-most}
+use Rattle.tier0.specs.declared.Check.{Check}
+use Rattle.tier0.specs.declared.Check.the-variants.{Passed, Refused}
+use Rattle.tier0.specs.declared.Checks.{Checks}
+use Rattle.tier0.specs.declared.Verdict.{Verdict}
+use Rattle.tier0.specs.Rule.{Judgement, seen, checkAction}
+use Rattle.tier0.specs.Refusals.{tooShort, someLentNotFinite, answerAt, outAt}
+use Rattle.tier0.specs.Of.{checksOf, verdictFrom, lentToAction, actionRuling, actionRefusal, actionAnswer, actionOut}
+
+pub seen-parts : (p aux : List Float) (i j : ℕ) → seen p aux i j ≡ true → (i < length aux) × (j < length aux)
+seen-parts p aux i j e =
+    let t = and-right (leb 2 (length p)) (ltb i (length aux) && ltb j (length aux)) e in
+    (ltb-true _ _ (and-left (ltb i (length aux)) _ t), ltb-true _ _ (and-right (ltb i (length aux)) _ t))
+
+-- ---- a configuration, then 11, then 12, then the rest
+
+abbrev lent : Bool → Bool → List Judged → List Judged
+lent s n l = (short when s) ∷ (notFinite when n) ∷ l
+
+-- the six tests before the computed numbers, none of which applies
+none-applies : (a b d e s n : Bool) → refusal (four a b d e (lent s n [])) ≡ 0 → (refusal (four a b d e []) ≡ 0) × ((s ≡ false) × (n ≡ false))
+none-applies true b d e s n h = absurd (let z : ⊥ = omega arith in z)
+none-applies false true d e s n h = absurd (let z : ⊥ = omega arith in z)
+none-applies false false true e s n h = absurd (let z : ⊥ = omega arith in z)
+none-applies false false false true s n h = absurd (let z : ⊥ = omega arith in z)
+none-applies false false false false true n h = absurd (let z : ⊥ = omega arith in z)
+none-applies false false false false false true h = absurd (let z : ⊥ = omega arith in z)
+none-applies false false false false false false h = (refl, (refl, refl))
+
+-- a refusal before the computed numbers is the refusal
+some-applies : (a b d e s n t : Bool) → (refusal (four a b d e (lent s n [])) ≡ 0 → ⊥) → refusal (four a b d e (lent s n ((computed when t) ∷ []))) ≡ refusal (four a b d e (lent s n []))
+some-applies true b d e s n t h = refl
+some-applies false true d e s n t h = refl
+some-applies false false true e s n t h = refl
+some-applies false false false true s n t h = refl
+some-applies false false false false true n t h = refl
+some-applies false false false false false true t h = refl
+some-applies false false false false false false t h = absurd (h refl)
+
+-- .. and where there is none, 13 is the only one left
+only-computed : (a b d e s n t : Bool) → refusal (four a b d e (lent s n [])) ≡ 0 → refusal (four a b d e (lent s n ((computed when t) ∷ []))) ≡ (if t then 13 else 0)
+only-computed true b d e s n t h = absurd (let z : ⊥ = omega arith in z)
+only-computed false true d e s n t h = absurd (let z : ⊥ = omega arith in z)
+only-computed false false true e s n t h = absurd (let z : ⊥ = omega arith in z)
+only-computed false false false true s n t h = absurd (let z : ⊥ = omega arith in z)
+only-computed false false false false true n t h = absurd (let z : ⊥ = omega arith in z)
+only-computed false false false false false true t h = absurd (let z : ⊥ = omega arith in z)
+only-computed false false false false false false true h = refl
+only-computed false false false false false false false h = refl
+
+-- ---- what is known of an accepted call
+
+pub or-left : (a b : Bool) → (a || b) ≡ false → a ≡ false
+or-left true b e = e
+or-left false b e = refl
+
+pub or-right : (a b : Bool) → (a || b) ≡ false → b ≡ false
+or-right true true e = e
+or-right true false e = refl
+or-right false b e = e
+
+pub record Sized (c : FuseConfig) (p prev a : List Float) (room : ℕ) : Type 0 where
+  pub narrow : c .dim ≤ 8
+  pub pos : c .«pos_dim» ≤ length p
+  pub before : c .dim ≤ length prev
+  pub act : c .dim ≤ length a
+  pub out : c .dim ≤ room
+
+-- the same of what the checks read
+pub sized-checks : (c : FuseConfig) (p prev a : List Float) (room : ℕ) {s : Checks} → s ≡ checksOf c → Sized c p prev a room
+    → (s .dim ≤ 8) × (s .dim ≤ length a) × (s .dim ≤ length prev) × (s .«pos_dim» ≤ length p)
+unfolding checksOf
+sized-checks c p prev a room e w = rw e (w .narrow, w .act, w .before, w .pos)
+
+-- ---- the whole answer
+
+pub record Answered (c : FuseConfig) (p aux prev a l : List Float) (r : Check) (m : List Float) : Type 0 where
+  pub gives : r ≡ actionAnswer c p aux prev a (length l)
+  pub leaves : m ≡ actionOut c p aux prev a l
+
+pub at-number : (k : ℕ) → (k ≡ 0 → ⊥) → (j : Judgement) → Refused (refusedFor k) ≡ answerAt k j
+at-number zero h j = absurd (h refl)
+at-number (suc k) h j = refl
+
+pub out-number : (k : ℕ) → (k ≡ 0 → ⊥) → (j : Judgement) (n : ℕ) (l : List Float) → l ≡ outAt k j n l
+out-number zero h j n l = absurd (h refl)
+out-number (suc k) h j n l = refl
+
+module _ (c : FuseConfig) (p aux prev a : List Float) where
+  abbrev brief : ℕ → Bool
+  brief room = tooShort (c .dim) (c .«pos_dim») (length p) (length prev) (length a) room
+
+  abbrev unfit : Bool
+  unfit = someLentNotFinite p aux prev a
+
+  module _ (room : ℕ) where
+    abbrev lentNumber : ℕ
+    lentNumber = refusal (configJudged c ++ lentToAction c p aux prev a room [])
+
+    abbrev rest : List Judged
+    rest = lentToAction c p aux prev a room []
+
+    pub by-config : {r : ℕ} → r ≡ refusal (configJudged c) → (r ≡ 0 → ⊥) → r ≡ lentNumber
+    by-config e h = e ∙ sym (config-first c rest (λ z. h (e ∙ z)))
+
+    module _ {k : ℕ} (ek : k ≡ refusal (configJudged c)) (e : k ≡ 0) {s : Bool} (es : s ≡ brief room) where
+      passed-on : lentNumber ≡ refusal (four false false false false rest)
+      passed-on = config-passed c rest (sym ek ∙ e)
+
+      pub by-11 : s ≡ true → 11 ≡ lentNumber
+      by-11 h = sym (passed-on ∙ rw (sym es ∙ h))
+
+      pub by-12 : {n : Bool} → n ≡ unfit → s ≡ false → n ≡ true → 12 ≡ lentNumber
+      by-12 en h g = sym (passed-on ∙ rw (sym es ∙ h, sym en ∙ g))
+
+      pub by-none : {n : Bool} → n ≡ unfit → s ≡ false → n ≡ false → 0 ≡ lentNumber
+      by-none en h g = sym (passed-on ∙ rw (sym es ∙ h, sym en ∙ g))
+
+  sizes : (room : ℕ) → brief room ≡ false → c .dim ≤ 8 → Sized c p prev a room
+  unfolding tooShort
+  sizes room e w =
+      let x = ltb (length p) (c .«pos_dim») in
+      let y = ltb (length prev) (c .dim) in
+      let z = ltb (length a) (c .dim) in
+      let e3 = or-left (x || y || z) (ltb room (c .dim)) e in
+      let e2 = or-left (x || y) z e3 in
+      record {
+        narrow = w;
+        pos = ltb-false _ _ (or-left x y e2);
+        before = ltb-false _ _ (or-right x y e2);
+        act = ltb-false _ _ (or-right (x || y) z e3);
+        out = ltb-false _ _ (or-right (x || y || z) (ltb room (c .dim)) e);
+      }
+
+  pub accepted-sizes : (room : ℕ) → refusal (configJudged c ++ lentToAction c p aux prev a room []) ≡ 0 → Sized c p prev a room
+  accepted-sizes room h =
+      let w = none-applies (not (sizesFit c)) (not (numbersOk c)) (not (stepsFit c)) (not (channelsFit c)) (brief room) unfit h in
+      sizes room (w .1 .0) (dim-most c (accepted c (w .0)))
+
+  module _ (l : List Float) where
+    abbrev lentRefusal : ℕ
+    lentRefusal = refusal (configJudged c ++ lentToAction c p aux prev a (length l) [])
+
+    numbered : (k : ℕ) → k ≡ actionRefusal c p aux prev a (length l) → (k ≡ 0 → ⊥) → {r : Refusal} → r ≡ refusedFor k → Answered c p aux prev a l (Refused r) l
+    unfolding actionAnswer actionOut
+    numbered k e h g = record { gives = rw (g, ← e) (at-number k h _); leaves = rw (← e) (out-number k h _ _ l) }
+
+    pub lent-refused : (k : ℕ) → k ≡ lentRefusal → (k ≡ 0 → ⊥) → {r : Refusal} → r ≡ refusedFor k → Answered c p aux prev a l (Refused r) l
+    unfolding actionRefusal
+    lent-refused k e h = numbered k (e ∙ sym (some-applies (not (sizesFit c)) (not (numbersOk c)) (not (stepsFit c)) (not (channelsFit c)) (brief (length l)) unfit (not (actionRuling c p aux prev a .sound)) (λ z. h (e ∙ z)))) h
+
+    module _ (e : lentRefusal ≡ 0) {s : Checks} {v : Verdict} (es : s ≡ checksOf c) (ev : v ≡ verdictFrom (checkAction binary64 s p aux prev a)) where
+      ruled : v ≡ verdictFrom (actionRuling c p aux prev a)
+      unfolding actionRuling
+      ruled = rw es at ev
+
+      known : (b : Bool) → v .sound ≡ b → actionRefusal c p aux prev a (length l) ≡ (if not b then 13 else 0)
+      unfolding actionRefusal
+      known b h =
+          only-computed (not (sizesFit c)) (not (numbersOk c)) (not (stepsFit c)) (not (channelsFit c)) (brief (length l)) unfit (not (actionRuling c p aux prev a .sound)) e
+          ∙ ap (λ (t : Bool). if not t then 13 else 0) (sym (ap (λ (x : Verdict). x .sound) ruled) ∙ h)
+
+      pub not-sound : v .sound ≡ false → {r : Refusal} → r ≡ refusedFor 13 → Answered c p aux prev a l (Refused r) l
+      not-sound h = numbered 13 (sym (known false h)) (λ z. omega arith)
+
+      pub passes : v .sound ≡ true → {m : List Float} → m ≡ over (at (v .at)) l (c .dim) → Answered c p aux prev a l (Passed (v .trips) (v .mask) (v .peak)) m
+      unfolding actionAnswer actionOut
+      passes h g = record { gives = rw (known true h, ruled); leaves = g ∙ rw (known true h, ruled) }

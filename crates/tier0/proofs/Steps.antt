@@ -1,0 +1,193 @@
+-- What each step of the check answers, as a struct of its parts: one or two laws a step, on plain values and at any format.
+use Prim.Native.Nat.{ℕ, _+_}
+use mathlib.Core.Path.{_≡_, refl, sym, ap, _∙_}
+use mathlib.Core.Bool.{Bool, true, false, _&&_, _||_, and-true}
+use mathlib.Core.List.{List, [], _∷_}
+use lib.Ieee.{Float, Format, mul, div, lt, le}
+use Rattle.fmath.specs.Each.{at}
+use Rattle.fmath.specs.Finite.{finite, +0}
+use Rattle.fmath.specs.Checked.{Checked, pure, each}
+use Rattle.fmath.specs.Norm.{dist}
+use Rattle.fmath.proofs.Absorbing.{fine-mul-left}
+use Rattle.fmath.proofs.Told.{dist-tells}
+use Rattle.workspace.specs.Of.{wallsOf}
+use Rattle.workspace.specs.Rule.{outside, inward}
+use Rattle.envelope.specs.declared.ClampMode.{ClampMode}
+use Rattle.envelope.specs.declared.ClampMode.the-variants as M
+use Rattle.envelope.specs.declared.Contact.{Contact}
+use Rattle.envelope.specs.declared.Contact.the-variants as C
+use Rattle.tier0.specs.declared.Checks.{Checks}
+use Rattle.tier0.specs.declared.SlowZone.{SlowZone}
+use Rattle.tier0.specs.declared.Row.{Row}
+use Rattle.tier0.specs.declared.Test.{Test}
+use Rattle.tier0.specs.declared.Clamped.{Clamped}
+use Rattle.tier0.specs.declared.Verdict.{Verdict}
+use Rattle.tier0.specs.Rule.{Slow, WORKSPACE, SPEED, ACCEL, JERK, REACH, CONTACT, arms, shared, clear, seen, inZone, zoneIn, slowZone, outOfBox, outOfReach, bit, tripBits, shrink, towards, shortened, pulled, leash, boxed, leashed, reached, moves, held, moved, project, projection, checkAction}
+use Rattle.tier0.specs.Of.{slowOf, zoneFrom, rowFrom, testFrom, clampedFrom, verdictFrom}
+
+pub a-row : (x : Checked (List Float)) {r : List Float} {k : Bool} → r ≡ x .value → k ≡ x .sound → _≡_ {A = Row} (record { at = r; sound = k }) (rowFrom x)
+a-row x e h = rw (e, h)
+
+-- the test of a distance is that of each number on its way
+pub dist-sound : (f : Format) (a b : List Float) (n : ℕ) {d : Float} {k : Bool} → d ≡ dist f a b n .value → k ≡ finite d → k ≡ dist f a b n .sound
+dist-sound f a b n e h = h ∙ ap finite e ∙ sym (dist-tells f a b n)
+
+-- ---- the workspace
+
+pub out-is : (s : Checks) (a : List Float) {k o : Bool} {n : ℕ} → k ≡ arms s WORKSPACE → n ≡ shared s → o ≡ outside (wallsOf (s .walls)) a n → (k && o) ≡ outOfBox s a
+unfolding outOfBox
+out-is s a e h g = rw (e, g, h)
+
+module _ (s : Checks) (a : List Float) {k : Bool} (e : k ≡ arms s WORKSPACE) where
+  pub boxed-off : k ≡ false → a ≡ boxed s a
+  unfolding boxed
+  boxed-off h = rw (sym e ∙ h)
+
+  pub boxed-on : k ≡ true → {n : ℕ} {r : List Float} → n ≡ shared s → r ≡ inward (wallsOf (s .walls)) a n → r ≡ boxed s a
+  unfolding boxed
+  boxed-on h p q = rw (sym e ∙ h) (rw p at q)
+
+-- ---- the slow zone
+
+module _ (f : Format) (dt radius speed : Float) (i j : ℕ) (p aux : List Float) {d : Float} {k : Bool} (e : d ≡ dist f p (at aux i ∷ at aux j ∷ []) 2 .value) (h : k ≡ finite d) where
+  pub zone-inside : {l : Bool} → le d radius ≡ true → l ≡ finite (mul f speed dt)
+      → _≡_ {A = SlowZone} (record { inside = true; step = mul f speed dt; sound = k && l }) (zoneFrom (inZone f dt radius speed i j p aux))
+  unfolding inZone
+  zone-inside t q = rw (dist-sound f p (at aux i ∷ at aux j ∷ []) 2 e h, q, ap (λ (x : Float). le x radius) (sym e) ∙ t, and-true)
+
+  pub zone-outside : le d radius ≡ false → _≡_ {A = SlowZone} (record { inside = false; step = +0; sound = k }) (zoneFrom (inZone f dt radius speed i j p aux))
+  unfolding inZone
+  zone-outside t = rw (dist-sound f p (at aux i ∷ at aux j ∷ []) 2 e h, ap (λ (x : Float). le x radius) (sym e) ∙ t, and-true)
+
+module _ (f : Format) (s : Checks) (p aux : List Float) {k : Bool} (e : k ≡ arms s CONTACT) where
+  pub slow-off : k ≡ false → {z : SlowZone} → z ≡ zoneFrom (pure clear) → z ≡ zoneFrom (slowZone f s p aux)
+  unfolding slowZone
+  slow-off h q = rw (sym e ∙ h) q
+
+  pub slow-on : k ≡ true → {z : SlowZone} → z ≡ zoneFrom (zoneIn f (s .dt) (s .contact) p aux) → z ≡ zoneFrom (slowZone f s p aux)
+  unfolding slowZone
+  slow-on h q = rw (sym e ∙ h) q
+
+module _ (f : Format) (dt : Float) (z : Contact) (p aux : List Float) {r : SlowZone} where
+  pub unconfigured : z ≡ C.None → r ≡ zoneFrom (pure clear) → r ≡ zoneFrom (zoneIn f dt z p aux)
+  unfolding zoneIn
+  unconfigured e h = rw e h
+
+  module _ (radius speed : Float) (i j : ℕ) (e : z ≡ C.Zone radius speed i j) where
+    pub unseen : seen p aux i j ≡ false → r ≡ zoneFrom (pure clear) → r ≡ zoneFrom (zoneIn f dt z p aux)
+    unfolding zoneIn
+    unseen h g = rw (e, h) g
+
+    pub is-seen : seen p aux i j ≡ true → r ≡ zoneFrom (inZone f dt radius speed i j p aux) → r ≡ zoneFrom (zoneIn f dt z p aux)
+    unfolding zoneIn
+    is-seen h g = rw (e, h) g
+
+-- ---- reach
+
+module _ (f : Format) (s : Checks) (p a : List Float) {k : Bool} (e : k ≡ arms s REACH) where
+  pub reach-off : k ≡ false → _≡_ {A = Test} (record { holds = false; sound = true }) (testFrom (outOfReach f s p a))
+  unfolding outOfReach
+  reach-off h = rw (sym e ∙ h)
+
+  pub reach-on : k ≡ true → {n : ℕ} {d : Float} {t : Bool} → n ≡ shared s → d ≡ dist f a p n .value → t ≡ finite d
+      → _≡_ {A = Test} (record { holds = lt (s .«reach_max») d; sound = t }) (testFrom (outOfReach f s p a))
+  unfolding outOfReach
+  reach-on h {n} q u v = rw (sym e ∙ h, dist-sound f a p n u v, u, q, and-true)
+
+  pub reached-off : k ≡ false → _≡_ {A = Row} (record { at = a; sound = true }) (rowFrom (reached f s p a))
+  unfolding reached
+  reached-off h = rw (sym e ∙ h)
+
+  pub reached-on : k ≡ true → {n : ℕ} {r : Row} → n ≡ shared s → r ≡ rowFrom (pulled f (s .«reach_max») p n a) → r ≡ rowFrom (reached f s p a)
+  unfolding reached
+  reached-on h q u = rw (sym e ∙ h) (rw q at u)
+
+-- ---- the pull
+
+module _ (f : Format) (most : Float) (q : List Float) (n : ℕ) (a : List Float) where
+  pub shortened-is : (far : Float) {k l : Bool} {r : Row}
+      → k ≡ finite (mul f most (shrink f))
+      → l ≡ finite (div f (mul f most (shrink f)) far)
+      → r ≡ rowFrom (each (towards f (div f (mul f most (shrink f)) far) q a) a n)
+      → _≡_ {A = Row} (record { at = r .at; sound = k && (l && r .sound) }) (rowFrom (shortened f most far q n a))
+  unfolding shortened
+  shortened-is far e h g = rw (e, h, g)
+
+  module _ {far : Float} {k : Bool} (e : far ≡ dist f a q n .value) (h : k ≡ finite far) where
+    pub pulled-near : lt most far ≡ false → _≡_ {A = Row} (record { at = a; sound = k }) (rowFrom (pulled f most q n a))
+    unfolding pulled
+    pulled-near t = rw (dist-sound f a q n e h, ap (λ (x : Float). lt most x) (sym e) ∙ t, and-true)
+
+    pub pulled-far : lt most far ≡ true → {r : Row} → r ≡ rowFrom (shortened f most far q n a) → _≡_ {A = Row} (record { at = r .at; sound = k && r .sound }) (rowFrom (pulled f most q n a))
+    unfolding pulled
+    pulled-far t g = rw (dist-sound f a q n e h, ap (λ (x : Float). lt most x) (sym e) ∙ t, g, e)
+
+module _ (f : Format) (s : Checks) (z : Slow) (prev a : List Float) {k : Bool} (e : k ≡ arms s SPEED) where
+  pub leashed-off : (k || z .inside) ≡ false → _≡_ {A = Row} (record { at = a; sound = true }) (rowFrom (leashed f s z prev a))
+  unfolding leashed
+  leashed-off h = rw (ap (λ (b : Bool). b || z .inside) (sym e) ∙ h)
+
+  pub leashed-on : (k || z .inside) ≡ true → {m : Float} {r : Row} → m ≡ leash k (s .«step_max») z → r ≡ rowFrom (pulled f m prev (s .dim) a) → r ≡ rowFrom (leashed f s z prev a)
+  unfolding leashed
+  leashed-on h p q = rw (ap (λ (b : Bool). b || z .inside) (sym e) ∙ h) (rw (p, e) at q)
+
+-- ---- the three moves
+
+module _ (f : Format) (s : Checks) (z : Slow) (p q a : List Float) {b : List Float} {l : Row}
+    (eb : b ≡ boxed s a) (el : l ≡ rowFrom (leashed f s z q b)) {t : Bool} where
+  pub first-row : t ≡ true → {r : Row} → r ≡ rowFrom (reached f s p (l .at)) → _≡_ {A = Row} (record { at = r .at; sound = l .sound && r .sound }) (rowFrom (moves f s z p t q a))
+  unfolding moves
+  first-row e er = rw (e, er, el, eb)
+
+  pub later-row : t ≡ false → _≡_ {A = Row} (record { at = l .at; sound = l .sound }) (rowFrom (moves f s z p t q a))
+  unfolding moves
+  later-row e = rw (e, el, eb, and-true)
+
+pub project-is : (f : Format) (s : Checks) (z : Slow) (p prev a : List Float) {r : Row} {m : ℕ}
+    → r ≡ rowFrom (moves f s z p true prev a)
+    → m ≡ moved a (r .at) (s .dim)
+    → _≡_ {A = Clamped} (record { at = r .at; mask = m; sound = r .sound }) (clampedFrom (project f s z p prev a))
+unfolding project
+project-is f s z p prev a er em = rw (em, er, and-true)
+
+module _ (f : Format) (s : Checks) (m : ClampMode) (z : Slow) (p prev a : List Float) where
+  pub projection-off : m ≡ M.Off → _≡_ {A = Clamped} (record { at = a; mask = 0; sound = true }) (clampedFrom (projection f s m z p prev a))
+  unfolding projection
+  projection-off e = rw e
+
+  pub projection-on : m ≡ M.Project → {r : Clamped} → r ≡ clampedFrom (project f s z p prev a) → r ≡ clampedFrom (projection f s m z p prev a)
+  unfolding projection
+  projection-on e h = rw e h
+
+-- ---- the check
+
+pub trips-are : (out fast bent jolted far close : Bool) {a b c d e g : ℕ} → a ≡ bit out WORKSPACE → b ≡ bit fast SPEED → c ≡ bit bent ACCEL → d ≡ bit jolted JERK → e ≡ bit far REACH → g ≡ bit close CONTACT
+    → a + b + c + d + e + g ≡ tripBits out fast bent jolted far close
+unfolding tripBits
+trips-are out fast bent jolted far close p q r s t u = rw (p, q, r, s, t, u)
+
+absorbed : (x y z : Bool) → (y ≡ true → x ≡ true) → (x && (y && z)) ≡ (y && z)
+absorbed true y z h = refl
+absorbed false true z h = absurd-is (h refl) z
+  where
+    absurd-is : false ≡ true → (z : Bool) → false ≡ z
+    absurd-is e true = e
+    absurd-is e false = refl
+absorbed false false z h = refl
+
+pub judge-is : (f : Format) (s : Checks) (p aux prev a : List Float) {z : SlowZone} {n : Float} {k speed out : Bool} {far : Test} {raw : List Float} {c : Clamped} {bits : ℕ}
+    → z ≡ zoneFrom (slowZone f s p aux)
+    → n ≡ dist f a prev (s .dim) .value
+    → k ≡ finite (mul f n (s .«inv_dt»))
+    → out ≡ outOfBox s a
+    → far ≡ testFrom (outOfReach f s p a)
+    → raw ≡ held a (s .dim)
+    → speed ≡ arms s SPEED
+    → bits ≡ tripBits out (speed && lt (s .«step_max») n) false false (far .holds) (z .inside && lt (z .step) n)
+    → c ≡ clampedFrom (projection f s (s .clamp) (slowOf z) p prev raw)
+    → _≡_ {A = Verdict} (record { trips = bits; mask = c .mask; peak = mul f n (s .«inv_dt»); at = c .at; sound = z .sound && (k && (far .sound && c .sound)) })
+    (verdictFrom (checkAction f s p aux prev a))
+unfolding checkAction
+judge-is f s p aux prev a ez en ek eo ef ew es eb ec =
+    let n = dist f a prev (s .dim) in
+    rw (eb, ec, ew, ef, eo, es, ek, en, ez, and-true, dist-tells f a prev (s .dim), absorbed _ _ _ (fine-mul-left f (n .value) (s .«inv_dt»)))

@@ -1,0 +1,17 @@
+-- `tier0::checks_of` meets its contract: each field is the configuration's or the derived one.
+use mathlib.Core.Path.{ap}
+use Rattle.tier0.specs.Of.{checksFrom}
+use Rattle.tier0.specs.Of.{checksOf}
+use borrow.Author.Needs.{needs}
+use Rattle.tier0.proofs.checks_of.Statement.{statement}
+use Rattle.tier0.proofs.checks_of.Tie as tie
+
+derive-requires : tie.Need-derive-requires
+derive-requires c κs = search needs
+
+returns : tie.Need-returns
+unfolding checksOf
+returns c = ap (checksFrom (c .before .before .before .before .args .c)) (c .before .before .before .derive .ensures)
+
+pub checks-of-spec : {M : Type 1} → statement M
+checks-of-spec = tie.close (tie.spec derive-requires returns)

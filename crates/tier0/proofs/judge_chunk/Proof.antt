@@ -1,0 +1,67 @@
+-- `tier0::judge_chunk` meets its contract: each part is its rule's.
+use native.Mathlib.Omega.{arith}
+use Rattle.tier0.proofs.Rows.{judge-chunk-is, first-fits, row-fits}
+use borrow.Author.Needs.{needs}
+use Rattle.tier0.proofs.judge_chunk.Statement.{statement}
+use Rattle.tier0.proofs.judge_chunk.Tie as tie
+
+slow-zone-requires : tie.Need-slow-zone-requires
+slow-zone-requires c κs = search needs
+
+start-row-requires : tie.Need-start-row-requires
+start-row-requires c κs = let w = c .before .before .before .before .before .pre in (w .0, first-fits _ _ _ (w .2) (w .4), w .1)
+
+step-rows-requires : tie.Need-step-rows-requires
+step-rows-requires c κs = search needs
+
+finite-requires : tie.Need-finite-requires
+finite-requires c κs = search needs
+
+too-bent-requires : tie.Need-too-bent-requires
+too-bent-requires c κs = search needs
+
+too-jolted-requires : tie.Need-too-jolted-requires
+too-jolted-requires c κs = search needs
+
+raw-row-requires : tie.Need-raw-row-requires
+raw-row-requires c κs = let w = c .before .before .before .before .before .before .before .before .before .before .before .before .pre in (w .0, omega arith, row-fits 0 _ _ _ (w .2) (w .4))
+
+slice-aggregate-out-of-reach : tie.Need-slice-aggregate-out-of-reach
+slice-aggregate-out-of-reach c = search needs
+
+out-of-reach-requires : tie.Need-out-of-reach-requires
+out-of-reach-requires c κs = search needs
+
+armed-requires : tie.Need-armed-requires
+armed-requires c κs = search needs
+
+trip-bits-requires : tie.Need-trip-bits-requires
+trip-bits-requires c κs = search needs
+
+projected-rows-requires : tie.Need-projected-rows-requires
+projected-rows-requires c κs = let w = c .before .before .before .before .before .before .before .before .before .before .before .before .before .before .before .before .before .before .before .before .before .pre in (w .0, w .1, w .3, w .4, w .5)
+
+same-length : tie.Need-same-length
+same-length c = search needs
+
+returns : tie.Need-returns
+returns c = judge-chunk-is _ _ _ _ _ _ (c .before .before .before .before .before .before .before .before .before .before .before .before .before .before .before .before .before .before .before .before .before .before .before .before .before .slow-zone .ensures) (c .before .before .before .before .before .before .before .before .before .before .before .before .before .before .before .before .before .before .before .before .before .before .before .before .start-row .ensures) (c .before .before .before .before .before .before .before .before .before .before .before .before .before .before .before .before .before .before .before .before .before .before .before .step-rows .ensures) (c .before .before .before .before .before .before .before .before .before .before .before .before .before .before .before .before .before .before .before .before .finite .ensures) (c .before .before .before .before .before .before .before .before .before .before .before .before .before .before .before .before .before .before .before .too-bent .ensures) (c .before .before .before .before .before .before .before .before .before .before .before .before .before .before .before .before .before .before .too-jolted .ensures) (c .before .before .before .before .before .before .before .before .before .before .before .before .before .before .before .before .before .raw-row .ensures) (c .before .before .before .before .before .before .before .before .before .before .before .before .before .before .before .out-of-reach .ensures) (c .before .before .before .before .before .before .before .before .before .before .before .before .before .before .armed .ensures) (c .before .before .before .before .before .before .before .before .before .before .trip-bits .ensures) (c .before .before .before .before .before .before .before .before .projected-rows .ensures)
+
+pub judge-chunk-spec : {M : Type 1} → statement M
+judge-chunk-spec =
+    tie.close
+    (tie.spec
+    slow-zone-requires
+    start-row-requires
+    step-rows-requires
+    finite-requires
+    too-bent-requires
+    too-jolted-requires
+    raw-row-requires
+    slice-aggregate-out-of-reach
+    out-of-reach-requires
+    armed-requires
+    trip-bits-requires
+    projected-rows-requires
+    same-length
+    returns)

@@ -1,0 +1,5 @@
+pub mod Rule
+pub mod Chunk
+pub mod Refusals
+pub mod Of
+pub mod Worked

@@ -1,0 +1,145 @@
+-- The rules at the declared structs.
+use Prim.Native.Nat.{ℕ, _*_}
+use mathlib.Core.Bool.{Bool, not}
+use mathlib.Core.List.{List, [], _∷_, _++_}
+use lib.Dec.{eqb}
+use lib.ListN.{length, replicate}
+use lib.Ieee.{Float, binary64}
+use Rattle.refusal.specs.Order.{Judged, width, short, notFinite, computed, _when_, refusal}
+use Rattle.fmath.specs.Finite.{+0}
+use Rattle.fmath.specs.Checked.{Checked}
+use Rattle.chunk.specs.Refusals.{chunkReasons}
+use Rattle.envelope.specs.Derive.{derived}
+use Rattle.envelope.specs.Refusals.{configJudged}
+use Rattle.envelope.specs.declared.Derived.{Derived}
+use Rattle.envelope.specs.declared.FuseConfig.{FuseConfig}
+use Rattle.tier0.specs.declared.Check.{Check}
+use Rattle.tier0.specs.declared.Checks.{Checks}
+use Rattle.tier0.specs.declared.SlowZone.{SlowZone}
+use Rattle.tier0.specs.declared.Row.{Row}
+use Rattle.tier0.specs.declared.Test.{Test}
+use Rattle.tier0.specs.declared.Clamped.{Clamped}
+use Rattle.tier0.specs.declared.Verdict.{Verdict}
+use Rattle.tier0.specs.declared.Stride.{Stride}
+use Rattle.tier0.specs.declared.Ran.{Ran}
+use Rattle.tier0.specs.declared.Ruling.{Ruling}
+use Rattle.tier0.specs.Rule.{Slow, Projected, Judgement, checkAction}
+use Rattle.tier0.specs.Chunk.{Run, peakStep, someLonger, someOutOfBox, checkChunk}
+use Rattle.tier0.specs.Refusals.{tooShort, someLentNotFinite, chunkTooShort, someChunkNotFinite, answerAt, outAt}
+
+-- what the checks read of a configuration and of the numbers derived from it
+abbrev pub checksFrom : FuseConfig → Derived → Checks
+checksFrom c d = record {
+  dim = c .dim;
+  «pos_dim» = c .«pos_dim»;
+  armed = c .armed;
+  contact = c .contact;
+  clamp = c .clamp;
+  dt = c .limits .dt;
+  «a_max» = c .limits .«a_max»;
+  «j_max» = c .limits .«j_max»;
+  «reach_max» = c .limits .«reach_max»;
+  «inv_dt» = d .«inv_dt»;
+  «inv_dt2» = d .«inv_dt2»;
+  «inv_dt3» = d .«inv_dt3»;
+  «step_max» = d .«step_max»;
+  walls = record { lo = d .«box_lo»; hi = d .«box_hi» };
+}
+
+unfoldable pub checksOf : FuseConfig → Checks
+checksOf c = checksFrom c (derived binary64 c)
+
+-- ---- what a private function answers: the rule's value, and whether all that was computed is finite
+
+abbrev pub slowOf : SlowZone → Slow
+slowOf z = record { inside = z .inside; step = z .step }
+
+abbrev pub zoneFrom : Checked Slow → SlowZone
+zoneFrom x = record { inside = x .value .inside; step = x .value .step; sound = x .sound }
+
+abbrev pub rowFrom : Checked (List Float) → Row
+rowFrom x = record { at = x .value; sound = x .sound }
+
+abbrev pub testFrom : Checked Bool → Test
+testFrom x = record { holds = x .value; sound = x .sound }
+
+abbrev pub clampedFrom : Checked Projected → Clamped
+clampedFrom x = record { at = x .value .rows; mask = x .value .mask; sound = x .sound }
+
+abbrev pub verdictFrom : Checked Judgement → Verdict
+verdictFrom x = record {
+  trips = x .value .trips;
+  mask = x .value .after .mask;
+  peak = x .value .peak;
+  at = x .value .after .rows;
+  sound = x .sound;
+}
+
+-- the steps of h rows: the greatest, and whether one is too long, too long for the zone, or out of the box
+abbrev pub stepsFrom : Checks → Float → List Float → List Float → ℕ → Stride
+stepsFrom s slow q rows h = record {
+  peak = peakStep binary64 q rows (s .dim) h .value;
+  fast = someLonger binary64 q rows (s .dim) (s .«step_max») h;
+  close = someLonger binary64 q rows (s .dim) slow h;
+  out = someOutOfBox s rows h;
+  sound = peakStep binary64 q rows (s .dim) h .sound;
+}
+
+abbrev pub runFrom : Checked Run → Ran
+runFrom x = record { mask = x .value .mask; sound = x .sound }
+
+abbrev pub ranFrom : Checked Projected → Ran
+ranFrom x = record { mask = x .value .mask; sound = x .sound }
+
+abbrev pub rulingFrom : Checked Judgement → Ruling
+rulingFrom x = record {
+  trips = x .value .trips;
+  mask = x .value .after .mask;
+  peak = x .value .peak;
+  sound = x .sound;
+}
+
+-- ---- check_action
+
+module _ (c : FuseConfig) (p aux prev a : List Float) where
+  -- 11 and 12, where the output has so much room
+  abbrev pub lentToAction : ℕ → List Judged → List Judged
+  lentToAction room l =
+      (short when tooShort (c .dim) (c .«pos_dim») (length p) (length prev) (length a) room)
+      ∷ (notFinite when someLentNotFinite p aux prev a) ∷ l
+
+  unfoldable pub actionRuling : Checked Judgement
+  actionRuling = checkAction binary64 (checksOf c) p aux prev a
+
+  -- the number of the refusal, 0 where there is none
+  unfoldable pub actionRefusal : ℕ → ℕ
+  actionRefusal room = refusal (configJudged c ++ lentToAction room ((computed when not (actionRuling .sound)) ∷ []))
+
+  unfoldable pub actionAnswer : ℕ → Check
+  actionAnswer room = answerAt (actionRefusal room) (actionRuling .value)
+
+  unfoldable pub actionOut : List Float → List Float
+  actionOut l = outAt (actionRefusal (length l)) (actionRuling .value) (c .dim) l
+
+-- ---- check_chunk
+
+module _ (c : FuseConfig) (p aux rows : List Float) (h d e : ℕ) where
+  -- 10, 11 and 12, where the output has so much room
+  abbrev pub lentToChunk : ℕ → List Judged → List Judged
+  lentToChunk room l =
+      (width when not (eqb d (c .dim)))
+      ∷ (short when chunkTooShort (c .«pos_dim») (length p) (h * d) room)
+      ∷ (notFinite when someChunkNotFinite p aux rows) ∷ l
+
+  unfoldable pub chunkRuling : Checked Judgement
+  chunkRuling = checkChunk binary64 (checksOf c) p aux rows (replicate 512 +0) h
+
+  -- the number of the refusal, 0 where there is none
+  unfoldable pub chunkRefusal : ℕ → ℕ
+  chunkRefusal room = refusal (configJudged c ++ (chunkReasons h d e (length rows) ++ lentToChunk room ((computed when not (chunkRuling .sound)) ∷ [])))
+
+  unfoldable pub chunkAnswer : ℕ → Check
+  chunkAnswer room = answerAt (chunkRefusal room) (chunkRuling .value)
+
+  unfoldable pub chunkOut : List Float → List Float
+  chunkOut l = outAt (chunkRefusal (length l)) (chunkRuling .value) (h * c .dim) l

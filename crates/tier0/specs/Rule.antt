@@ -1,0 +1,189 @@
+-- The rules of document 01's module 5 for one row, over the format. Whatever is computed is checked.
+use Prim.Native.Nat.{ℕ, zero, suc, _+_, _/_, _%_, _^_, min}
+use mathlib.Core.Bool.{Bool, true, false, _&&_, _||_}
+use mathlib.Core.List.{List, [], _∷_}
+use lib.Dec.{ltb, leb, eqb}
+use lib.IntN.{negsuc}
+use lib.ListN.{length, replicate}
+use lib.Ieee.{Float, Format, binary32, binary64, fin, lt, le, ne}
+use Rattle.refusal.specs.Order.{if_then_else_}
+use Rattle.fmath.specs.Each.{at, over}
+use Rattle.fmath.specs.Finite.{+0}
+use Rattle.fmath.specs.Checked.{Checked, _>>=_, pure, plus, minus, times, divided, each}
+use Rattle.fmath.specs.Least.{lesser}
+use Rattle.fmath.specs.Norm.{dist}
+use Rattle.workspace.specs.Of.{wallsOf}
+use Rattle.workspace.specs.Rule.{outside, inward}
+use Rattle.envelope.specs.declared.ClampMode.{ClampMode}
+use Rattle.envelope.specs.declared.ClampMode.the-variants.{Off, Project}
+use Rattle.envelope.specs.declared.Contact.{Contact}
+use Rattle.envelope.specs.declared.Contact.the-variants.{None, Zone}
+use Rattle.tier0.specs.declared.Checks.{Checks}
+
+abbrev pub WORKSPACE : ℕ
+WORKSPACE = 1
+
+abbrev pub SPEED : ℕ
+SPEED = 2
+
+abbrev pub ACCEL : ℕ
+ACCEL = 4
+
+abbrev pub JERK : ℕ
+JERK = 8
+
+abbrev pub REACH : ℕ
+REACH = 16
+
+abbrev pub CONTACT : ℕ
+CONTACT = 32
+
+-- a check is armed
+unfoldable pub arms : Checks → ℕ → Bool
+arms s w = eqb (s .armed / w % 2) 1
+
+-- how many coordinates the action and the position share
+abbrev pub shared : Checks → ℕ
+shared s = min (s .dim) (s .«pos_dim»)
+
+-- ---- the slow zone
+
+-- whether the position is inside it, and the step that it then allows
+pub record Slow : Type 0 where
+  pub inside : Bool
+  pub step : Float
+
+-- no slow zone
+abbrev pub clear : Slow
+clear = record { inside = false; step = +0 }
+
+-- a zone is seen where the position has two coordinates and the camera both channels
+abbrev pub seen : List Float → List Float → ℕ → ℕ → Bool
+seen p aux i j = leb 2 (length p) && (ltb i (length aux) && ltb j (length aux))
+
+-- inside where the distance to its centre is at most the radius; the step is then its speed x dt
+unfoldable pub inZone : Format → Float → Float → Float → ℕ → ℕ → List Float → List Float → Checked Slow
+inZone f dt radius speed i j p aux = do
+  d ← dist f p (at aux i ∷ at aux j ∷ []) 2
+  if le d radius then (do step ← times f speed dt; pure (record { inside = true; step = step })) else pure clear
+
+-- the zone of a configuration, which may have none
+unfoldable pub zoneIn : Format → Float → Contact → List Float → List Float → Checked Slow
+zoneIn f dt None p aux = pure clear
+zoneIn f dt (Zone radius speed i j) p aux = if seen p aux i j then inZone f dt radius speed i j p aux else pure clear
+
+-- the armed contact step
+unfoldable pub slowZone : Format → Checks → List Float → List Float → Checked Slow
+slowZone f s p aux = if arms s CONTACT then zoneIn f (s .dt) (s .contact) p aux else pure clear
+
+-- ---- trips: strictly exceeded, on the row as it came
+
+-- WORKSPACE: a shared coordinate lies beyond its walls
+unfoldable pub outOfBox : Checks → List Float → Bool
+outOfBox s a = arms s WORKSPACE && outside (wallsOf (s .walls)) a (shared s)
+
+-- REACH: the distance to the position, on the shared coordinates
+unfoldable pub outOfReach : Format → Checks → List Float → List Float → Checked Bool
+outOfReach f s p a = if arms s REACH then (do n ← dist f a p (shared s); pure (lt (s .«reach_max») n)) else pure false
+
+abbrev pub bit : Bool → ℕ → ℕ
+bit b w = if b then w else 0
+
+-- one bit for each check that trips
+unfoldable pub tripBits : Bool → Bool → Bool → Bool → Bool → Bool → ℕ
+tripBits box speed accel jerk reach contact =
+    bit box WORKSPACE + bit speed SPEED + bit accel ACCEL + bit jerk JERK + bit reach REACH + bit contact CONTACT
+
+-- ---- projection
+
+-- 1 - 2^-36, and 1 - 2^-13 at the smaller width
+abbrev pub shrink : Format → Float
+shrink binary32 = fin false 0x1fff (negsuc 12)
+shrink binary64 = fin false 0xf_ffff_ffff (negsuc 35)
+
+-- from q, the part s of the way to x
+unfoldable pub toward : Format → Float → Float → Float → Checked Float
+toward f s q x = do
+  d ← minus f x q
+  m ← times f d s
+  plus f q m
+
+abbrev pub towards : Format → Float → List Float → List Float → ℕ → Checked Float
+towards f s q a j = toward f s (at q j) (at a j)
+
+-- a, pulled on its first n coordinates towards q, from which it is so far: the factor is most x shrink / far
+unfoldable pub shortened : Format → Float → Float → List Float → ℕ → List Float → Checked (List Float)
+shortened f most far q n a = do
+  short ← times f most (shrink f)
+  s ← divided f short far
+  each (towards f s q a) a n
+
+-- .. where it is further than `most`
+unfoldable pub pulled : Format → Float → List Float → ℕ → List Float → Checked (List Float)
+pulled f most q n a = do
+  far ← dist f a q n
+  if lt most far then shortened f most far q n a else pure a
+
+-- the least armed leash
+abbrev pub leash : Bool → Float → Slow → Float
+leash speed stepMax z = if speed then (if z .inside then lesser stepMax (z .step) else stepMax) else z .step
+
+-- first move: inside the box on the shared coordinates
+unfoldable pub boxed : Checks → List Float → List Float
+boxed s a = if arms s WORKSPACE then inward (wallsOf (s .walls)) a (shared s) else a
+
+-- second move: the leash towards the row before
+unfoldable pub leashed : Format → Checks → Slow → List Float → List Float → Checked (List Float)
+leashed f s z prev a = if arms s SPEED || z .inside then pulled f (leash (arms s SPEED) (s .«step_max») z) prev (s .dim) a else pure a
+
+-- third move: the reach pull towards the position
+unfoldable pub reached : Format → Checks → List Float → List Float → Checked (List Float)
+reached f s p a = if arms s REACH then pulled f (s .«reach_max») p (shared s) a else pure a
+
+-- the three moves in order; the third is the first row's
+unfoldable pub moves : Format → Checks → Slow → List Float → Bool → List Float → List Float → Checked (List Float)
+moves f s z p isFirst prev a = do
+  l ← leashed f s z prev (boxed s a)
+  if isFirst then reached f s p l else pure l
+
+-- a row of n numbers, and zeros up to eight
+unfoldable pub held : List Float → ℕ → List Float
+held a n = over (at a) (replicate 8 +0) n
+
+-- a bit for each coordinate that differs, as numbers
+unfoldable pub moved : List Float → List Float → ℕ → ℕ
+moved a b zero = 0
+moved a b (suc j) = moved a b j + bit (ne (at a j) (at b j)) (2 ^ j)
+
+-- rows after projection, and a bit for each coordinate that was moved in any of them
+pub record Projected : Type 0 where
+  pub rows : List Float
+  pub mask : ℕ
+
+unfoldable pub project : Format → Checks → Slow → List Float → List Float → List Float → Checked Projected
+project f s z p prev a = do
+  r ← moves f s z p true prev a
+  pure (record { rows = r; mask = moved a r (s .dim) })
+
+-- under ClampMode Off the row stays as it came
+unfoldable pub projection : Format → Checks → ClampMode → Slow → List Float → List Float → List Float → Checked Projected
+projection f s Off z p prev a = pure (record { rows = a; mask = 0 })
+projection f s Project z p prev a = project f s z p prev a
+
+-- ---- the check of one action against its predecessor
+
+pub record Judgement : Type 0 where
+  pub trips : ℕ
+  pub peak : Float
+  pub after : Projected
+
+unfoldable pub checkAction : Format → Checks → List Float → List Float → List Float → List Float → Checked Judgement
+checkAction f s p aux prev a = do
+  z ← slowZone f s p aux
+  n ← dist f a prev (s .dim)
+  v ← times f n (s .«inv_dt»)
+  far ← outOfReach f s p a
+  after ← projection f s (s .clamp) z p prev (held a (s .dim))
+  let fast = arms s SPEED && lt (s .«step_max») n
+  let close = z .inside && lt (z .step) n
+  pure (record { trips = tripBits (outOfBox s a) fast false false far close; peak = v; after = after })
