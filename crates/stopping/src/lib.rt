@@ -1,0 +1,155 @@
+// The closed kinds of brake: a stopping radius at the start and at each committed row, and the slack that it leaves.
+ghost use mathlib.Core.Path.{_≡_};
+ghost use Prim.Native.Nat.{_≤_};
+ghost use lib.ListN.{length};
+ghost use lib.Ieee.{binary64};
+ghost use Rattle.stopping.specs.Rule.{ratio, ramp, ease, glide, radius, commanded, command, step};
+ghost use Rattle.stopping.specs.Of.{reckonedFrom, steppedFrom, sumOf};
+ghost use Rattle.fmath.specs.Checked.{divided};
+ghost use Rattle.rollout.specs.Of.{stateOf};
+use envelope::ActionKind;
+use envelope::BrakeKind;
+use rollout::Plant;
+
+// How the arm takes a row, how it brakes, the control period, and the greatest acceleration and jerk.
+pub struct Arm {
+    pub kind: ActionKind,
+    pub brake: BrakeKind,
+    pub dt: f64,
+    pub a_max: f64,
+    pub j_max: f64,
+}
+
+// A number, and whether each number computed on the way is finite.
+struct Reckoned {
+    value: f64,
+    sound: bool,
+}
+
+// Where a step leads, and whether each coordinate of it is finite.
+struct Stepped {
+    p: [f64; 8],
+    sound: bool,
+}
+
+fn quotient(k_p: f64, k_v: f64) -> Reckoned
+    ensures { λ r. ⌜ r ≡ reckonedFrom (divided binary64 «k_p» «k_v») ⌝ }
+{
+    let value = k_p / k_v;
+    let sound = fmath::finite(value);
+    Reckoned { value, sound }
+}
+
+// The gain of a pull towards a position.
+fn ratio(brake: BrakeKind) -> Reckoned
+    ensures { λ r. ⌜ r ≡ reckonedFrom (ratio binary64 brake) ⌝ }
+{
+    match brake {
+        BrakeKind::PdSecondOrder { k_p, k_v, dt } => quotient(k_p, k_v),
+        BrakeKind::FirstOrderDecay { k_p, k_v, dt } => quotient(k_p, k_v),
+        BrakeKind::BoundedAccel { k_p, k_v, dt } => quotient(k_p, k_v),
+        BrakeKind::JerkLimited { k_p, k_v, dt } => quotient(k_p, k_v),
+        BrakeKind::ZeroVelocityHold { k_p, k_v, dt } => quotient(k_p, k_v),
+    }
+}
+
+fn ramp(a: f64, s: f64) -> Reckoned
+    ensures { λ r. ⌜ r ≡ reckonedFrom (ramp binary64 a s) ⌝ }
+{
+    let twice = 2.0 * a;
+    let value = s * s / twice;
+    let sound = fmath::finite(twice) & fmath::finite(value);
+    Reckoned { value, sound }
+}
+
+fn ease(a: f64, j: f64, s: f64) -> Reckoned
+    ensures { λ r. ⌜ r ≡ reckonedFrom (ease binary64 a j s) ⌝ }
+{
+    let twice = 2.0 * j;
+    let value = s * a / twice;
+    let sound = fmath::finite(twice) & fmath::finite(value);
+    Reckoned { value, sound }
+}
+
+fn sum(x: Reckoned, y: Reckoned) -> Reckoned
+    ensures { λ r. ⌜ r ≡ sumOf binary64 x y ⌝ }
+{
+    let value = x.value + y.value;
+    let fine = fmath::finite(value);
+    let sound = x.sound & (y.sound & fine);
+    Reckoned { value, sound }
+}
+
+// How far the arm travels from speed s while it brakes.
+fn glide(brake: BrakeKind, a: f64, j: f64, s: f64) -> Reckoned
+    ensures { λ r. ⌜ r ≡ reckonedFrom (glide binary64 brake a j s) ⌝ }
+{
+    match brake {
+        BrakeKind::PdSecondOrder { k_p, k_v, dt } => Reckoned {
+            value: 0.0,
+            sound: true,
+        },
+        BrakeKind::FirstOrderDecay { k_p, k_v, dt } => quotient(s, k_v),
+        BrakeKind::BoundedAccel { k_p, k_v, dt } => ramp(a, s),
+        BrakeKind::JerkLimited { k_p, k_v, dt } => sum(ramp(a, s), ease(a, j, s)),
+        BrakeKind::ZeroVelocityHold { k_p, k_v, dt } => ramp(a, s),
+    }
+}
+
+// The stopping radius at velocity v, with the time that passes before braking starts.
+fn radius(arm: Arm, wait: f64, v: [f64; 8], n: usize) -> Reckoned
+    ensures { λ r. ⌜ r ≡ reckonedFrom (radius binary64 (arm .brake) (arm .«a_max») (arm .«j_max») wait v n) ⌝ }
+{
+    let s = fmath::magnitude(&v, n);
+    let brake = arm.brake;
+    let d = glide(brake, arm.a_max, arm.j_max, s);
+    let value = d.value + s * wait;
+    let sound = d.sound & fmath::finite(value);
+    Reckoned { value, sound }
+}
+
+// The velocity that a row commands on one axis.
+fn commanded(kind: ActionKind, dt: f64, g: f64, a: f64, p: f64) -> f64
+    ensures { λ r. ⌜ r ≡ commanded binary64 kind dt g a p .value ⌝ }
+{
+    match kind {
+        ActionKind::JointVelocity => a,
+        ActionKind::EeDelta => a / dt,
+        ActionKind::EePosition => g * (a - p),
+        ActionKind::JointPosition => g * (a - p),
+        ActionKind::Other => g * (a - p),
+    }
+}
+
+// .. on the first n axes.
+fn command(arm: Arm, g: f64, a: &[f64], s: Plant, n: usize) -> [f64; 8]
+    requires { ⌜ (n ≤ 8) × (n ≤ length (now a)) ⌝ }
+    ensures { λ r. ⌜ r ≡ command binary64 (arm .kind) (arm .dt) g (now (a .entry)) (stateOf s) n .value ⌝ }
+{
+    let kind = arm.kind;
+    let p = s.p;
+    let mut r = s.v;
+    let mut j = 0;
+    while j < n {
+        r[j] = commanded(kind, arm.dt, g, a[j], p[j]);
+        j += 1;
+    }
+    r
+}
+
+// One Euler step of the first n axes.
+fn step(dt: f64, v: [f64; 8], p: [f64; 8], n: usize) -> Stepped
+    requires { ⌜ n ≤ 8 ⌝ }
+    ensures { λ r. ⌜ r ≡ steppedFrom (step binary64 dt v p n) ⌝ }
+{
+    let mut r = p;
+    let mut sound = true;
+    let mut j = 0;
+    while j < n {
+        let x = p[j] + v[j] * dt;
+        r[j] = x;
+        sound = sound & fmath::finite(x);
+        j += 1;
+    }
+    Stepped { p: r, sound }
+}
