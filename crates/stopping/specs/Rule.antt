@@ -16,14 +16,11 @@ use Rattle.envelope.specs.declared.BrakeKind.the-variants.{PdSecondOrder, First
 use Rattle.workspace.specs.Rule.{Walls, slackWithin}
 use Rattle.rollout.specs.Plant.{State}
 use Rattle.rollout.specs.Forecast.{Forecast}
+use Rattle.stopping.specs.declared.Arm.{Arm}
 
 pub record Task : Type 0 where
-  pub kind : ActionKind
-  pub brake : BrakeKind
-  -- the control period, the greatest acceleration and jerk, and the ticks that pass before braking starts
-  pub dt : Float
-  pub amax : Float
-  pub jmax : Float
+  -- how it takes a row and brakes, the control period, the greatest acceleration and jerk; and the ticks that pass before it brakes
+  pub arm : Arm
   pub react : ℕ
   pub walls : Walls
   -- the live axes
@@ -113,16 +110,19 @@ step f dt v p n = each (λ (j : ℕ). moved f dt (at v j) (at p j)) p n
 module _ (f : Format) (t : Task) where
   -- the time before braking starts
   unfoldable pub reaction : Checked Float
-  reaction = times f (ofInt f (pos (t .react))) (t .dt)
+  reaction = times f (ofInt f (pos (t .react))) (t .arm .dt)
 
-  abbrev radiusAt : List Float → Checked Float
-  radiusAt v = radius f (t .brake) (t .amax) (t .jmax) (reaction .value) v (t .n)
+  abbrev pub gain : Checked Float
+  gain = ratio f (t .arm .brake)
 
-  abbrev commandAt : ℕ → State → Checked (List Float)
-  commandAt k s = command f (t .kind) (t .dt) (ratio f (t .brake) .value) (rowAt t k) s (t .n)
+  abbrev pub radiusAt : List Float → Checked Float
+  radiusAt v = radius f (t .arm .brake) (t .arm .«a_max») (t .arm .«j_max») (reaction .value) v (t .n)
 
-  abbrev stepAt : List Float → List Float → Checked (List Float)
-  stepAt v p = step f (t .dt) v p (t .n)
+  abbrev pub commandAt : ℕ → State → Checked (List Float)
+  commandAt k s = command f (t .arm .kind) (t .arm .dt) (gain .value) (rowAt t k) s (t .n)
+
+  abbrev pub stepAt : List Float → List Float → Checked (List Float)
+  stepAt v p = step f (t .arm .dt) v p (t .n)
 
   -- the plant after k rows
   unfoldable pub after : ℕ → State
@@ -136,7 +136,7 @@ module _ (f : Format) (t : Task) where
   unfoldable pub entry : ℕ → Checked Float
   entry zero = do
     wait ← reaction
-    g ← ratio f (t .brake)
+    g ← gain
     r ← radiusAt (t .start .v)
     slackWithin f (t .walls) r (t .start .p) (t .n)
   entry (suc k) = do
@@ -145,6 +145,11 @@ module _ (f : Format) (t : Task) where
     s ← slackWithin f (t .walls) r (after k .p) (t .n)
     p ← stepAt v (after k .p)
     pure s
+
+  -- where the plant stands after so many entries
+  unfoldable pub stand : ℕ → State
+  stand zero = t .start
+  stand (suc k) = after k
 
   -- how far the plant has moved at the end, and may still travel
   unfoldable pub stop : Checked Float

@@ -1,15 +1,21 @@
 // The closed kinds of brake: a stopping radius at the start and at each committed row, and the slack that it leaves.
 ghost use mathlib.Core.Path.{_≡_};
-ghost use Prim.Native.Nat.{_≤_};
+ghost use mathlib.Core.Bool.{true};
+ghost use mathlib.Core.List.{List};
+ghost use Prim.Native.Nat.{ℕ, suc, _+_, _≤_, _<_};
 ghost use lib.ListN.{length};
-ghost use lib.Ieee.{binary64};
-ghost use Rattle.stopping.specs.Rule.{ratio, ramp, ease, glide, radius, commanded, command, step};
-ghost use Rattle.stopping.specs.Of.{reckonedFrom, steppedFrom, sumOf};
+ghost use lib.Ieee.{Float, binary64};
+ghost use Rattle.stopping.specs.Rule.{ratio, ramp, ease, glide, radius, commanded, command, step, rowAt};
+ghost use Rattle.stopping.specs.Of.{reckonedFrom, steppedFrom, sumOf, taskOf, Along, Under};
 ghost use Rattle.fmath.specs.Checked.{divided};
 ghost use Rattle.rollout.specs.Of.{stateOf};
+ghost use Rattle.rollout.specs.declared.Plant.{Plant};
 use envelope::ActionKind;
 use envelope::BrakeKind;
+use rollout::Course;
 use rollout::Plant;
+use rollout::Run;
+use workspace::Workspace;
 
 // How the arm takes a row, how it brakes, the control period, and the greatest acceleration and jerk.
 pub struct Arm {
@@ -152,4 +158,48 @@ fn step(dt: f64, v: [f64; 8], p: [f64; 8], n: usize) -> Stepped
         j += 1;
     }
     Stepped { p: r, sound }
+}
+
+// One row more, if the run still goes: its slack is written unless a number on the way isn't finite.
+fn row(
+    arm: Arm,
+    w: Workspace,
+    c: Course,
+    g: f64,
+    wait: f64,
+    a: &[f64],
+    run: Run,
+    slack: &mut [f64],
+) -> Run
+    requires { ⌜ (c .live ≤ 8) × (c .live ≤ length (now a)) × (run .done < length (now slack)) ⌝ }
+    ensures { λ r. ⌜ (r .done ≤ run .done + 1) × ((react : ℕ) (s : Plant) (rows l : List Float) (k : ℕ) → Under binary64 (taskOf arm react w c s rows) g wait → Along binary64 (taskOf arm react w c s rows) l (suc k) run (now (slack .entry)) → (run .sound ≡ true → rowAt (taskOf arm react w c s rows) k ≡ now (a .entry)) → Along binary64 (taskOf arm react w c s rows) l (suc k + 1) r (now (slack .exit))) ⌝ }
+{
+    if !run.sound {
+        return run;
+    }
+    let n = c.live;
+    let plant = run.plant;
+    let p = plant.p;
+    let v = command(arm, g, a, plant, n);
+    let r = radius(arm, wait, v, n);
+    let gap = workspace::slack_within(w, r.value, p, n);
+    let next = step(arm.dt, v, p, n);
+    let there = next.p;
+    if !(r.sound & (gap.sound & next.sound)) {
+        return Run {
+            plant,
+            margin: run.margin,
+            done: run.done,
+            sound: false,
+        };
+    }
+    let at = run.done;
+    slack[at] = gap.least;
+    let margin = fmath::min(run.margin, gap.least);
+    Run {
+        plant: Plant { p: there, v },
+        margin,
+        done: at + 1,
+        sound: true,
+    }
 }
