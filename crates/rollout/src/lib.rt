@@ -127,7 +127,7 @@ fn hold(g: Law, w: Workspace, n: usize, a: &[f64], count: usize, run: Run, slack
 }
 
 // The control steps still committed from a row on: none past them.
-fn rows_left(commit: ControlSteps, from: usize) -> ControlSteps
+pub fn rows_left(commit: ControlSteps, from: usize) -> ControlSteps
     ensures { λ r. ⌜ r .0 ≡ commit .0 - from ⌝ }
 {
     if (commit.0 as usize) <= from {

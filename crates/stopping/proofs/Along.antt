@@ -5,7 +5,7 @@ use mathlib.Core.List.{List}
 use Prim.Native.Nat.{ℕ, zero, suc, _+_, _≤_}
 use native.Mathlib.Numerals.{add-one}
 use lib.ListN.{length, set}
-use lib.Ieee.{Float, Format}
+use lib.Ieee.{Float, Format, inf}
 use Rattle.fmath.specs.Least.{lesser}
 use Rattle.fmath.proofs.Each.{_&&≡_, and-left}
 use Rattle.fmath.proofs.Told.{implied}
@@ -17,7 +17,7 @@ use Rattle.rollout.specs.declared.Run.{Run}
 use Rattle.rollout.specs.Plant.{State}
 use Rattle.rollout.specs.Forecast.{fine, slackAt}
 use Rattle.rollout.specs.Of.{stateOf}
-use Rattle.rollout.proofs.Along.{stands-at, along-fails, along-advances}
+use Rattle.rollout.proofs.Along.{stands-at, along-fails, along-advances, along-start}
 use Rattle.stopping.specs.declared.Reckoned.{Reckoned}
 use Rattle.stopping.specs.declared.Stepped.{Stepped}
 use Rattle.stopping.specs.Rule.{Task, rowAt, radius, command, step, reaction, gain, radiusAt, commandAt, stepAt, after, stand, entry, forecast}
@@ -76,3 +76,31 @@ module _
       → Along f t l (suc k + 1) (record { plant = record { p = next .p; v = v }; margin = m; done = r .done + 1; sound = true }) (set out (r .done) (d .least))
   turn-advances b m c =
       along-advances (forecast f t) (stand f t) l (suc k) r out h s (fine-is ∙ b) (record { p = next .p; v = v }) next-is (d .least) slack-is m c
+
+-- the start's entry, from what the code computes of it
+module _
+    (f : Format) (t : Task) (l : List Float) (q : Plant) (eq : stateOf q ≡ t .start) (g : Reckoned) (eg : reckonedFrom (gain f t) ≡ g) (wait : Reckoned) (ew : reckonedFrom (reaction f t) ≡ wait)
+    (reach : Reckoned) (er : reach ≡ reckonedFrom (radius f (t .arm .brake) (t .arm .«a_max») (t .arm .«j_max») (wait .value) (q .v) (t .n)))
+    (d : Distance) (ed : d ≡ distanceFrom (slackWithin f (t .walls) (reach .value) (q .p) (t .n))) where
+  abbrev first : Run
+  first = record { plant = q; margin = inf false; done = 0; sound = true }
+
+  at-start : Along f t l 0 first l
+  unfolding stand
+  at-start = along-start (forecast f t) (stand f t) l q eq
+
+  start-fine : fine (forecast f t) 0 ≡ wait .sound && (g .sound && (reach .sound && d .sound))
+  unfolding entry
+  start-fine = rw (ed, er, ← ew, ← eg) (ap (λ (s : State). reaction f t .sound && (gain f t .sound && (radiusAt f t (s .v) .sound && slackWithin f (t .walls) (radiusAt f t (s .v) .value) (s .p) (t .n) .sound))) (sym eq))
+
+  start-slack : d .least ≡ slackAt (forecast f t) 0
+  unfolding entry
+  start-slack = rw (ed, er, ← ew) (ap (λ (s : State). slackWithin f (t .walls) (radiusAt f t (s .v) .value) (s .p) (t .n) .value) eq)
+
+  pub start-fails : wait .sound && (g .sound && (reach .sound && d .sound)) ≡ false → Along f t l 1 (record { plant = q; margin = inf false; done = 0; sound = false }) l
+  start-fails b = along-fails (forecast f t) (stand f t) l 0 first l at-start refl (start-fine ∙ b)
+
+  pub start-enters : wait .sound && (g .sound && (reach .sound && d .sound)) ≡ true → (m : Float) → m ≡ lesser (inf false) (d .least)
+      → Along f t l 1 (record { plant = q; margin = m; done = 1; sound = true }) (set l 0 (d .least))
+  unfolding stand after
+  start-enters b m c = along-advances (forecast f t) (stand f t) l 0 first l at-start refl (start-fine ∙ b) q eq (d .least) start-slack m c

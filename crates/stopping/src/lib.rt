@@ -2,13 +2,16 @@
 ghost use mathlib.Core.Path.{_≡_};
 ghost use mathlib.Core.Bool.{true};
 ghost use mathlib.Core.List.{List};
-ghost use Prim.Native.Nat.{ℕ, suc, _+_, _≤_, _<_};
+ghost use Prim.Native.Nat.{ℕ, suc, _+_, _-_, _*_, _≤_, _<_};
 ghost use lib.ListN.{length};
-ghost use lib.Ieee.{Float, binary64};
-ghost use Rattle.stopping.specs.Rule.{ratio, ramp, ease, glide, radius, commanded, command, step, rowAt};
-ghost use Rattle.stopping.specs.Of.{reckonedFrom, steppedFrom, sumOf, taskOf, Along, Under};
-ghost use Rattle.fmath.specs.Checked.{divided};
-ghost use Rattle.rollout.specs.Of.{stateOf};
+ghost use lib.IntN.{pos};
+ghost use lib.Ieee.{Float, binary64, ofInt};
+ghost use Rattle.refusal.specs.Order.{if_then_else_};
+ghost use Rattle.stopping.specs.Rule.{ratio, ramp, ease, glide, radius, commanded, command, step, rowAt, gain, reaction, stand, forecast};
+ghost use Rattle.stopping.specs.Of.{reckonedFrom, steppedFrom, sumOf, taskOf, Along, Under, roomy};
+ghost use Rattle.fmath.specs.Checked.{times, divided};
+ghost use Rattle.rollout.specs.Forecast.{writtenOf};
+ghost use Rattle.rollout.specs.Of.{stateOf, runOf, noRun};
 ghost use Rattle.rollout.specs.declared.Plant.{Plant};
 use envelope::ActionKind;
 use envelope::BrakeKind;
@@ -202,4 +205,113 @@ fn row(
         done: at + 1,
         sound: true,
     }
+}
+
+// The committed rows, one after the other.
+fn follow(
+    arm: Arm,
+    w: Workspace,
+    c: Course,
+    g: f64,
+    wait: f64,
+    rows: &[f64],
+    run: Run,
+    slack: &mut [f64],
+) -> Run
+    requires { ⌜ (c .live ≤ 8) × (c .live ≤ c .dim) × (1 ≤ c .horizon) × (length (now rows) ≡ c .horizon * c .dim) × (run .done + (c .commit .0 - c .from) ≤ length (now slack)) ⌝ }
+    ensures { λ r. ⌜ (r .done ≤ run .done + (c .commit .0 - c .from)) × ((react : ℕ) (s : Plant) (l : List Float) → Under binary64 (taskOf arm react w c s (now (rows .entry))) g wait → Along binary64 (taskOf arm react w c s (now (rows .entry))) l 1 run (now (slack .entry)) → Along binary64 (taskOf arm react w c s (now (rows .entry))) l (suc (c .commit .0 - c .from)) r (now (slack .exit))) ⌝ }
+{
+    let left = rollout::rows_left(c.commit, c.from).0 as usize;
+    let mut r = run;
+    let mut i = 0;
+    while i < left {
+        let a = chunk::action(rows, c.horizon, c.dim, c.from + i);
+        let next = row(arm, w, c, g, wait, a, r, slack);
+        r = next;
+        i += 1;
+    }
+    r
+}
+
+// A run that has written the start's entry, unless a number on the way to it isn't finite.
+fn begin(
+    arm: Arm,
+    w: Workspace,
+    c: Course,
+    g: Reckoned,
+    wait: Reckoned,
+    start: Plant,
+    slack: &mut [f64],
+) -> Run
+    requires { ⌜ (c .live ≤ 8) × (1 ≤ length (now slack)) ⌝ }
+    ensures { λ r. ⌜ (r .done ≤ 1) × ((react : ℕ) (rows : List Float) → reckonedFrom (gain binary64 (taskOf arm react w c start rows)) ≡ g → reckonedFrom (reaction binary64 (taskOf arm react w c start rows)) ≡ wait → Along binary64 (taskOf arm react w c start rows) (now (slack .entry)) 1 r (now (slack .exit))) ⌝ }
+{
+    let inf = 1.0 / 0.0;
+    let n = c.live;
+    let p = start.p;
+    let v = start.v;
+    let r = radius(arm, wait.value, v, n);
+    let gap = workspace::slack_within(w, r.value, p, n);
+    if !(wait.sound & (g.sound & (r.sound & gap.sound))) {
+        return Run {
+            plant: start,
+            margin: inf,
+            done: 0,
+            sound: false,
+        };
+    }
+    slack[0] = gap.least;
+    let margin = fmath::min(inf, gap.least);
+    Run {
+        plant: start,
+        margin,
+        done: 1,
+        sound: true,
+    }
+}
+
+// The time before braking starts.
+fn reaction(react: u16, dt: f64) -> Reckoned
+    ensures { λ r. ⌜ r ≡ reckonedFrom (times binary64 (ofInt binary64 (pos react)) dt) ⌝ }
+{
+    let value = (react as f64) * dt;
+    let sound = fmath::finite(value);
+    Reckoned { value, sound }
+}
+
+fn roomy(c: Course, len: usize, room: usize) -> bool
+    ensures { λ r. ⌜ r ≡ roomy c len room ⌝ }
+{
+    let left = rollout::rows_left(c.commit, c.from).0 as usize;
+    let shape = (c.horizon as usize) * (c.dim as usize);
+    (c.live <= 8) & (c.live <= c.dim as usize) & (1 <= c.horizon) & (len == shape) & (left < room)
+}
+
+// The whole run, its slacks written in order up to the first number that isn't finite; none where the course has no room.
+pub fn stopping(
+    arm: Arm,
+    react: u16,
+    w: Workspace,
+    c: Course,
+    start: Plant,
+    rows: &[f64],
+    slack: &mut [f64],
+) -> Run
+    ensures { λ r. ⌜ r ≡ (if roomy c (length (now (rows .entry))) (length (now (slack .entry))) then runOf (forecast binary64 (taskOf arm react w c start (now (rows .entry)))) (stand binary64 (taskOf arm react w c start (now (rows .entry)))) else noRun start) ⌝ }
+    ensures { λ r. ⌜ now (slack .exit) ≡ (if roomy c (length (now (rows .entry))) (length (now (slack .entry))) then writtenOf (forecast binary64 (taskOf arm react w c start (now (rows .entry)))) (now (slack .entry)) else now (slack .entry)) ⌝ }
+{
+    let inf = 1.0 / 0.0;
+    if !roomy(c, rows.len(), slack.len()) {
+        return Run {
+            plant: start,
+            margin: inf,
+            done: 0,
+            sound: false,
+        };
+    }
+    let brake = arm.brake;
+    let g = ratio(brake);
+    let wait = reaction(react, arm.dt);
+    let first = begin(arm, w, c, g, wait, start, slack);
+    follow(arm, w, c, g.value, wait.value, rows, first, slack)
 }

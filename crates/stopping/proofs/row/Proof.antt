@@ -49,7 +49,7 @@ returns-2 c = (
 )
 
 mul-slack : tie.Need-mul-slack
-mul-slack c = let s = c .before .before .before .before .before .before .before .before .before .before .before .before .before .before .before in let y = c .before .before .before .before .before .before .before .before .before .before .before .before .before .slice-known .given in ?
+mul-slack c = let s = c .before .before .before .before .before .before .before .before .before .before .before .before .before .before .before in let y = c .before .before .before .before .before .before .before .before .before .before .before .before .before .slice-known .given in search needs
 
 slice-write-slack : tie.Need-slice-write-slack
 slice-write-slack c = search needs
@@ -58,7 +58,7 @@ min-requires : tie.Need-min-requires
 min-requires c κs = search needs
 
 add-t22 : tie.Need-add-t22
-add-t22 c = let s = c .before .before .before .before .before .before .before .before .before .before .before .before .before .before .before .before in let y = c .before .before .before .before .before .before .before .before .before .before .before .before .before .before .slice-known .given in ?
+add-t22 c = let s = c .before .before .before .before .before .before .before .before .before .before .before .before .before .before .before .before in let y = c .before .before .before .before .before .before .before .before .before .before .before .before .before .before .slice-known .given in search needs
 
 same-length : tie.Need-same-length
 same-length c = search needs
