@@ -1,3 +1,4 @@
 pub mod Told
 pub mod Loops
 pub mod Along
+pub mod Room

@@ -1,9 +1,9 @@
 -- The rules at the declared structs.
-use Prim.Native.Nat.{ℕ, suc, _+_, _-_, _*_}
+use Prim.Native.Nat.{ℕ, _-_, _*_}
 use mathlib.Core.Path.{_≡_}
 use mathlib.Core.Bool.{Bool, true, _&&_}
 use mathlib.Core.List.{List, [], _∷_}
-use lib.Dec.{leb, eqb}
+use lib.Dec.{leb, ltb, eqb}
 use lib.Ieee.{Float, Format, add}
 use Rattle.fmath.specs.Each.{every}
 use Rattle.envelope.specs.declared.ControlSteps.{ControlSteps}
@@ -58,4 +58,4 @@ unfoldable pub roomy : Course → ℕ → ℕ → Bool
 roomy c len room =
     every
     (leb (c .live) 8 ∷ leb (c .live) (c .dim) ∷ leb 1 (c .horizon) ∷ eqb len (c .horizon * c .dim)
-    ∷ leb (suc (c .commit .0 - c .from)) room ∷ [])
+    ∷ ltb (c .commit .0 - c .from) room ∷ [])

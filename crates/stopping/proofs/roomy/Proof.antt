@@ -1,37 +1,35 @@
+-- `stopping::roomy` meets its contract: its tests are the definition's.
+use Prim.Native.Nat.{ℕ, _+_, _*_}
+use mathlib.Core.Path.{_≡_}
+use native.Mathlib.Omega.{arith}
 use borrow.Author.Needs.{needs}
+use Rattle.fmath.specs.Each.{every}
+use Rattle.chunk.proofs.Rows.{place-small}
+use Rattle.stopping.specs.Of.{roomy}
 use Rattle.stopping.proofs.roomy.Statement.{statement}
 use Rattle.stopping.proofs.roomy.Tie as tie
-use Rattle.stopping.proofs.roomy.Reads as reads
-use Rattle.stopping.proofs.roomy.Lts as lts
-use Rattle.rollout.proofs.rows_left.Reads as rows-left-reads
 
--- src/lib.rt:285:16
 rows-left-requires : tie.Need-rows-left-requires
 rows-left-requires c κs = search needs
 
--- src/lib.rt:285:16
 cast-left : tie.Need-cast-left
 cast-left c = search needs
 
--- src/lib.rt:286:18
 cast-shape : tie.Need-cast-shape
 cast-shape c = search needs
 
--- src/lib.rt:286:41
 cast-shape-2 : tie.Need-cast-shape-2
 cast-shape-2 c = search needs
 
--- src/lib.rt:286:17
 mul-shape : tie.Need-mul-shape
-mul-shape c = ?
+mul-shape c = let s = c .before .before .before .before in omega (arith, place-small {k = s .args .c .horizon} {d = s .args .c .dim} (omega (arith, s .good .0)) (omega (arith, s .good .0)))
 
--- src/lib.rt:287:32
 cast-result : tie.Need-cast-result
 cast-result c = search needs
 
--- src/lib.rt:282:1
 returns : tie.Need-returns
-returns c = ?
+unfolding roomy every
+returns c = rw (c .before .before .before .before .before .before .before .rows-left .ensures)
 
 pub roomy-spec : {M : Type 1} → statement M
 roomy-spec =
