@@ -1,16 +1,17 @@
 -- A value that tells: each number on the way is finite exactly where the last one is. Sums, products and roots of such values tell too, so
 -- one test at the end of a chain is enough.
 use mathlib.Core.Path.{_≡_, refl, sym, ap, _∙_}
-use mathlib.Core.Bool.{Bool, true, false, _&&_}
+use mathlib.Core.Bool.{Bool, true, false, _&&_, and-true}
 use mathlib.Core.List.{List}
-use Prim.Native.Nat.{ℕ, zero, suc}
-use lib.Ieee.{Float, Format, add, sub, mul}
-use Rattle.root.specs.Root.{rootOf}
+use Prim.Native.Nat.{ℕ, zero, suc, _+_}
+use native.Mathlib.Numerals.{add-one}
+use lib.ListN.{set}
+use lib.Ieee.{Float, Format, sub}
 use Rattle.fmath.specs.Each.{at}
 use Rattle.fmath.specs.Finite.{finite, +0}
-use Rattle.fmath.specs.Checked.{Checked, sumFrom}
+use Rattle.fmath.specs.Checked.{Checked, sumFrom, each}
 use Rattle.fmath.specs.Norm.{squareAt, norm, squaredGap, dist}
-use Rattle.fmath.proofs.Absorbing.{Fine, fine-add-left, fine-add-right, fine-sub-left, fine-sub-right, fine-mul-left, fine-mul-right, fine-root}
+use Rattle.fmath.proofs.Absorbing.{Fine, fine-add-left, fine-add-right, fine-mul-left, fine-root}
 
 abbrev pub Tells : Checked Float → Type 0
 Tells x = x .sound ≡ finite (x .value)
@@ -50,3 +51,13 @@ module _ (f : Format) where
   pub norm-tells : (v : List Float) (n : ℕ) → Tells (norm f v n)
   unfolding norm finite
   norm-tells v n = told _ _ _ (sum-tells +0 (squareAt f v) refl (square-tells v) n) (fine-root f (sumFrom f +0 (squareAt f v) n .value))
+
+-- one turn of a loop that puts a number over each coordinate: one test of the number that it puts there is enough
+module _ (g : ℕ → Checked Float) (l : List Float) (i : ℕ) where
+  pub each-value : (r : List Float) (x : Float) → r ≡ each g l i .value → x ≡ g i .value → set r i x ≡ each g l (i + 1) .value
+  unfolding each
+  each-value r x e h = rw (add-one, e, h)
+
+  pub each-sound : (ok k : Bool) (x : Float) → ok ≡ each g l i .sound → k ≡ finite x → x ≡ g i .value → Tells (g i) → (ok && k) ≡ each g l (i + 1) .sound
+  unfolding each
+  each-sound ok k x e p h t = rw (add-one, e, p, h, and-true, t)

@@ -22,21 +22,21 @@ use Rattle.rollout.specs.declared.Run.{Run}
 use Rattle.rollout.specs.Plant.{Gains, State, substep}
 use Rattle.rollout.specs.Forecast.{Forecast, fine, slackAt, reach, writtenOf}
 use Rattle.rollout.specs.Rule.{Task, total, aim, after, entry, forecast}
-use Rattle.rollout.specs.Of.{gainsOf, stateOf, plantFrom, Along, Towards, Under, runOf}
+use Rattle.rollout.specs.Of.{gainsOf, stateOf, plantFrom, Ran, Along, Towards, Under, runOf}
 use Rattle.rollout.proofs.Told.{slack-tells}
 use Rattle.rollout.proofs.Reach.{all-next, reach-whole, reach-more, reach-stays}
 
-module _ (f : Format) (t : Task) (l : List Float) (k : ℕ) (r : Run) (out : List Float) (h : Along f t l k r out) where
+module _ (t : Forecast) (stand : ℕ → State) (l : List Float) (k : ℕ) (r : Run) (out : List Float) (h : Ran t stand l k r out) where
   abbrev ok : ℕ → Bool
-  ok = fine (forecast f t)
+  ok = fine t
 
   abbrev slacks : ℕ → Float
-  slacks = slackAt (forecast f t)
+  slacks = slackAt t
 
   stopped-all : r .sound ≡ false → all ok (k + 1) ≡ false
   stopped-all s = all-next ok k ∙ ap (λ (b : Bool). b && ok k) (sym (h .whole) ∙ s)
 
-  pub along-stopped : r .sound ≡ false → Along f t l (k + 1) r out
+  pub along-stopped : r .sound ≡ false → Ran t stand l (k + 1) r out
   along-stopped s = record {
     written = h .written ∙ sym (reach-stays ok k (stopped-all s));
     whole = s ∙ sym (stopped-all s);
@@ -56,7 +56,7 @@ module _ (f : Format) (t : Task) (l : List Float) (k : ℕ) (r : Run) (out : Lis
     next-all : (b : Bool) → ok k ≡ b → all ok (k + 1) ≡ b
     next-all b e = all-next ok k ∙ (whole-so-far &&≡ e)
 
-    pub along-fails : ok k ≡ false → Along f t l (k + 1) (record { plant = r .plant; margin = r .margin; done = r .done; sound = false }) out
+    pub along-fails : ok k ≡ false → Ran t stand l (k + 1) (record { plant = r .plant; margin = r .margin; done = r .done; sound = false }) out
     along-fails e = record {
       written = h .written ∙ sym (reach-stays ok k (next-all false e));
       whole = sym (next-all false e);
@@ -65,19 +65,19 @@ module _ (f : Format) (t : Task) (l : List Float) (k : ℕ) (r : Run) (out : Lis
       entries = h .entries;
     }
 
-    pub along-advances : ok k ≡ true → (next : Plant) → stateOf next ≡ after f t (k + 1) → (x : Float) → x ≡ slacks k → (m : Float) → m ≡ lesser (r .margin) x
-        → Along f t l (k + 1) (record { plant = next; margin = m; done = r .done + 1; sound = true }) (set out (r .done) x)
+    pub along-advances : ok k ≡ true → (next : Plant) → stateOf next ≡ stand (k + 1) → (x : Float) → x ≡ slacks k → (m : Float) → m ≡ lesser (r .margin) x
+        → Ran t stand l (k + 1) (record { plant = next; margin = m; done = r .done + 1; sound = true }) (set out (r .done) x)
     along-advances e next n x v m w = record {
       written = ap (λ (d : ℕ). d + 1) done-is ∙ sym (reach-more ok k (next-all true e));
       whole = sym (next-all true e);
-      stands = n ∙ ap (λ (d : ℕ). after f t (d + 1)) (sym done-is);
+      stands = n ∙ ap (λ (d : ℕ). stand (d + 1)) (sym done-is);
       least = w ∙ least-more slacks (r .done) (r .margin) x (h .least) (v ∙ ap slacks (sym done-is));
       entries = over-more slacks l out (r .done) x (h .entries) (v ∙ ap slacks (sym done-is));
     }
 
     -- the plant that the next substep starts from
-    pub stands-at : stateOf (r .plant) ≡ after f t k
-    stands-at = h .stands ∙ ap (after f t) done-is
+    pub stands-at : stateOf (r .plant) ≡ stand k
+    stands-at = h .stands ∙ ap stand done-is
 
 -- the next substep, where the run goes towards a from where it stands
 module _ (f : Format) (t : Task) (k : ℕ) (a : List Float) (s : State) (aims : aim f t k ≡ a) (from : s ≡ after f t k) where
@@ -103,7 +103,7 @@ module _
   aims = ap (aim f t) (sym (add-zero k)) ∙ go s 0 (omega arith)
 
   from : stateOf (r .plant) ≡ after f t k
-  from = stands-at f t l k r out h s
+  from = stands-at (forecast f t) (after f t) l k r out h s
 
   stepped : stateOf next ≡ substep f (t .gains) a (t .n) (stateOf (r .plant)) .value
   stepped = e ∙ sym (ap (λ (x : Gains). substep f x a (t .n) (stateOf (r .plant)) .value) (u .gains) ∙ ap (λ (x : ℕ). substep f (gainsOf g) a x (stateOf (r .plant)) .value) (u .live))
@@ -121,11 +121,11 @@ module _
   fine-is = ap (λ (x : Distance). x .sound) distance-is ∙ next-fine f t k a (stateOf (r .plant)) aims from (rw (u .live) axes)
 
   pub turn-fails : d .sound ≡ false → Along f t l (k + 1) (record { plant = r .plant; margin = r .margin; done = r .done; sound = false }) out
-  turn-fails b = along-fails f t l k r out h s (sym fine-is ∙ b)
+  turn-fails b = along-fails (forecast f t) (after f t) l k r out h s (sym fine-is ∙ b)
 
   pub turn-advances : d .sound ≡ true → (m : Float) → m ≡ lesser (r .margin) (d .least) → Along f t l (k + 1) (record { plant = next; margin = m; done = r .done + 1; sound = true }) (set out (r .done) (d .least))
   turn-advances b m c =
-      along-advances f t l k r out h s (sym fine-is ∙ b) next (stepped ∙ next-state f t k a (stateOf (r .plant)) aims from) (d .least)
+      along-advances (forecast f t) (after f t) l k r out h s (sym fine-is ∙ b) next (stepped ∙ next-state f t k a (stateOf (r .plant)) aims from) (d .least)
       (ap (λ (x : Distance). x .least) distance-is ∙ next-slack f t k a (stateOf (r .plant)) aims from) m c
 
 -- a run that still goes did so before, so it goes towards the setpoint that it was given
@@ -136,30 +136,30 @@ towards-next f t l k count i a r₀ r out₀ out h₀ go h b s j c =
     let all₀ : all ok k ≡ true = all-from ok k (λ m d. all-at ok (k + i) (sym (h .whole) ∙ s) m (omega arith)) in
     ap (aim f t) (add-assoc k i j) ∙ go (h₀ .whole ∙ all₀) (i + j) (omega arith)
 
-module _ (f : Format) (t : Task) (l : List Float) (k : ℕ) (r : Run) (out : List Float) where
-  pub along-zero : Along f t l k r out → Along f t l (k + 0) r out
-  along-zero h = subst (λ (m : ℕ). Along f t l m r out) (sym (add-zero k)) h
+module _ (t : Forecast) (stand : ℕ → State) (l : List Float) (k : ℕ) (r : Run) (out : List Float) where
+  pub along-zero : Ran t stand l k r out → Ran t stand l (k + 0) r out
+  along-zero h = subst (λ (m : ℕ). Ran t stand l m r out) (sym (add-zero k)) h
 
-  pub along-sum : (i j : ℕ) → Along f t l (k + i + j) r out → Along f t l (k + (i + j)) r out
-  along-sum i j h = subst (λ (m : ℕ). Along f t l m r out) (add-assoc k i j) h
+  pub along-sum : (i j : ℕ) → Ran t stand l (k + i + j) r out → Ran t stand l (k + (i + j)) r out
+  along-sum i j h = subst (λ (m : ℕ). Ran t stand l m r out) (add-assoc k i j) h
 
-  pub along-at : (m : ℕ) → m ≡ k → Along f t l m r out → Along f t l k r out
-  along-at m e h = subst (λ (m : ℕ). Along f t l m r out) e h
+  pub along-at : (m : ℕ) → m ≡ k → Ran t stand l m r out → Ran t stand l k r out
+  along-at m e h = subst (λ (m : ℕ). Ran t stand l m r out) e h
 
 -- ---- the start and the end of a run
 
-pub along-start : (f : Format) (t : Task) (l : List Float) (s : Plant) → stateOf s ≡ t .start → Along f t l 0 (record { plant = s; margin = inf false; done = 0; sound = true }) l
-unfolding reach all least over after
-along-start f t l s e = record { written = refl; whole = refl; stands = e; least = refl; entries = refl }
+module _ (t : Forecast) (stand : ℕ → State) (l : List Float) where
+  pub along-start : (s : Plant) → stateOf s ≡ stand 0 → Ran t stand l 0 (record { plant = s; margin = inf false; done = 0; sound = true }) l
+  unfolding reach all least over
+  along-start s e = record { written = refl; whole = refl; stands = e; least = refl; entries = refl }
 
-module _ (f : Format) (t : Task) (l : List Float) (r : Run) (out : List Float) (h : Along f t l (total t) r out) where
-  pub run-is : r ≡ runOf f t
-  run-is =
-      same r (runOf f t) (ap plantFrom (h .stands) ∙ ap (λ (d : ℕ). plantFrom (after f t d)) (h .written)) (h .least ∙ ap (least (slackAt (forecast f t))) (h .written)) (h .written) (h .whole)
-    where
-      same : (r q : Run) → r .plant ≡ q .plant → r .margin ≡ q .margin → r .done ≡ q .done → r .sound ≡ q .sound → r ≡ q
-      same r q a b c d = λ i. record { plant = a i; margin = b i; done = c i; sound = d i }
+  module _ (r : Run) (out : List Float) (h : Ran t stand l (t .count) r out) where
+    pub run-is : r ≡ runOf t stand
+    run-is = same r (runOf t stand) (ap plantFrom (h .stands) ∙ ap (λ (d : ℕ). plantFrom (stand d)) (h .written)) (h .least ∙ ap (least (slackAt t)) (h .written)) (h .written) (h .whole)
+      where
+        same : (r q : Run) → r .plant ≡ q .plant → r .margin ≡ q .margin → r .done ≡ q .done → r .sound ≡ q .sound → r ≡ q
+        same r q a b c d = λ i. record { plant = a i; margin = b i; done = c i; sound = d i }
 
-  pub written-is : out ≡ writtenOf (forecast f t) l
-  unfolding writtenOf
-  written-is = h .entries ∙ ap (over (slackAt (forecast f t)) l) (h .written)
+    pub written-is : out ≡ writtenOf t l
+    unfolding writtenOf
+    written-is = h .entries ∙ ap (over (slackAt t) l) (h .written)

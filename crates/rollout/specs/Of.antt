@@ -48,13 +48,17 @@ taskOf g w c s rows = record {
   per = c .per .0;
 }
 
--- The run has come along k entries of a forecast: it has written those before the first that isn't finite, and stands after the last written.
-pub record Along (f : Format) (t : Task) (l : List Float) (k : ℕ) (r : Run) (out : List Float) : Type 0 where
-  pub written : r .done ≡ reach (fine (forecast f t)) k
-  pub whole : r .sound ≡ all (fine (forecast f t)) k
-  pub stands : stateOf (r .plant) ≡ after f t (r .done)
-  pub least : r .margin ≡ least (slackAt (forecast f t)) (r .done)
-  pub entries : out ≡ over (slackAt (forecast f t)) l (r .done)
+-- A run has come along k entries of a forecast: it has written those before the first that isn't finite, and stands after the last written.
+pub record Ran (t : Forecast) (stand : ℕ → State) (l : List Float) (k : ℕ) (r : Run) (out : List Float) : Type 0 where
+  pub written : r .done ≡ reach (fine t) k
+  pub whole : r .sound ≡ all (fine t) k
+  pub stands : stateOf (r .plant) ≡ stand (r .done)
+  pub least : r .margin ≡ least (slackAt t) (r .done)
+  pub entries : out ≡ over (slackAt t) l (r .done)
+
+-- .. of the second-order brake
+abbrev pub Along : Format → Task → List Float → ℕ → Run → List Float → Type 0
+Along f t l k r out = Ran (forecast f t) (after f t) l k r out
 
 -- .. goes towards one setpoint for some substeps more, if it still runs
 abbrev pub Towards : Format → Task → ℕ → ℕ → List Float → Run → Type 0
@@ -77,11 +81,11 @@ roomy c len room =
 abbrev pub noRun : Plant → Run
 noRun s = record { plant = s; margin = inf false; done = 0; sound = false }
 
--- the whole run
-abbrev pub runOf : Format → Task → Run
-runOf f t = record {
-  plant = plantFrom (after f t (reached (forecast f t)));
-  margin = least (slackAt (forecast f t)) (reached (forecast f t));
-  done = reached (forecast f t);
-  sound = all (fine (forecast f t)) (total t);
+-- the whole run of a forecast, with where the plant stands after so many entries
+abbrev pub runOf : Forecast → (ℕ → State) → Run
+runOf t stand = record {
+  plant = plantFrom (stand (reached t));
+  margin = least (slackAt t) (reached t);
+  done = reached t;
+  sound = all (fine t) (t .count);
 }

@@ -8,7 +8,7 @@ ghost use lib.Ieee.{Float, binary64};
 ghost use Rattle.refusal.specs.Order.{if_then_else_};
 ghost use Rattle.rollout.specs.Plant.{axis, substep};
 ghost use Rattle.rollout.specs.Forecast.{writtenOf};
-ghost use Rattle.rollout.specs.Rule.{Task, forecast};
+ghost use Rattle.rollout.specs.Rule.{Task, after, forecast};
 ghost use Rattle.rollout.specs.declared.Plant.{Plant};
 ghost use Rattle.rollout.specs.Of.{gainsOf, stateOf, movedFrom, taskOf, Along, Towards, Under, roomy, noRun, runOf};
 use envelope::ControlSteps;
@@ -127,7 +127,7 @@ fn hold(g: Law, w: Workspace, n: usize, a: &[f64], count: usize, run: Run, slack
 }
 
 // The control steps still committed from a row on: none past them.
-fn rows_left(commit: ControlSteps, from: usize) -> ControlSteps
+pub fn rows_left(commit: ControlSteps, from: usize) -> ControlSteps
     ensures { λ r. ⌜ r .0 ≡ commit .0 - from ⌝ }
 {
     if (commit.0 as usize) <= from {
@@ -176,7 +176,7 @@ pub fn rollout(
     rows: &[f64],
     slack: &mut [f64],
 ) -> Run
-    ensures { λ r. ⌜ r ≡ (if roomy c (length (now (rows .entry))) (length (now (slack .entry))) then runOf binary64 (taskOf g w c start (now (rows .entry))) else noRun start) ⌝ }
+    ensures { λ r. ⌜ r ≡ (if roomy c (length (now (rows .entry))) (length (now (slack .entry))) then runOf (forecast binary64 (taskOf g w c start (now (rows .entry)))) (after binary64 (taskOf g w c start (now (rows .entry)))) else noRun start) ⌝ }
     ensures { λ r. ⌜ now (slack .exit) ≡ (if roomy c (length (now (rows .entry))) (length (now (slack .entry))) then writtenOf (forecast binary64 (taskOf g w c start (now (rows .entry)))) (now (slack .entry)) else now (slack .entry)) ⌝ }
 {
     let inf = 1.0 / 0.0;

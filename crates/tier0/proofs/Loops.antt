@@ -1,7 +1,7 @@
 -- One turn of each loop over the coordinates, on plain values; and that a coordinate pulled towards another tells whether its numbers are finite.
 use Prim.Native.Nat.{ℕ, _+_, _*_, _^_, _≤_, _<_}
 use mathlib.Core.Path.{_≡_, refl, ap, _∙_}
-use mathlib.Core.Bool.{Bool, true, false, _&&_, and-true}
+use mathlib.Core.Bool.{Bool, true, false, _&&_}
 use mathlib.Core.List.{List}
 use native.Mathlib.Numerals.{add-one}
 use native.Mathlib.Nat.{pow-suc, pow-le-pow-right}
@@ -10,21 +10,11 @@ use lib.ListN.{set, replicate}
 use lib.Ieee.{Float, Format, sub, mul, ne}
 use Rattle.fmath.specs.Each.{at}
 use Rattle.fmath.specs.Finite.{finite, +0}
-use Rattle.fmath.specs.Checked.{Checked, each}
+use Rattle.fmath.specs.Checked.{each}
 use Rattle.fmath.proofs.Absorbing.{fine-add-right, fine-mul-left}
 use Rattle.fmath.proofs.Each.{over-more}
 use Rattle.fmath.proofs.Told.{Tells, implied}
 use Rattle.tier0.specs.Rule.{toward, held, moved, bit}
-
-module _ (g : ℕ → Checked Float) (l : List Float) (i : ℕ) where
-  pub each-value : (r : List Float) (x : Float) → r ≡ each g l i .value → x ≡ g i .value → set r i x ≡ each g l (i + 1) .value
-  unfolding each
-  each-value r x e h = rw (add-one, e, h)
-
-  -- one test of the last number of each coordinate is enough
-  pub each-sound : (ok k : Bool) (x : Float) → ok ≡ each g l i .sound → k ≡ finite x → x ≡ g i .value → Tells (g i) → (ok && k) ≡ each g l (i + 1) .sound
-  unfolding each
-  each-sound ok k x e p h t = rw (add-one, e, p, h, and-true, t)
 
 pub held-turn : (a r : List Float) (i : ℕ) → r ≡ held a i → set r i (at a i) ≡ held a (i + 1)
 unfolding held

@@ -8,6 +8,7 @@ use borrow.Author.Tests.{not-true, not-false}
 use denote.Ref.{now}
 use lib.ListN.{length}
 use lib.Ieee.{binary64}
+use Rattle.rollout.specs.Rule.{after, forecast}
 use Rattle.rollout.proofs.Along.{along-stopped, turn-fails, turn-advances}
 use Rattle.rollout.proofs.advance.Statement.{statement}
 use Rattle.rollout.proofs.advance.Tie as tie
@@ -19,7 +20,7 @@ axes : (s : tie.Start) → s .args .n ≤ length (s .args .run .plant .p)
 axes s = omega (arith, long s, s .pre .0)
 
 returns : tie.Need-returns
-returns c = (omega arith, λ t l k u h go. along-stopped binary64 t l k _ _ h (not-true _ (c .if1 .taken)))
+returns c = (omega arith, λ t l k u h go. along-stopped (forecast binary64 t) (after binary64 t) l k _ _ h (not-true _ (c .if1 .taken)))
 
 substep-requires : tie.Need-substep-requires
 substep-requires c κs = search needs

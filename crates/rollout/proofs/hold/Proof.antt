@@ -7,7 +7,7 @@ use borrow.Author.Needs.{needs}
 use denote.Ref.{now}
 use lib.ListN.{length}
 use lib.Ieee.{Float, binary64}
-use Rattle.rollout.specs.Rule.{Task}
+use Rattle.rollout.specs.Rule.{Task, after, forecast}
 use Rattle.rollout.specs.Of.{Along, Towards, Under}
 use Rattle.rollout.proofs.Along.{towards-next, along-zero, along-sum, along-at}
 use Rattle.rollout.proofs.hold.Statement.{statement}
@@ -24,7 +24,7 @@ abbrev μ-loop : tie.MeasureT-loop
 μ-loop g w n a count slack₀ r₀ s₀ slack r s = count - s
 
 loop-holds : tie.Need-loop-holds Inv-loop μ-loop
-loop-holds c = (omega arith, (refl, (omega arith, λ t l k u h go. along-zero binary64 t l k _ _ h)))
+loop-holds c = (omega arith, (refl, (omega arith, λ t l k u h go. along-zero (forecast binary64 t) (after binary64 t) l k _ _ h)))
 
 advance-requires : tie.Need-advance-requires Inv-loop μ-loop
 advance-requires c κs = let s = c .before .before .before .before .before in (s .pre .0, s .pre .1, omega (arith, s .pre .2))
@@ -46,7 +46,7 @@ loop-again c =
         (
           omega (arith, call .ensures .0, i .inv .1 .1 .0),
           λ t l k u h go.
-              along-sum binary64 t l k _ _ (i .s) 1
+              along-sum (forecast binary64 t) (after binary64 t) l k _ _ (i .s) 1
               (call .ensures .1 t l (k + i .s) u (i .inv .1 .1 .1 t l k u h go) (towards-next binary64 t l k (s .args .count) (i .s) (now (s .args .a)) (s .args .run) (i .r) (now (s .args .slack)) (i .slack) h go (i .inv .1 .1 .1 t l k u h go) (omega arith))),
         ),
       ),
@@ -60,7 +60,7 @@ returns c =
     let s = c .before .before .before .before in
     let i = c .before .loop in
     let e : i .s ≡ s .args .count = omega arith in
-    (omega (arith, i .inv .1 .1 .0), λ t l k u h go. along-at binary64 t l (k + s .args .count) _ _ (k + i .s) (ap (λ (m : ℕ). k + m) e) (i .inv .1 .1 .1 t l k u h go))
+    (omega (arith, i .inv .1 .1 .0), λ t l k u h go. along-at (forecast binary64 t) (after binary64 t) l (k + s .args .count) _ _ (k + i .s) (ap (λ (m : ℕ). k + m) e) (i .inv .1 .1 .1 t l k u h go))
 
 pub hold-spec : {M : Type 1} → statement M
 hold-spec =

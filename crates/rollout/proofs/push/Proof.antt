@@ -10,7 +10,7 @@ use lib.ListN.{length}
 use lib.Ieee.{Float, binary64}
 use Rattle.chunk.proofs.Rows.{row-long}
 use Rattle.rollout.specs.declared.Plant.{Plant}
-use Rattle.rollout.specs.Rule.{Task}
+use Rattle.rollout.specs.Rule.{Task, after, forecast}
 use Rattle.rollout.specs.Of.{taskOf, Along, Towards, Under}
 use Rattle.rollout.proofs.Along.{along-at}
 use Rattle.rollout.proofs.Rows.{row-more, row-fits, aims-row}
@@ -50,7 +50,7 @@ loop-holds c =
             refl,
             (
               omega (arith, zero-mul (s .args .c .per .0)),
-              λ q l h. along-at binary64 (taskOf (s .args .g) (s .args .w) (s .args .c) q (now (s .args .rows))) l (0 * s .args .c .per .0) (s .args .run) (now (s .args .slack)) 0 (sym (zero-mul (s .args .c .per .0))) h,
+              λ q l h. along-at (forecast binary64 (taskOf (s .args .g) (s .args .w) (s .args .c) q (now (s .args .rows)))) (after binary64 (taskOf (s .args .g) (s .args .w) (s .args .c) q (now (s .args .rows)))) l (0 * s .args .c .per .0) (s .args .run) (now (s .args .slack)) 0 (sym (zero-mul (s .args .c .per .0))) h,
             ),
           ),
         ),
@@ -97,7 +97,7 @@ loop-again c =
               omega (arith, call .ensures .0, i .inv .1 .1 .1 .1 .0, row-more (i .i) per),
               λ q l h.
                   let t = taskOf (s .args .g) (s .args .w) (s .args .c) q (now (s .args .rows)) in
-                  along-at binary64 t l ((i .i + 1) * per) (call .result) _ (i .i * per + per) (sym (row-more (i .i) per))
+                  along-at (forecast binary64 t) (after binary64 t) l ((i .i + 1) * per) (call .result) _ (i .i * per + per) (sym (row-more (i .i) per))
                   (call .ensures .1 t l (i .i * per) (record { gains = refl; walls = refl; live = refl }) (i .inv .1 .1 .1 .1 .1 q l h)
                   (λ _ j b. aims-row binary64 t (i .i) j (still c) b ∙ sym (c .before .before .before .before .action .ensures))),
             ),
@@ -116,7 +116,7 @@ returns c =
     let per = s .args .c .per .0 in
     let e : i .i ≡ s .args .c .commit .0 - s .args .c .from = omega (arith, i .inv .1 .0) in
     let m : i .i * per ≡ (s .args .c .commit .0 - s .args .c .from) * per = ap (λ (x : ℕ). x * per) e in
-    (omega (arith, i .inv .1 .1 .1 .1 .0, m), λ q l h. along-at binary64 (taskOf (s .args .g) (s .args .w) (s .args .c) q (now (s .args .rows))) l ((s .args .c .commit .0 - s .args .c .from) * per) _ _ (i .i * per) m (i .inv .1 .1 .1 .1 .1 q l h))
+    (omega (arith, i .inv .1 .1 .1 .1 .0, m), λ q l h. along-at (forecast binary64 (taskOf (s .args .g) (s .args .w) (s .args .c) q (now (s .args .rows)))) (after binary64 (taskOf (s .args .g) (s .args .w) (s .args .c) q (now (s .args .rows)))) l ((s .args .c .commit .0 - s .args .c .from) * per) _ _ (i .i * per) m (i .inv .1 .1 .1 .1 .1 q l h))
 
 pub push-spec : {M : Type 1} → statement M
 push-spec =

@@ -13,7 +13,7 @@ use lib.Ieee.{Float, binary64, ofBits, div}
 use Rattle.workspace.specs.Rule.{inward}
 use Rattle.workspace.specs.Of.{wallsOf}
 use Rattle.rollout.specs.Plant.{State}
-use Rattle.rollout.specs.Rule.{Task, total}
+use Rattle.rollout.specs.Rule.{Task, total, after, forecast}
 use Rattle.rollout.specs.Of.{stateOf, taskOf, Along, Towards, roomy, runOf}
 use Rattle.rollout.proofs.Along.{along-start, along-at, stands-at, run-is, written-is}
 use Rattle.rollout.proofs.Room.{Room, room-of}
@@ -67,8 +67,8 @@ abbrev under-rows : tie.Start → ℕ
 under-rows s = (s .args .c .commit .0 - s .args .c .from) * s .args .c .per .0
 
 along-rows : (c : tie.After-push) → Along binary64 (task (c .before .before .before .before .before .before)) (now (c .before .before .before .before .before .before .args .slack)) (under-rows (c .before .before .before .before .before .before)) (c .push .result) (c .push .last .1 .1 .1 .1 .1 .0)
-unfolding ofBits div
-along-rows c = let s = c .before .before .before .before .before .before in c .push .ensures .1 (s .args .start) (now (s .args .slack)) (along-start binary64 (task s) (now (s .args .slack)) (s .args .start) refl)
+unfolding ofBits div after
+along-rows c = let s = c .before .before .before .before .before .before in c .push .ensures .1 (s .args .start) (now (s .args .slack)) (along-start (forecast binary64 (task s)) (after binary64 (task s)) (now (s .args .slack)) (s .args .start) refl)
 
 -- N
 whole : (s : tie.Start) → under-rows s + (0 + s .args .c .brake .0) * s .args .c .per .0 ≡ total (task s)
@@ -79,13 +79,13 @@ towards-setpoint : (c : tie.After-hold) → Towards binary64 (task (c .before .b
 towards-setpoint c e j b =
     let s = c .before .before .before .before .before .before .before .before .before .before .before .before .before .before .before in
     aims-setpoint binary64 (task s) (under-rows s + j) (omega arith)
-    ∙ ap (λ (q : State). inward (wallsOf (s .args .w)) (q .p) (s .args .c .live)) (sym (stands-at binary64 (task s) (now (s .args .slack)) (under-rows s) (c .before .before .before .before .before .before .before .before .before .push .result) (c .before .before .before .before .before .before .before .before .before .push .last .1 .1 .1 .1 .1 .0) (along-rows (c .before .before .before .before .before .before .before .before .before)) e))
+    ∙ ap (λ (q : State). inward (wallsOf (s .args .w)) (q .p) (s .args .c .live)) (sym (stands-at (forecast binary64 (task s)) (after binary64 (task s)) (now (s .args .slack)) (under-rows s) (c .before .before .before .before .before .before .before .before .before .push .result) (c .before .before .before .before .before .before .before .before .before .push .last .1 .1 .1 .1 .1 .0) (along-rows (c .before .before .before .before .before .before .before .before .before)) e))
     ∙ sym (c .before .before .before .before .inward .ensures)
 
 along-whole : (c : tie.After-hold) → Along binary64 (task (c .before .before .before .before .before .before .before .before .before .before .before .before .before .before .before)) (now (c .before .before .before .before .before .before .before .before .before .before .before .before .before .before .before .args .slack)) (total (task (c .before .before .before .before .before .before .before .before .before .before .before .before .before .before .before))) (c .hold .result) (c .hold .last .1 .1 .1 .1 .1 .1 .0)
 along-whole c =
     let s = c .before .before .before .before .before .before .before .before .before .before .before .before .before .before .before in
-    along-at binary64 (task s) (now (s .args .slack)) (total (task s)) (c .hold .result) (c .hold .last .1 .1 .1 .1 .1 .1 .0) (under-rows s + c .before .before .before .substeps-in .result)
+    along-at (forecast binary64 (task s)) (after binary64 (task s)) (now (s .args .slack)) (total (task s)) (c .hold .result) (c .hold .last .1 .1 .1 .1 .1 .1 .0) (under-rows s + c .before .before .before .substeps-in .result)
     (ap (λ (n : ℕ). under-rows s + n) (c .before .before .before .substeps-in .ensures) ∙ whole s)
     (c .hold .ensures .1 (task s) (now (s .args .slack)) (under-rows s) (record { gains = refl; walls = refl; live = refl }) (along-rows (c .before .before .before .before .before .before .before .before .before)) (towards-setpoint c))
 
@@ -93,7 +93,7 @@ returns-2 : tie.Need-returns-2
 returns-2 c =
     let s = c .before .before .before .before .before .before .before .before .before .before .before .before .before .before .before .before .before in
     let a = along-whole (c .before .before) in
-    rw (has-room (c .before .before .before .before .before .before .before .before .before .before .before .before .before)) (run-is binary64 (task s) (now (s .args .slack)) _ _ a, written-is binary64 (task s) (now (s .args .slack)) _ _ a)
+    rw (has-room (c .before .before .before .before .before .before .before .before .before .before .before .before .before)) (run-is (forecast binary64 (task s)) (after binary64 (task s)) (now (s .args .slack)) _ _ a, written-is (forecast binary64 (task s)) (after binary64 (task s)) (now (s .args .slack)) _ _ a)
 
 pub rollout-spec : {M : Type 1} → statement M
 rollout-spec = tie.close (tie.spec roomy-requires returns push-requires inward-requires substeps-in-requires slice-aggregate-hold hold-requires same-length returns-2)

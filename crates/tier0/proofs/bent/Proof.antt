@@ -10,8 +10,8 @@ use lib.Ieee.{binary64, ofBits}
 use Rattle.fmath.specs.Each.{at}
 use Rattle.fmath.specs.Finite.{+0}
 use Rattle.fmath.specs.Checked.{each}
+use Rattle.fmath.proofs.Told.{each-value, each-sound}
 use Rattle.tier0.specs.Chunk.{bend, bends}
-use Rattle.tier0.proofs.Loops.{each-value, each-sound}
 use Rattle.tier0.proofs.Rows.{bend-tells}
 use Rattle.tier0.proofs.Steps.{a-row}
 use Rattle.tier0.proofs.bent.Statement.{statement}

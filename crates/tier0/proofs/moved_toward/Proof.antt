@@ -8,8 +8,9 @@ use denote.Ref.{now}
 use lib.Ieee.{binary64}
 use Rattle.fmath.specs.Each.{at}
 use Rattle.fmath.specs.Checked.{each}
+use Rattle.fmath.proofs.Told.{each-value, each-sound}
 use Rattle.tier0.specs.Rule.{toward, towards}
-use Rattle.tier0.proofs.Loops.{each-value, each-sound, toward-tells}
+use Rattle.tier0.proofs.Loops.{toward-tells}
 use Rattle.tier0.proofs.Steps.{a-row}
 use Rattle.tier0.proofs.moved_toward.Statement.{statement}
 use Rattle.tier0.proofs.moved_toward.Tie as tie

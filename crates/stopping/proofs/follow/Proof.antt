@@ -1,0 +1,105 @@
+-- `stopping::follow` meets its contract: the loop takes one row a turn.
+use Prim.Native.Nat.{ℕ, suc, _+_, _-_, _≤_}
+use mathlib.Core.Path.{_≡_, refl, sym, ap, _∙_}
+use mathlib.Core.List.{List}
+use native.Mathlib.Omega.{arith}
+use borrow.Author.Needs.{needs}
+use denote.Ref.{now}
+use lib.ListN.{length}
+use lib.Ieee.{Float, binary64}
+use Rattle.chunk.proofs.Rows.{row-long}
+use Rattle.rollout.specs.declared.Plant.{Plant}
+use Rattle.rollout.proofs.Along.{along-at}
+use Rattle.stopping.specs.Rule.{stand, forecast}
+use Rattle.stopping.specs.Of.{taskOf, Along, Under}
+use Rattle.stopping.proofs.follow.Statement.{statement}
+use Rattle.stopping.proofs.follow.Tie as tie
+
+abbrev Inv-loop : tie.InvT-loop
+Inv-loop arm w c g wait rows slack₀ left r₀ i₀ slack r i =
+    (i ≤ left)
+    × ((left ≡ c .commit .0 - c .from)
+    × ((length slack ≡ length slack₀)
+    × ((r .done ≤ r₀ .done + i)
+    × ((react : ℕ) (s : Plant) (l : List Float) → Under binary64 (taskOf arm react w c s rows) g wait → Along binary64 (taskOf arm react w c s rows) l 1 r₀ slack₀ → Along binary64 (taskOf arm react w c s rows) l (suc i) r slack))))
+
+abbrev μ-loop : tie.MeasureT-loop
+μ-loop arm w c g wait rows slack₀ left r₀ i₀ slack r i = left - i
+
+rows-left-requires : tie.Need-rows-left-requires Inv-loop μ-loop
+rows-left-requires c κs = search needs
+
+cast-left : tie.Need-cast-left Inv-loop μ-loop
+cast-left c = search needs
+
+loop-holds : tie.Need-loop-holds Inv-loop μ-loop
+loop-holds c = (omega arith, (c .before .rows-left .ensures, (refl, (omega arith, λ react q l u h. h))))
+
+add-action : tie.Need-add-action Inv-loop μ-loop
+add-action c = let i = c .before .before .loop in omega (arith, i .inv .1 .0, c .before .loop-test .taken, c .before .before .before .before .before .before .before .good .1 .1 .0)
+
+action-requires : tie.Need-action-requires Inv-loop μ-loop
+action-requires c κs = search needs
+
+row-requires : tie.Need-row-requires Inv-loop μ-loop
+row-requires c κs =
+    let s = c .before .before .before .before .before .before .before .before .before in
+    let i = c .before .before .before .before .loop in
+    let long : length (now (c .before .action .result)) ≡ s .args .c .dim =
+    ap length (c .before .action .ensures) ∙ row-long (now (s .args .rows)) (s .args .c .horizon) (s .args .c .dim) (s .args .c .from + i .i) (s .pre .2) (s .pre .3) in
+    (s .pre .0, omega (arith, long, s .pre .1), omega (arith, i .inv .1 .1 .1 .0, i .inv .1 .0, i .inv .1 .1 .0, c .before .before .before .loop-test .taken, s .pre .4))
+
+add-i : tie.Need-add-i Inv-loop μ-loop
+add-i c = omega arith
+
+loop-less : tie.Need-loop-less Inv-loop μ-loop
+loop-less c = omega arith
+
+loop-again : tie.Need-loop-again Inv-loop μ-loop
+loop-again c =
+    let s = c .before .before .before .before .before .before .before .before .before .before .before .before in
+    let i = c .before .before .before .before .before .before .before .loop in
+    let call = c .before .before .row in (
+      omega (arith, c .before .before .before .before .before .before .loop-test .taken),
+      (
+        i .inv .1 .0,
+        (
+          call .kept .1 .1 .1 .1 .1 .1 .1 .0 ∙ i .inv .1 .1 .0,
+          (
+            omega (arith, call .ensures .0, i .inv .1 .1 .1 .0),
+            λ react q l u h.
+                let t = taskOf (s .args .arm) react (s .args .w) (s .args .c) q (now (s .args .rows)) in
+                along-at (forecast binary64 t) (stand binary64 t) l (suc (i .i + 1)) (call .result) _ (suc (i .i) + 1) (omega arith)
+                (call .ensures .1 react q (now (s .args .rows)) l (i .i) u (i .inv .1 .1 .1 .1 react q l u h) (λ _. sym (c .before .before .before .before .action .ensures))),
+          ),
+        ),
+      ),
+    )
+
+same-length : tie.Need-same-length Inv-loop μ-loop
+same-length c = c .before .loop .inv .1 .1 .0
+
+returns : tie.Need-returns Inv-loop μ-loop
+returns c =
+    let s = c .before .before .before .before .before .before in
+    let i = c .before .loop in
+    let e : i .i ≡ s .args .c .commit .0 - s .args .c .from = omega (arith, i .inv .1 .0) in
+    (omega (arith, i .inv .1 .1 .1 .0, e), λ react q l u h. let t = taskOf (s .args .arm) react (s .args .w) (s .args .c) q (now (s .args .rows)) in along-at (forecast binary64 t) (stand binary64 t) l (suc (s .args .c .commit .0 - s .args .c .from)) _ _ (suc (i .i)) (ap suc e) (i .inv .1 .1 .1 .1 react q l u h))
+
+pub follow-spec : {M : Type 1} → statement M
+follow-spec =
+    tie.close
+    (tie.spec
+    Inv-loop
+    μ-loop
+    rows-left-requires
+    cast-left
+    loop-holds
+    add-action
+    action-requires
+    row-requires
+    add-i
+    loop-less
+    loop-again
+    same-length
+    returns)

@@ -1,0 +1,16 @@
+-- `stopping::sum` meets its contract.
+use borrow.Author.Needs.{needs}
+use Rattle.stopping.proofs.sum.Statement.{statement}
+use Rattle.stopping.proofs.sum.Tie as tie
+use Rattle.stopping.proofs.sum.Reads as reads
+use Rattle.stopping.proofs.sum.Lts as lts
+use Rattle.fmath.proofs.finite.Reads as finite-reads
+
+finite-requires : tie.Need-finite-requires
+finite-requires c κs = search needs
+
+returns : tie.Need-returns
+returns c = rw (c .before .before .finite .ensures)
+
+pub sum-spec : {M : Type 1} → statement M
+sum-spec = tie.close (tie.spec finite-requires returns)

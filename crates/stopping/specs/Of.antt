@@ -1,0 +1,60 @@
+-- The rules at the declared structs.
+use Prim.Native.Nat.{ℕ, _-_, _*_}
+use mathlib.Core.Path.{_≡_}
+use mathlib.Core.Bool.{Bool, _&&_}
+use mathlib.Core.List.{List, [], _∷_}
+use lib.Dec.{leb, ltb, eqb}
+use lib.Ieee.{Float, Format, add}
+use Rattle.fmath.specs.Each.{every}
+use Rattle.workspace.specs.declared.Workspace.{Workspace}
+use Rattle.workspace.specs.Of.{wallsOf}
+use Rattle.rollout.specs.declared.Course.{Course}
+use Rattle.rollout.specs.declared.Plant.{Plant}
+use Rattle.rollout.specs.declared.Run.{Run}
+use Rattle.rollout.specs.Of.{stateOf, Ran}
+use Rattle.stopping.specs.declared.Arm.{Arm}
+use Rattle.stopping.specs.Rule.{Task, reaction, gain, stand, forecast}
+use Rattle.fmath.specs.Finite.{finite}
+use Rattle.fmath.specs.Checked.{Checked}
+use Rattle.stopping.specs.declared.Reckoned.{Reckoned}
+use Rattle.stopping.specs.declared.Stepped.{Stepped}
+
+abbrev pub reckonedFrom : Checked Float → Reckoned
+reckonedFrom x = record { value = x .value; sound = x .sound }
+
+abbrev pub steppedFrom : Checked (List Float) → Stepped
+steppedFrom x = record { p = x .value; sound = x .sound }
+
+-- the sum of two reckoned numbers
+abbrev pub sumOf : Format → Reckoned → Reckoned → Reckoned
+sumOf f x y = record { value = add f (x .value) (y .value); sound = x .sound && (y .sound && finite (add f (x .value) (y .value))) }
+
+abbrev pub taskOf : Arm → ℕ → Workspace → Course → Plant → List Float → Task
+taskOf arm react w c s rows = record {
+  arm = arm;
+  react = react;
+  walls = wallsOf w;
+  n = c .live;
+  start = stateOf s;
+  rows = rows;
+  horizon = c .horizon;
+  dim = c .dim;
+  from = c .from;
+  commit = c .commit .0;
+}
+
+-- a run has come along k entries
+abbrev pub Along : Format → Task → List Float → ℕ → Run → List Float → Type 0
+Along f t l k r out = Ran (forecast f t) (stand f t) l k r out
+
+-- the gain and the waiting time are the task's
+pub record Under (f : Format) (t : Task) (g wait : Float) : Type 0 where
+  pub pull : gain f t .value ≡ g
+  pub delay : reaction f t .value ≡ wait
+
+-- what a run needs of its course: eight axes at most, within the rows' width; rows that are all there; room for the start's entry and one a row
+unfoldable pub roomy : Course → ℕ → ℕ → Bool
+roomy c len room =
+    every
+    (leb (c .live) 8 ∷ leb (c .live) (c .dim) ∷ leb 1 (c .horizon) ∷ eqb len (c .horizon * c .dim)
+    ∷ ltb (c .commit .0 - c .from) room ∷ [])

@@ -1,0 +1,42 @@
+-- One axis at speed 1 between -4 and 4, and one row of velocity 2: the start leaves 2.5, the row touches the wall, and the arm may travel 6.
+use mathlib.Core.Path.{_≡_, refl}
+use mathlib.Core.Bool.{true, false}
+use mathlib.Core.List.{[], _∷_}
+use lib.IntN.{pos, negsuc}
+use lib.Ieee.{Float, fin, binary64, round, ofInt, add, sub, mul, div, lt, le, eq}
+use Rattle.root.specs.Root.{floorRoot, nearRoot, half, rootExponent, scaled, number, rootOf}
+use Rattle.fmath.specs.Each.{all, over, table}
+use Rattle.fmath.specs.Finite.{finite, +0}
+use Rattle.fmath.specs.Least.{lesser, least}
+use Rattle.fmath.specs.Checked.{sumFrom, each, leastOf}
+use Rattle.fmath.specs.Norm.{squareAt, norm, squaredGap, dist}
+use Rattle.chunk.specs.Rule.{rowOf}
+use Rattle.envelope.specs.declared.ActionKind.the-variants.{JointVelocity}
+use Rattle.envelope.specs.declared.BrakeKind.the-variants.{BoundedAccel}
+use Rattle.workspace.specs.Rule.{betweenWithin, slackWithin}
+use Rattle.rollout.specs.Forecast.{slackAt, reach, placeOf, marginOf, feasibleOf}
+use Rattle.stopping.specs.Rule.{Task, ratio, ramp, glide, radius, commanded, command, moved, step, reaction, after, entry, stop, forecast}
+
+abbrev one : Float
+one = fin false 1 (pos 0)
+
+abbrev sample : Task
+sample = record {
+  arm = record { kind = JointVelocity; brake = BoundedAccel one one one; dt = one; «a_max» = one; «j_max» = one };
+  react = 1;
+  walls = record { lo = fin true 1 (pos 2) ∷ []; hi = fin false 1 (pos 2) ∷ [] };
+  n = 1;
+  start = record { p = +0 ∷ []; v = one ∷ [] };
+  rows = fin false 1 (pos 1) ∷ [];
+  horizon = 1;
+  dim = 1;
+  from = 0;
+  commit = 1;
+}
+
+touching : (table (slackAt (forecast binary64 sample)) (forecast binary64 sample .count) ≡ fin false 5 (negsuc 0) ∷ +0 ∷ [])
+    × (placeOf (forecast binary64 sample) ≡ 0)
+    × (feasibleOf (forecast binary64 sample) ≡ true)
+    × (forecast binary64 sample .stop .value ≡ fin false 3 (pos 1))
+unfolding table entry stop placeOf marginOf all least lesser reach slackWithin leastOf betweenWithin after command commanded step moved each radius glide ramp ratio reaction ofInt round rowOf over norm squareAt dist squaredGap sumFrom rootOf nearRoot floorRoot scaled rootExponent half number lt le eq add sub mul div finite
+touching = (refl, refl, refl, refl)
