@@ -60,14 +60,14 @@ pub fn all_above_zero(v: &[f64], n: usize) -> bool
         return false;
     }
     let mut above = true;
-    let mut ok = true;
+    let mut real = true;
     let mut i = 0;
     while i < n {
         above = above & (0.0 < v[i]);
-        ok = ok & finite(v[i]);
+        real = real & finite(v[i]);
         i += 1;
     }
-    above & ok
+    above & real
 }
 
 // The first where it is strictly less, else the second.

@@ -13,10 +13,10 @@ use Rattle.fmath.proofs.all_above_zero.Statement.{statement}
 use Rattle.fmath.proofs.all_above_zero.Tie as tie
 
 abbrev Inv-loop : tie.InvT-loop
-Inv-loop v n above₀ ok₀ i₀ above ok i = (i ≤ n) × ((above ≡ all (λ (k : ℕ). lt +0 (at v k)) i) × (ok ≡ all (λ (k : ℕ). finite (at v k)) i))
+Inv-loop v n above₀ real₀ i₀ above real i = (i ≤ n) × ((above ≡ all (λ (k : ℕ). lt +0 (at v k)) i) × (real ≡ all (λ (k : ℕ). finite (at v k)) i))
 
 abbrev μ-loop : tie.MeasureT-loop
-μ-loop v n above₀ ok₀ i₀ above ok i = n - i
+μ-loop v n above₀ real₀ i₀ above real i = n - i
 
 returns : tie.Need-returns Inv-loop μ-loop
 unfolding allAboveZero aboveZero lt
