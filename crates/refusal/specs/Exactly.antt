@@ -37,7 +37,7 @@ back leftover = refl
 pub numbers-differ : (j k : Reason) → numberOf j ≡ numberOf k → j ≡ k
 numbers-differ j k e = sym (back j) ∙ ap (λ (n : ℕ). withNumber n order) e ∙ back k
 
-not-zero : (k : Reason) → 0 ≡ numberOf k → ⊥
+pub not-zero : (k : Reason) → 0 ≡ numberOf k → ⊥
 not-zero size e = omega arith
 not-zero number e = omega arith
 not-zero steps e = omega arith

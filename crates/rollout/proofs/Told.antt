@@ -10,14 +10,16 @@ use lib.ListN.{length, set, length-set}
 use lib.Seq.{getD-set-same, getD-set-other}
 use lib.Ieee.{Float, Format, nan, add, sub, mul}
 use Rattle.fmath.specs.Each.{at, all}
-use Rattle.fmath.specs.Finite.{finite}
+use Rattle.fmath.specs.Finite.{finite, +0}
 use Rattle.fmath.specs.Checked.{Checked, leastOf}
+use Rattle.fmath.specs.Norm.{dist}
 use Rattle.fmath.proofs.Each.{_&&≡_, and-left, and-right, all-at, all-from}
 use Rattle.fmath.proofs.Absorbing.{fine-add-left, fine-add-right, fine-sub-left, fine-sub-right, fine-mul-left, fine-mul-right}
-use Rattle.fmath.proofs.Told.{implied}
+use Rattle.fmath.proofs.Told.{Tells, implied, dist-tells}
 use Rattle.workspace.specs.Rule.{Walls, between, gap, slack}
 use Rattle.workspace.proofs.Gaps.{between-tells}
 use Rattle.rollout.specs.Plant.{Gains, Motion, State, axis, motionAt, substep}
+use Rattle.rollout.specs.Rule.{stopDistance}
 
 module _ (f : Format) (g : Gains) where
   -- a finite place at the end tells of each number on the way
@@ -100,3 +102,8 @@ module _ (f : Format) (g : Gains) where
             let d : finite (sub f (at p j) (at (w .lo) j)) ≡ true = and-left _ _ (sym (between-tells f (at (w .lo) j) (at (w .hi) j) (at p j)) ∙ q) in
             let y : finite (at p j) ≡ true = fine-sub-left f (at p j) (at (w .lo) j) d in
             axis-told (at a j) (motionAt s j) (rw (substep-at n j b l) at y))
+
+-- how far the plant has moved tells of each number on the way to it
+pub stop-tells : (f : Format) (start end : State) (n : ℕ) → Tells (stopDistance f start end n)
+unfolding stopDistance
+stop-tells f start end n = implied _ _ (λ h. dist-tells f (end .p) (start .p) n ∙ fine-add-left f (dist f (end .p) (start .p) n .value) +0 h)

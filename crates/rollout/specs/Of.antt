@@ -9,6 +9,7 @@ use lib.Ieee.{Float, Format, inf}
 use Rattle.refusal.specs.Order.{if_then_else_}
 use Rattle.fmath.specs.Each.{all, over, every}
 use Rattle.fmath.specs.Least.{least}
+use Rattle.fmath.specs.Checked.{Checked}
 use Rattle.envelope.specs.declared.ControlSteps.{ControlSteps}
 use Rattle.workspace.specs.declared.Workspace.{Workspace}
 use Rattle.workspace.specs.Of.{wallsOf}
@@ -17,6 +18,7 @@ use Rattle.rollout.specs.declared.Course.{Course}
 use Rattle.rollout.specs.declared.Law.{Law}
 use Rattle.rollout.specs.declared.Plant.{Plant}
 use Rattle.rollout.specs.declared.Run.{Run}
+use Rattle.rollout.specs.declared.Reckoned.{Reckoned}
 use Rattle.rollout.specs.Plant.{Gains, Motion, State}
 use Rattle.rollout.specs.Forecast.{Forecast, fine, slackAt, reach, reached, marginOf}
 use Rattle.rollout.specs.Rule.{Task, total, aim, after, forecast}
@@ -32,6 +34,9 @@ movedFrom m = record { p = m .p; v = m .v }
 
 abbrev pub plantFrom : State → Plant
 plantFrom s = record { p = s .p; v = s .v }
+
+abbrev pub reckonedFrom : Checked Float → Reckoned
+reckonedFrom x = record { value = x .value; sound = x .sound }
 
 abbrev pub taskOf : Law → Workspace → Course → Plant → List Float → Task
 taskOf g w c s rows = record {

@@ -44,6 +44,12 @@ total t = (rowsLeft t + t .brake) * t .per
 abbrev pub rowAt : Task → ℕ → List Float
 rowAt t k = rowOf (t .rows) (t .horizon) (t .dim) (t .from + k / t .per)
 
+-- how far the plant has moved from the start to the end; it travels no further
+unfoldable pub stopDistance : Format → State → State → ℕ → Checked Float
+stopDistance f start end n = do
+  d ← dist f (end .p) (start .p) n
+  plus f d +0
+
 module _ (f : Format) (t : Task) where
   -- the plant after k substeps towards the rows
   unfoldable pub pushed : ℕ → State
@@ -69,11 +75,8 @@ module _ (f : Format) (t : Task) where
     s ← substep f (t .gains) (aim k) (t .n) (after k)
     slack f (t .walls) (s .p) (t .n)
 
-  -- how far the plant has moved at the end
-  unfoldable pub stop : Checked Float
-  stop = do
-    d ← dist f (after (total t) .p) (t .start .p) (t .n)
-    plus f d +0
+  abbrev pub stop : Checked Float
+  stop = stopDistance f (t .start) (after (total t)) (t .n)
 
   abbrev pub forecast : Forecast
   forecast = record { count = total t; entry = entry; stop = stop }

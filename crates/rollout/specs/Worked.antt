@@ -15,7 +15,7 @@ use Rattle.chunk.specs.Rule.{rowOf}
 use Rattle.workspace.specs.Rule.{Walls, inward, between, slack}
 use Rattle.rollout.specs.Plant.{Gains, State, axis, substep}
 use Rattle.rollout.specs.Forecast.{Forecast, slackAt, reach, placeOf, marginOf, feasibleOf, writtenOf}
-use Rattle.rollout.specs.Rule.{Task, pushed, setpoint, aim, after, entry, stop, forecast}
+use Rattle.rollout.specs.Rule.{Task, pushed, setpoint, aim, after, entry, stopDistance, forecast}
 
 abbrev one : Float
 one = fin false 1 (pos 0)
@@ -67,19 +67,19 @@ abbrev 5/4 : Float
 5/4 = fin false 5 (negsuc 1)
 
 f1 : shown (card two 0 1) ≡ record { entries = 3/2 ∷ one ∷ 3/4 ∷ 3/4 ∷ []; place = 0; margin = 3/4; feasible = true; distance = 5/4 }
-unfolding table entry stop placeOf marginOf all least lesser reach slack leastOf between substep axis aim after setpoint pushed rowOf inward over clamped dist squaredGap sumFrom rootOf nearRoot floorRoot scaled rootExponent half number lt le eq add sub mul finite
+unfolding table entry stopDistance placeOf marginOf all least lesser reach slack leastOf between substep axis aim after setpoint pushed rowOf inward over clamped dist squaredGap sumFrom rootOf nearRoot floorRoot scaled rootExponent half number lt le eq add sub mul finite
 f1 = refl
 
 f2 : shown (card one 0 1) ≡ record { entries = fin false 1 (negsuc 0) ∷ +0 ∷ fin true 1 (negsuc 1) ∷ fin true 1 (negsuc 1) ∷ []; place = 0; margin = fin true 1 (negsuc 1); feasible = false; distance = 5/4 }
-unfolding table entry stop placeOf marginOf all least lesser reach slack leastOf between substep axis aim after setpoint pushed rowOf inward over clamped dist squaredGap sumFrom rootOf nearRoot floorRoot scaled rootExponent half number lt le eq add sub mul finite
+unfolding table entry stopDistance placeOf marginOf all least lesser reach slack leastOf between substep axis aim after setpoint pushed rowOf inward over clamped dist squaredGap sumFrom rootOf nearRoot floorRoot scaled rootExponent half number lt le eq add sub mul finite
 f2 = refl
 
 -- touching the wall is inside it
 f1-touching : (marginOf (forecast binary64 (card 5/4 0 1)) ≡ +0) × (feasibleOf (forecast binary64 (card 5/4 0 1)) ≡ true)
-unfolding table entry stop placeOf marginOf all least lesser reach slack leastOf between substep axis aim after setpoint pushed rowOf inward over clamped dist squaredGap sumFrom rootOf nearRoot floorRoot scaled rootExponent half number lt le eq add sub mul finite
+unfolding table entry stopDistance placeOf marginOf all least lesser reach slack leastOf between substep axis aim after setpoint pushed rowOf inward over clamped dist squaredGap sumFrom rootOf nearRoot floorRoot scaled rootExponent half number lt le eq add sub mul finite
 f1-touching = (refl, refl)
 
 -- nothing is left to run: the margin is infinite
 f3 : shown (card two 1 0) ≡ record { entries = []; place = 0; margin = inf false; feasible = true; distance = +0 }
-unfolding table entry stop placeOf marginOf all least lesser reach slack leastOf between substep axis aim after setpoint pushed rowOf inward over clamped dist squaredGap sumFrom rootOf nearRoot floorRoot scaled rootExponent half number lt le eq add sub mul finite
+unfolding table entry stopDistance placeOf marginOf all least lesser reach slack leastOf between substep axis aim after setpoint pushed rowOf inward over clamped dist squaredGap sumFrom rootOf nearRoot floorRoot scaled rootExponent half number lt le eq add sub mul finite
 f3 = refl

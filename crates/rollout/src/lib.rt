@@ -8,9 +8,9 @@ ghost use lib.Ieee.{Float, binary64};
 ghost use Rattle.refusal.specs.Order.{if_then_else_};
 ghost use Rattle.rollout.specs.Plant.{axis, substep};
 ghost use Rattle.rollout.specs.Forecast.{writtenOf};
-ghost use Rattle.rollout.specs.Rule.{Task, after, forecast};
+ghost use Rattle.rollout.specs.Rule.{Task, after, stopDistance, forecast};
 ghost use Rattle.rollout.specs.declared.Plant.{Plant};
-ghost use Rattle.rollout.specs.Of.{gainsOf, stateOf, movedFrom, taskOf, Along, Towards, Under, roomy, noRun, runOf};
+ghost use Rattle.rollout.specs.Of.{gainsOf, stateOf, movedFrom, reckonedFrom, taskOf, Along, Towards, Under, roomy, noRun, runOf};
 use envelope::ControlSteps;
 use envelope::Substeps;
 use workspace::Workspace;
@@ -44,6 +44,12 @@ pub struct Run {
     pub plant: Plant,
     pub margin: f64,
     pub done: usize,
+    pub sound: bool,
+}
+
+// A number, and whether each number computed on the way is finite.
+pub struct Reckoned {
+    pub value: f64,
     pub sound: bool,
 }
 
@@ -200,4 +206,15 @@ pub fn rollout(
     let setpoint = workspace::inward(w, p, c.live);
     let count = envelope::substeps_in(ControlSteps(0), c.brake, c.per);
     hold(g, w, c.live, &setpoint, count, pushed, slack)
+}
+
+// How far the plant has moved on the first n axes.
+pub fn stop_distance(start: Plant, end: Plant, n: usize) -> Reckoned
+    ensures { λ r. ⌜ r ≡ reckonedFrom (stopDistance binary64 (stateOf start) (stateOf end) n) ⌝ }
+{
+    let from = start.p;
+    let to = end.p;
+    let value = fmath::distance(&to, &from, n) + 0.0;
+    let sound = fmath::finite(value);
+    Reckoned { value, sound }
 }

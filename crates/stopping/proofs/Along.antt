@@ -18,10 +18,11 @@ use Rattle.rollout.specs.Plant.{State}
 use Rattle.rollout.specs.Forecast.{fine, slackAt}
 use Rattle.rollout.specs.Of.{stateOf}
 use Rattle.rollout.proofs.Along.{stands-at, along-fails, along-advances, along-start}
-use Rattle.stopping.specs.declared.Reckoned.{Reckoned}
+use Rattle.rollout.specs.declared.Reckoned.{Reckoned}
 use Rattle.stopping.specs.declared.Stepped.{Stepped}
 use Rattle.stopping.specs.Rule.{Task, rowAt, radius, command, step, reaction, gain, radiusAt, commandAt, stepAt, after, stand, entry, forecast}
-use Rattle.stopping.specs.Of.{Along, Under, reckonedFrom, steppedFrom}
+use Rattle.stopping.specs.Of.{Along, Under, steppedFrom}
+use Rattle.rollout.specs.Of.{reckonedFrom}
 use Rattle.stopping.proofs.Told.{command-told}
 
 module _

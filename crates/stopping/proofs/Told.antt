@@ -10,15 +10,16 @@ use lib.Ieee.{Float, Format, add, sub, mul, div}
 use Rattle.fmath.specs.Finite.{finite}
 use Rattle.fmath.specs.Each.{at, all, over}
 use Rattle.fmath.specs.Checked.{Checked, each, sumFrom}
-use Rattle.fmath.specs.Norm.{squareAt, norm}
-use Rattle.fmath.proofs.Absorbing.{Fine, fine-add-right, fine-mul-left, fine-mul-right, fine-div-left}
+use Rattle.fmath.specs.Norm.{squareAt, norm, dist}
+use Rattle.fmath.proofs.Absorbing.{Fine, fine-add-left, fine-add-right, fine-mul-left, fine-mul-right, fine-div-left}
 use Rattle.fmath.proofs.Each.{_&&≡_, and-left, and-right, all-from, over-at}
-use Rattle.fmath.proofs.Told.{Tells, implied, norm-tells}
+use Rattle.fmath.proofs.Told.{Tells, implied, norm-tells, dist-tells}
 use Rattle.envelope.specs.declared.ActionKind.{ActionKind}
 use Rattle.envelope.specs.declared.ActionKind.the-variants.{EePosition, EeDelta, JointPosition, JointVelocity, Other}
 use Rattle.envelope.specs.declared.BrakeKind.{BrakeKind}
 use Rattle.rollout.specs.Plant.{State}
-use Rattle.stopping.specs.Rule.{two, ramp, ease, glide, radius, commanded, command, moved}
+use Rattle.stopping.specs.declared.Arm.{Arm}
+use Rattle.stopping.specs.Rule.{two, ramp, ease, glide, radius, commanded, command, moved, stopDistance}
 
 module _ (f : Format) where
   -- a quotient tells of its numerator
@@ -44,6 +45,15 @@ module _ (f : Format) where
       let inner : finite w && finite r ≡ finite r = implied _ _ (fine-add-right f d w) in
       ap (λ (x : Bool). norm f v n .sound && (glide f b a j s .sound && x)) inner
       ∙ implied _ _ (λ h. norm-tells f v n ∙ fine-mul-left f s wait (fine-add-right f d w (and-right (glide f b a j s .sound) (finite r) h)))
+
+-- a sum tells of the distance in it; the radius has tests of its own
+pub stop-tells : (f : Format) (arm : Arm) (wait : Float) (start end : State) (n : ℕ)
+    → stopDistance f arm wait start end n .sound ≡ radius f (arm .brake) (arm .«a_max») (arm .«j_max») wait (end .v) n .sound && finite (stopDistance f arm wait start end n .value)
+unfolding stopDistance
+stop-tells f arm wait start end n =
+    let d = dist f (end .p) (start .p) n in
+    let r = radius f (arm .brake) (arm .«a_max») (arm .«j_max») wait (end .v) n in
+    implied _ _ (λ h. dist-tells f (end .p) (start .p) n ∙ fine-add-left f (d .value) (r .value) (and-right (r .sound) (finite (add f (d .value) (r .value))) h))
 
 pub moved-tells : (f : Format) (dt v p : Float) → Tells (moved f dt v p)
 unfolding moved

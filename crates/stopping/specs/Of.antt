@@ -16,11 +16,8 @@ use Rattle.stopping.specs.declared.Arm.{Arm}
 use Rattle.stopping.specs.Rule.{Task, reaction, gain, stand, forecast}
 use Rattle.fmath.specs.Finite.{finite}
 use Rattle.fmath.specs.Checked.{Checked}
-use Rattle.stopping.specs.declared.Reckoned.{Reckoned}
+use Rattle.rollout.specs.declared.Reckoned.{Reckoned}
 use Rattle.stopping.specs.declared.Stepped.{Stepped}
-
-abbrev pub reckonedFrom : Checked Float → Reckoned
-reckonedFrom x = record { value = x .value; sound = x .sound }
 
 abbrev pub steppedFrom : Checked (List Float) → Stepped
 steppedFrom x = record { p = x .value; sound = x .sound }

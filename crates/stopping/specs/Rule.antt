@@ -107,6 +107,13 @@ moved f dt v p = do
 unfoldable pub step : Format → Float → List Float → List Float → ℕ → Checked (List Float)
 step f dt v p n = each (λ (j : ℕ). moved f dt (at v j) (at p j)) p n
 
+-- how far the plant has moved from the start to the end, and may still travel
+unfoldable pub stopDistance : Format → Arm → Float → State → State → ℕ → Checked Float
+stopDistance f arm wait start end n = do
+  d ← dist f (end .p) (start .p) n
+  r ← radius f (arm .brake) (arm .«a_max») (arm .«j_max») wait (end .v) n
+  plus f d r
+
 module _ (f : Format) (t : Task) where
   -- the time before braking starts
   unfoldable pub reaction : Checked Float
@@ -151,12 +158,8 @@ module _ (f : Format) (t : Task) where
   stand zero = t .start
   stand (suc k) = after k
 
-  -- how far the plant has moved at the end, and may still travel
-  unfoldable pub stop : Checked Float
-  stop = do
-    d ← dist f (after (rowsLeft t) .p) (t .start .p) (t .n)
-    r ← radiusAt (after (rowsLeft t) .v)
-    plus f d r
+  abbrev pub stop : Checked Float
+  stop = stopDistance f (t .arm) (reaction .value) (t .start) (after (rowsLeft t)) (t .n)
 
   abbrev pub forecast : Forecast
   forecast = record { count = suc (rowsLeft t); entry = entry; stop = stop }

@@ -15,7 +15,7 @@ use Rattle.envelope.specs.declared.ActionKind.the-variants.{JointVelocity}
 use Rattle.envelope.specs.declared.BrakeKind.the-variants.{BoundedAccel}
 use Rattle.workspace.specs.Rule.{betweenWithin, slackWithin}
 use Rattle.rollout.specs.Forecast.{slackAt, reach, placeOf, marginOf, feasibleOf}
-use Rattle.stopping.specs.Rule.{Task, ratio, ramp, glide, radius, commanded, command, moved, step, reaction, after, entry, stop, forecast}
+use Rattle.stopping.specs.Rule.{Task, ratio, ramp, glide, radius, commanded, command, moved, step, reaction, after, entry, stopDistance, forecast}
 
 abbrev one : Float
 one = fin false 1 (pos 0)
@@ -38,5 +38,5 @@ touching : (table (slackAt (forecast binary64 sample)) (forecast binary64 sample
     × (placeOf (forecast binary64 sample) ≡ 0)
     × (feasibleOf (forecast binary64 sample) ≡ true)
     × (forecast binary64 sample .stop .value ≡ fin false 3 (pos 1))
-unfolding table entry stop placeOf marginOf all least lesser reach slackWithin leastOf betweenWithin after command commanded step moved each radius glide ramp ratio reaction ofInt round rowOf over norm squareAt dist squaredGap sumFrom rootOf nearRoot floorRoot scaled rootExponent half number lt le eq add sub mul div finite
+unfolding table entry stopDistance placeOf marginOf all least lesser reach slackWithin leastOf betweenWithin after command commanded step moved each radius glide ramp ratio reaction ofInt round rowOf over norm squareAt dist squaredGap sumFrom rootOf nearRoot floorRoot scaled rootExponent half number lt le eq add sub mul div finite
 touching = (refl, refl, refl, refl)

@@ -7,16 +7,17 @@ ghost use lib.ListN.{length};
 ghost use lib.IntN.{pos};
 ghost use lib.Ieee.{Float, binary64, ofInt};
 ghost use Rattle.refusal.specs.Order.{if_then_else_};
-ghost use Rattle.stopping.specs.Rule.{ratio, ramp, ease, glide, radius, commanded, command, step, rowAt, gain, reaction, stand, forecast};
-ghost use Rattle.stopping.specs.Of.{reckonedFrom, steppedFrom, sumOf, taskOf, Along, Under, roomy};
+ghost use Rattle.stopping.specs.Rule.{ratio, ramp, ease, glide, radius, commanded, command, step, rowAt, gain, reaction, stand, stopDistance, forecast};
+ghost use Rattle.stopping.specs.Of.{steppedFrom, sumOf, taskOf, Along, Under, roomy};
 ghost use Rattle.fmath.specs.Checked.{times, divided};
 ghost use Rattle.rollout.specs.Forecast.{writtenOf};
-ghost use Rattle.rollout.specs.Of.{stateOf, runOf, noRun};
+ghost use Rattle.rollout.specs.Of.{stateOf, reckonedFrom, runOf, noRun};
 ghost use Rattle.rollout.specs.declared.Plant.{Plant};
 use envelope::ActionKind;
 use envelope::BrakeKind;
 use rollout::Course;
 use rollout::Plant;
+use rollout::Reckoned;
 use rollout::Run;
 use workspace::Workspace;
 
@@ -27,12 +28,6 @@ pub struct Arm {
     pub dt: f64,
     pub a_max: f64,
     pub j_max: f64,
-}
-
-// A number, and whether each number computed on the way is finite.
-struct Reckoned {
-    value: f64,
-    sound: bool,
 }
 
 // Where a step leads, and whether each coordinate of it is finite.
@@ -314,4 +309,18 @@ pub fn stopping(
     let wait = reaction(react, arm.dt);
     let first = begin(arm, w, c, g, wait, start, slack);
     follow(arm, w, c, g.value, wait.value, rows, first, slack)
+}
+
+// How far the plant has moved on the first n axes, and may still travel from the end.
+pub fn stop_distance(arm: Arm, react: u16, start: Plant, end: Plant, n: usize) -> Reckoned
+    ensures { λ r. ⌜ r ≡ reckonedFrom (stopDistance binary64 arm (times binary64 (ofInt binary64 (pos react)) (arm .dt) .value) (stateOf start) (stateOf end) n) ⌝ }
+{
+    let wait = reaction(react, arm.dt);
+    let from = start.p;
+    let to = end.p;
+    let v = end.v;
+    let beyond = radius(arm, wait.value, v, n);
+    let value = fmath::distance(&to, &from, n) + beyond.value;
+    let sound = beyond.sound & fmath::finite(value);
+    Reckoned { value, sound }
 }

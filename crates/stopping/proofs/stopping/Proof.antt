@@ -9,9 +9,10 @@ use denote.Ref.{now}
 use lib.ListN.{length}
 use lib.Ieee.{binary64, ofBits, div}
 use Rattle.rollout.proofs.Along.{run-is, written-is}
-use Rattle.stopping.specs.declared.Reckoned.{Reckoned}
+use Rattle.rollout.specs.declared.Reckoned.{Reckoned}
 use Rattle.stopping.specs.Rule.{Task, stand, reaction, gain, forecast}
-use Rattle.stopping.specs.Of.{taskOf, Along, roomy, reckonedFrom}
+use Rattle.stopping.specs.Of.{taskOf, Along, roomy}
+use Rattle.rollout.specs.Of.{reckonedFrom}
 use Rattle.stopping.proofs.Room.{Room, room-of}
 use Rattle.stopping.proofs.stopping.Statement.{statement}
 use Rattle.stopping.proofs.stopping.Tie as tie
