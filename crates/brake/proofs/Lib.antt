@@ -1,0 +1,4 @@
+pub mod ByKind
+pub mod Outcome
+pub mod Judged
+pub mod Room

@@ -1,0 +1,22 @@
+-- `brake::not_finite` meets its contract: each slice by its own test.
+use borrow.Author.Needs.{needs}
+use Rattle.brake.specs.Answer.{someLentNotFinite}
+use Rattle.brake.proofs.not_finite.Statement.{statement}
+use Rattle.brake.proofs.not_finite.Tie as tie
+
+all-finite-requires : tie.Need-all-finite-requires
+all-finite-requires c κs = search needs
+
+all-finite-requires-2 : tie.Need-all-finite-requires-2
+all-finite-requires-2 c κs = search needs
+
+all-finite-requires-3 : tie.Need-all-finite-requires-3
+all-finite-requires-3 c κs = search needs
+
+returns : tie.Need-returns
+unfolding someLentNotFinite
+returns c = rw (c .before .before .all-finite .ensures, c .before .all-finite2 .ensures, c .all-finite3 .ensures)
+
+pub not-finite-spec : {M : Type 1} → statement M
+not-finite-spec =
+    tie.close (tie.spec all-finite-requires all-finite-requires-2 all-finite-requires-3 returns)

@@ -1,0 +1,104 @@
+-- What module 7's entries judge, and what they answer.
+use Prim.Native.Nat.{ℕ, zero, suc, _*_}
+use mathlib.Core.Bool.{Bool, not, _||_}
+use mathlib.Core.List.{List, [], _∷_, _++_}
+use lib.Dec.{ltb, eqb}
+use lib.ListN.{length}
+use lib.Ieee.{Float, binary64}
+use Rattle.refusal.specs.Order.{Judged, width, short, notFinite, computed, _when_, refusal, refusedFor, if_then_else_}
+use Rattle.fmath.specs.Answer.{someNotFinite}
+use Rattle.fmath.specs.Each.{at, over}
+use Rattle.fmath.specs.Checked.{Checked}
+use Rattle.chunk.specs.Refusals.{chunkReasons}
+use Rattle.envelope.specs.Refusals.{configJudged}
+use Rattle.envelope.specs.declared.FuseConfig.{FuseConfig}
+use Rattle.rollout.specs.Forecast.{Forecast, placeOf, marginOf, feasibleOf, writtenOf}
+use Rattle.brake.specs.declared.BrakeOut.{BrakeOut}
+use Rattle.brake.specs.declared.BrakeOut.the-variants as out
+use Rattle.brake.specs.declared.Sent.{Sent}
+use Rattle.brake.specs.declared.Sent.the-variants as sent
+use Rattle.brake.specs.Rule.{wallsAt, forecastOf, brakeRow, holdRow}
+
+-- ---- the forecast
+
+-- 11: position or velocity below pos_dim, or the slack entries below the number to be written
+unfoldable pub tooShort : ℕ → ℕ → ℕ → ℕ → ℕ → Bool
+tooShort pos-dim p v count room = ltb p pos-dim || ltb v pos-dim || ltb room count
+
+-- 12: some number of what is lent, read or not
+unfoldable pub someLentNotFinite : List Float → List Float → List Float → Bool
+someLentNotFinite p v rows = someNotFinite p || someNotFinite v || someNotFinite rows
+
+-- what a forecast comes to: its numbers or, with its place, the first that isn't finite
+unfoldable pub outcome : Forecast → BrakeOut
+outcome t =
+    if eqb (placeOf t) 0 then out.Accepted (t .count) (marginOf t) (feasibleOf t) (t .stop .value)
+    else out.Refused (record { number = 13; place = placeOf t })
+
+-- by the number of the refusal, 0 where there is none
+abbrev pub answerAt : ℕ → Forecast → BrakeOut
+answerAt k t = if eqb k 0 || eqb k 13 then outcome t else out.Refused (refusedFor k)
+
+-- the entries before the failing place are written, and none under another refusal
+abbrev pub slacksAt : ℕ → Forecast → List Float → List Float
+slacksAt k t l = if eqb k 0 || eqb k 13 then writtenOf t l else l
+
+module _ (c : FuseConfig) (p v rows : List Float) (h d e from : ℕ) where
+  abbrev pub plan : Forecast
+  plan = forecastOf binary64 c p v rows h d from
+
+  -- 10, 11 and 12, where the entries have so much room
+  abbrev pub lentJudged : ℕ → List Judged
+  lentJudged room =
+      (width when not (eqb d (c .dim)))
+      ∷ (short when tooShort (c .«pos_dim») (length p) (length v) (plan .count) room)
+      ∷ (notFinite when someLentNotFinite p v rows) ∷ []
+
+  unfoldable pub forecastRefusal : ℕ → ℕ
+  forecastRefusal room = refusal (configJudged c ++ (chunkReasons h d e (length rows) ++ (lentJudged room ++ (computed when not (eqb (placeOf plan) 0) ∷ []))))
+
+  unfoldable pub forecastAnswer : ℕ → BrakeOut
+  forecastAnswer room = answerAt (forecastRefusal room) plan
+
+  unfoldable pub forecastSlacks : List Float → List Float
+  forecastSlacks l = slacksAt (forecastRefusal (length l)) plan l
+
+-- ---- brake and hold
+
+abbrev pub sentAt : ℕ → Sent
+sentAt zero = sent.Done
+sentAt (suc k) = sent.Refused (refusedFor (suc k))
+
+-- the first n numbers of a row over the output, where the refusal is 0; the rest stays
+abbrev pub rowAt : ℕ → List Float → ℕ → List Float → List Float
+rowAt zero row n l = over (at row) l n
+rowAt (suc k) row n l = l
+
+module _ (c : FuseConfig) (p v : List Float) where
+  unfoldable pub brakeSent : Checked (List Float)
+  brakeSent = brakeRow binary64 (c .kind) (c .limits .«a_max») (c .limits .dt) (wallsAt binary64 c) p v (c .dim)
+
+  abbrev pub brakeLent : ℕ → List Judged
+  brakeLent room = (short when ltb room (c .dim)) ∷ (notFinite when (someNotFinite p || someNotFinite v)) ∷ []
+
+  unfoldable pub brakeRefusal : ℕ → ℕ
+  brakeRefusal room = refusal (configJudged c ++ (brakeLent room ++ (computed when not (brakeSent .sound) ∷ [])))
+
+  unfoldable pub brakeAnswer : ℕ → Sent
+  brakeAnswer room = sentAt (brakeRefusal room)
+
+  unfoldable pub brakeOutput : List Float → List Float
+  brakeOutput l = rowAt (brakeRefusal (length l)) (brakeSent .value) (c .dim) l
+
+module _ (c : FuseConfig) (p : List Float) where
+  abbrev pub holdLent : ℕ → List Judged
+  holdLent room = (short when ltb room (c .dim)) ∷ (notFinite when someNotFinite p) ∷ []
+
+  unfoldable pub holdRefusal : ℕ → ℕ
+  holdRefusal room = refusal (configJudged c ++ holdLent room)
+
+  unfoldable pub holdAnswer : ℕ → Sent
+  holdAnswer room = sentAt (holdRefusal room)
+
+  unfoldable pub holdOutput : List Float → List Float
+  holdOutput l = rowAt (holdRefusal (length l)) (holdRow (c .kind) (wallsAt binary64 c) p (c .dim)) (c .dim) l

@@ -1,0 +1,54 @@
+-- The rules at the declared structs, and what the contracts of the private functions cite.
+use Prim.Native.Nat.{ℕ, suc, _+_, _-_, _*_, _≤_}
+use mathlib.Core.Path.{_≡_}
+use mathlib.Core.List.{List}
+use lib.Ieee.{Float, binary64}
+use Rattle.fmath.specs.Checked.{Checked}
+use Rattle.envelope.specs.Derive.{derived}
+use Rattle.envelope.specs.declared.BrakeKind.{BrakeKind}
+use Rattle.envelope.specs.declared.BrakeKind.the-variants.{PdSecondOrder, FirstOrderDecay, BoundedAccel, JerkLimited, ZeroVelocityHold}
+use Rattle.envelope.specs.declared.BrakeModel.{BrakeModel}
+use Rattle.envelope.specs.declared.FuseConfig.{FuseConfig}
+use Rattle.workspace.specs.declared.Workspace.{Workspace}
+use Rattle.rollout.specs.declared.Course.{Course}
+use Rattle.rollout.specs.declared.Plant.{Plant}
+use Rattle.brake.specs.declared.Row.{Row}
+use Rattle.brake.specs.Rule.{live, eight}
+
+abbrev pub workspaceFor : FuseConfig → Workspace
+workspaceFor c = record { lo = derived binary64 c .«box_lo»; hi = derived binary64 c .«box_hi» }
+
+abbrev pub courseFor : FuseConfig → ℕ → ℕ → ℕ → Course
+courseFor c h d from = record {
+  live = live c;
+  horizon = h;
+  dim = d;
+  from = from;
+  commit = c .brake .commit;
+  brake = c .brake .«brake_steps»;
+  per = c .brake .substeps;
+}
+
+abbrev pub startFor : FuseConfig → List Float → List Float → Plant
+startFor c p v = record { p = eight p (live c); v = eight v (live c) }
+
+abbrev pub rowFrom : Checked (List Float) → Row
+rowFrom x = record { at = x .value; sound = x .sound }
+
+-- how many entries a forecast has: N, or one for the start and one for each row
+abbrev pub countFor : BrakeModel → BrakeKind → ℕ → ℕ
+countFor b (PdSecondOrder kp kv dt) from = (b .commit .0 - from + b .«brake_steps» .0) * b .substeps .0
+countFor b (FirstOrderDecay kp kv dt) from = suc (b .commit .0 - from)
+countFor b (BoundedAccel kp kv dt) from = suc (b .commit .0 - from)
+countFor b (JerkLimited kp kv dt) from = suc (b .commit .0 - from)
+countFor b (ZeroVelocityHold kp kv dt) from = suc (b .commit .0 - from)
+
+-- what is known of a call where nothing is refused: rows that are all there and as wide as the configuration says, and room for the entries
+pub record Planned (c : FuseConfig) (len h d from room : ℕ) : Type 0 where
+  pub narrow : c .dim ≤ 8
+  pub wide : d ≡ c .dim
+  pub rowed : 1 ≤ h
+  pub there : len ≡ h * d
+  pub parted : 1 ≤ c .brake .substeps .0
+  pub few : countFor (c .brake) (c .brake .kind) from ≤ 4096
+  pub space : countFor (c .brake) (c .brake .kind) from ≤ room

@@ -1,0 +1,136 @@
+-- Module 7 at a configuration: the forecast of its brake, and the rows that brake and hold send. Over the format.
+use Prim.Native.Nat.{ℕ, min}
+use mathlib.Core.Bool.{false}
+use mathlib.Core.List.{List}
+use lib.Dec.{ltb}
+use lib.IntN.{pos, negsuc}
+use lib.ListN.{length, getD, replicate}
+use lib.Ieee.{Float, Format, fin}
+use Rattle.refusal.specs.Order.{if_then_else_}
+use Rattle.fmath.specs.Each.{at, over}
+use Rattle.fmath.specs.Finite.{+0}
+use Rattle.fmath.specs.Least.{greater}
+use Rattle.fmath.specs.Checked.{Checked, _>>=_, pure, plus, minus, times, divided, each}
+use Rattle.fmath.specs.Norm.{norm}
+use Rattle.envelope.specs.Derive.{derived}
+use Rattle.envelope.specs.declared.ActionKind.{ActionKind}
+use Rattle.envelope.specs.declared.ActionKind.the-variants.{EePosition, EeDelta, JointPosition, JointVelocity, Other}
+use Rattle.envelope.specs.declared.BrakeKind.{BrakeKind}
+use Rattle.envelope.specs.declared.BrakeKind.the-variants.{PdSecondOrder, FirstOrderDecay, BoundedAccel, JerkLimited, ZeroVelocityHold}
+use Rattle.envelope.specs.declared.FuseConfig.{FuseConfig}
+use Rattle.workspace.specs.Rule.{Walls, inward}
+use Rattle.rollout.specs.Plant.{Gains, State}
+use Rattle.rollout.specs.Forecast.{Forecast}
+use Rattle.rollout.specs.Rule as rollout
+use Rattle.stopping.specs.declared.Arm.{Arm}
+use Rattle.stopping.specs.Rule as stopping
+
+-- the axes that move: those that the rows and the position both have
+abbrev pub live : FuseConfig → ℕ
+live c = min (c .dim) (c .«pos_dim»)
+
+-- the first n numbers of a list, 0.0 for one that is not there, and 0.0 past them: eight in all
+unfoldable pub eight : List Float → ℕ → List Float
+eight l n = over (λ (j : ℕ). getD l j +0) (replicate 8 +0) n
+
+-- the walls that module 4 derives
+abbrev pub wallsAt : Format → FuseConfig → Walls
+wallsAt f c = record { lo = derived f c .«box_lo»; hi = derived f c .«box_hi» }
+
+-- ---- the forecast
+
+abbrev pub armOf : FuseConfig → Arm
+armOf c = record { kind = c .kind; brake = c .brake .kind; dt = c .limits .dt; «a_max» = c .limits .«a_max»; «j_max» = c .limits .«j_max» }
+
+module _ (f : Format) (c : FuseConfig) (p v rows : List Float) (h d from : ℕ) where
+  -- the given start on the axes that move
+  abbrev pub start : State
+  start = record { p = eight p (live c); v = eight v (live c) }
+
+  abbrev pub secondOrder : Gains → rollout.Task
+  secondOrder g = record {
+    gains = g;
+    walls = wallsAt f c;
+    n = live c;
+    start = start;
+    rows = rows;
+    horizon = h;
+    dim = d;
+    from = from;
+    commit = c .brake .commit .0;
+    brake = c .brake .«brake_steps» .0;
+    per = c .brake .substeps .0;
+  }
+
+  abbrev pub closed : stopping.Task
+  closed = record {
+    arm = armOf c;
+    react = c .brake .«react_ticks»;
+    walls = wallsAt f c;
+    n = live c;
+    start = start;
+    rows = rows;
+    horizon = h;
+    dim = d;
+    from = from;
+    commit = c .brake .commit .0;
+  }
+
+  -- by the kind of brake
+  unfoldable pub forecastBy : BrakeKind → Forecast
+  forecastBy (PdSecondOrder kp kv dt) = rollout.forecast f (secondOrder (record { kp = kp; kv = kv; dt = dt }))
+  forecastBy (FirstOrderDecay kp kv dt) = stopping.forecast f closed
+  forecastBy (BoundedAccel kp kv dt) = stopping.forecast f closed
+  forecastBy (JerkLimited kp kv dt) = stopping.forecast f closed
+  forecastBy (ZeroVelocityHold kp kv dt) = stopping.forecast f closed
+
+  abbrev pub forecastOf : Forecast
+  forecastOf = forecastBy (c .brake .kind)
+
+-- ---- brake and hold
+
+-- a position kind's row: the position, 0.0 where it has no such coordinate, inside its walls
+unfoldable pub setpoint : Walls → List Float → ℕ → List Float
+setpoint w p n = inward w (eight p 8) n
+
+abbrev pub one : Float
+one = fin false 1 (pos 0)
+
+-- 1e-9, as a binary64
+abbrev pub eps : Float
+eps = fin false 4835703278458517 (negsuc 81)
+
+-- the part of the velocity that one step of braking leaves: max(0, 1 - a_max dt / (|v| + eps))
+unfoldable pub ramp : Format → Float → Float → List Float → ℕ → Checked Float
+ramp f a dt v n = do
+  s ← norm f v (min n (length v))
+  loss ← times f a dt
+  most ← plus f s eps
+  part ← divided f loss most
+  left ← minus f one part
+  pure (greater +0 left)
+
+-- the velocity with a factor on its first n coordinates, 0.0 where there is none
+unfoldable pub slowed : Format → Float → List Float → ℕ → Checked (List Float)
+slowed f k v n = each (λ (j : ℕ). if ltb j (length v) then times f (at v j) k else pure +0) (replicate 8 +0) n
+
+-- the row that brakes: a velocity, a displacement (a velocity times dt), or a position
+unfoldable pub brakeRow : Format → ActionKind → Float → Float → Walls → List Float → List Float → ℕ → Checked (List Float)
+brakeRow f JointVelocity a dt w p v n = do
+  k ← ramp f a dt v n
+  slowed f k v n
+brakeRow f EeDelta a dt w p v n = do
+  k ← ramp f a dt v n
+  m ← times f k dt
+  slowed f m v n
+brakeRow f EePosition a dt w p v n = pure (setpoint w p n)
+brakeRow f JointPosition a dt w p v n = pure (setpoint w p n)
+brakeRow f Other a dt w p v n = pure (setpoint w p n)
+
+-- the row that holds: no velocity, or the latched position inside its walls
+unfoldable pub holdRow : ActionKind → Walls → List Float → ℕ → List Float
+holdRow JointVelocity w p n = replicate 8 +0
+holdRow EeDelta w p n = replicate 8 +0
+holdRow EePosition w p n = setpoint w p n
+holdRow JointPosition w p n = setpoint w p n
+holdRow Other w p n = setpoint w p n

@@ -1,0 +1,341 @@
+// The brake's entries: the stopping forecast, and the rows that brake and hold.
+ghost use mathlib.Core.Path.{_≡_};
+ghost use mathlib.Core.Bool.{true};
+ghost use mathlib.Core.List.{_++_};
+ghost use Prim.Native.Nat.{ℕ, suc, _+_, _-_, _*_, min, _≤_};
+ghost use lib.ListN.{length, getD};
+ghost use lib.Ieee.{Float, binary64};
+ghost use Rattle.refusal.specs.Order.{refusal};
+ghost use Rattle.fmath.specs.Each.{at, over};
+ghost use Rattle.fmath.specs.Finite.{+0};
+ghost use Rattle.chunk.specs.Refusals.{chunkReasons};
+ghost use Rattle.envelope.specs.Refusals.{configJudged};
+ghost use Rattle.rollout.specs.Plant.{State};
+ghost use Rattle.rollout.specs.Forecast.{Forecast, writtenOf};
+ghost use Rattle.rollout.specs.Rule as rolling;
+ghost use Rattle.rollout.specs.Of as rolled;
+ghost use Rattle.stopping.specs.Rule as stopping-rule;
+ghost use Rattle.stopping.specs.Of as stopped;
+ghost use Rattle.brake.specs.Rule.{eight, armOf, forecastOf, setpoint, ramp, slowed, brakeRow, holdRow};
+ghost use Rattle.brake.specs.Answer.{tooShort, someLentNotFinite, outcome, lentJudged, forecastAnswer, forecastSlacks, brakeSent, brakeLent, brakeAnswer, brakeOutput, holdLent, holdAnswer, holdOutput};
+ghost use Rattle.brake.specs.Of.{workspaceFor, courseFor, startFor, rowFrom, countFor, Planned};
+use envelope::ActionKind;
+use envelope::BrakeKind;
+use envelope::BrakeModel;
+use envelope::FuseConfig;
+use refusal::Refusal;
+use rollout::Course;
+use rollout::Law;
+use rollout::Plant;
+use rollout::Reckoned;
+use rollout::Run;
+use stopping::Arm;
+use workspace::Workspace;
+
+// A forecast: its slack entries, the least of them, whether none is negative, and how far the arm comes; or why there is none.
+pub enum BrakeOut {
+    Accepted {
+        count: usize,
+        margin: f64,
+        feasible: bool,
+        stop_dist: f64,
+    },
+    Refused(Refusal),
+}
+
+// What became of a lent row: it is written, or why it is not.
+pub enum Sent {
+    Done,
+    Refused(Refusal),
+}
+
+// A row, and whether each number computed on the way is finite.
+struct Row {
+    at: [f64; 8],
+    sound: bool,
+}
+
+fn lesser(a: usize, b: usize) -> usize
+    ensures { λ r. ⌜ r ≡ min a b ⌝ }
+{
+    if a < b { a } else { b }
+}
+
+fn or_zero(l: &[f64], j: usize) -> f64
+    ensures { λ r. ⌜ r ≡ getD (now (l .entry)) j +0 ⌝ }
+{
+    if j < l.len() { l[j] } else { 0.0 }
+}
+
+// The first n numbers, 0.0 for one that is not there, and 0.0 past them.
+fn eight(l: &[f64], n: usize) -> [f64; 8]
+    requires { ⌜ n ≤ 8 ⌝ }
+    ensures { λ r. ⌜ r ≡ eight (now (l .entry)) n ⌝ }
+{
+    let mut r = [0.0; 8];
+    let mut j = 0;
+    while j < n {
+        r[j] = or_zero(l, j);
+        j += 1;
+    }
+    r
+}
+
+// The walls that module 4 derives.
+fn workspace_of(c: FuseConfig) -> Workspace
+    ensures { λ r. ⌜ r ≡ workspaceFor c ⌝ }
+{
+    let d = envelope::derive(c);
+    let lo = d.box_lo;
+    let hi = d.box_hi;
+    Workspace { lo, hi }
+}
+
+// ---- the forecast
+
+fn course_of(c: FuseConfig, horizon: u16, dim: u16, from: usize) -> Course
+    ensures { λ r. ⌜ r ≡ courseFor c horizon dim from ⌝ }
+{
+    let live = lesser(c.dim, c.pos_dim);
+    let model = c.brake;
+    let commit = model.commit;
+    let brake = model.brake_steps;
+    let per = model.substeps;
+    Course {
+        live,
+        horizon,
+        dim,
+        from,
+        commit,
+        brake,
+        per,
+    }
+}
+
+fn arm_of(c: FuseConfig) -> Arm
+    ensures { λ r. ⌜ r ≡ armOf c ⌝ }
+{
+    let kind = c.kind;
+    let model = c.brake;
+    let brake = model.kind;
+    Arm {
+        kind,
+        brake,
+        dt: c.limits.dt,
+        a_max: c.limits.a_max,
+        j_max: c.limits.j_max,
+    }
+}
+
+// The given start on the axes that move.
+fn start_of(c: FuseConfig, pos: &[f64], vel: &[f64]) -> Plant
+    requires { ⌜ c .dim ≤ 8 ⌝ }
+    ensures { λ r. ⌜ r ≡ startFor c (now (pos .entry)) (now (vel .entry)) ⌝ }
+{
+    let n = lesser(c.dim, c.pos_dim);
+    let p = eight(pos, n);
+    let v = eight(vel, n);
+    Plant { p, v }
+}
+
+// What a run and the stop distance at its end come to: the first number that isn't finite has the place after the entries.
+fn settled(run: Run, stop: Reckoned) -> BrakeOut
+    requires { ⌜ run .done ≤ 4096 ⌝ }
+    ensures { λ r. ⌜ ((t : Forecast) (stand : ℕ → State) → run ≡ rolled.runOf t stand → (run .sound ≡ true → stop ≡ rolled.reckonedFrom (t .stop)) → r ≡ outcome t) ⌝ }
+{
+    if !run.sound | !stop.sound {
+        return BrakeOut::Refused(Refusal {
+            number: Refusal::COMPUTED,
+            place: run.done + 1,
+        });
+    }
+    BrakeOut::Accepted {
+        count: run.done,
+        margin: run.margin,
+        feasible: 0.0 <= run.margin,
+        stop_dist: stop.value,
+    }
+}
+
+// The second-order brake.
+fn second_order(
+    g: Law,
+    w: Workspace,
+    c: Course,
+    start: Plant,
+    rows: &[f64],
+    slack: &mut [f64],
+) -> BrakeOut
+    requires { ⌜ (rolled.roomy c (length (now rows)) (length (now slack)) ≡ true) × ((c .commit .0 - c .from + c .brake .0) * c .per .0 ≤ 4096) ⌝ }
+    ensures { λ r. ⌜ (r ≡ outcome (rolling.forecast binary64 (rolled.taskOf g w c start (now (rows .entry))))) × (now (slack .exit) ≡ writtenOf (rolling.forecast binary64 (rolled.taskOf g w c start (now (rows .entry)))) (now (slack .entry))) ⌝ }
+{
+    let run = rollout::rollout(g, w, c, start, rows, slack);
+    let end = run.plant;
+    let stop = rollout::stop_distance(start, end, c.live);
+    settled(run, stop)
+}
+
+// The closed kinds.
+fn closed(
+    arm: Arm,
+    react: u16,
+    w: Workspace,
+    c: Course,
+    start: Plant,
+    rows: &[f64],
+    slack: &mut [f64],
+) -> BrakeOut
+    requires { ⌜ (stopped.roomy c (length (now rows)) (length (now slack)) ≡ true) × (suc (c .commit .0 - c .from) ≤ 4096) ⌝ }
+    ensures { λ r. ⌜ (r ≡ outcome (stopping-rule.forecast binary64 (stopped.taskOf arm react w c start (now (rows .entry))))) × (now (slack .exit) ≡ writtenOf (stopping-rule.forecast binary64 (stopped.taskOf arm react w c start (now (rows .entry)))) (now (slack .entry))) ⌝ }
+{
+    let run = stopping::stopping(arm, react, w, c, start, rows, slack);
+    let end = run.plant;
+    let stop = stopping::stop_distance(arm, react, start, end, c.live);
+    settled(run, stop)
+}
+
+// The forecast of whichever kind, where nothing that is lent is refused.
+fn forecast(
+    c: FuseConfig,
+    pos: &[f64],
+    vel: &[f64],
+    rows: &[f64],
+    horizon: u16,
+    dim: u16,
+    from: usize,
+    slack: &mut [f64],
+) -> BrakeOut
+    requires { ⌜ Planned c (length (now rows)) horizon dim from (length (now slack)) ⌝ }
+    ensures { λ r. ⌜ (r ≡ outcome (forecastOf binary64 c (now (pos .entry)) (now (vel .entry)) (now (rows .entry)) horizon dim from)) × (now (slack .exit) ≡ writtenOf (forecastOf binary64 c (now (pos .entry)) (now (vel .entry)) (now (rows .entry)) horizon dim from) (now (slack .entry))) ⌝ }
+{
+    let w = workspace_of(c);
+    let course = course_of(c, horizon, dim, from);
+    let start = start_of(c, pos, vel);
+    let arm = arm_of(c);
+    let model = c.brake;
+    let react = model.react_ticks;
+    let kind = model.kind;
+    match kind {
+        BrakeKind::PdSecondOrder { k_p, k_v, dt } => {
+            second_order(Law { k_p, k_v, dt }, w, course, start, rows, slack)
+        }
+        _ => closed(arm, react, w, course, start, rows, slack),
+    }
+}
+
+// How many entries there are if every computed number is finite.
+fn entries(brake: BrakeModel, from: usize) -> usize
+    ensures { λ r. ⌜ r ≡ countFor brake (brake .kind) from ⌝ }
+{
+    let left = rollout::rows_left(brake.commit, from);
+    let kind = brake.kind;
+    match kind {
+        BrakeKind::PdSecondOrder {
+            k_p: _,
+            k_v: _,
+            dt: _,
+        } => envelope::substeps_in(left, brake.brake_steps, brake.substeps),
+        _ => left.0 as usize + 1,
+    }
+}
+
+// Whether the position or the velocity is shorter than pos_dim, or the entries have too little room.
+fn too_short(pos_dim: usize, pos: usize, vel: usize, count: usize, room: usize) -> bool
+    ensures { λ r. ⌜ r ≡ tooShort «pos_dim» pos vel count room ⌝ }
+{
+    (pos < pos_dim) | (vel < pos_dim) | (room < count)
+}
+
+// Whether some number that is lent, read or not, is not finite.
+fn not_finite(pos: &[f64], vel: &[f64], rows: &[f64]) -> bool
+    ensures { λ r. ⌜ r ≡ someLentNotFinite (now (pos .entry)) (now (vel .entry)) (now (rows .entry)) ⌝ }
+{
+    let k = fmath::all_finite(pos, pos.len());
+    let l = fmath::all_finite(vel, vel.len());
+    let m = fmath::all_finite(rows, rows.len());
+    !k | !l | !m
+}
+
+// The number for what is lent where the configuration and the sizes are accepted: 10, then 11, then 12.
+fn lent_refusal(
+    c: FuseConfig,
+    pos: &[f64],
+    vel: &[f64],
+    rows: &[f64],
+    horizon: u16,
+    dim: u16,
+    from: usize,
+    room: usize,
+) -> u8
+    ensures { λ r. ⌜ r ≡ refusal (lentJudged c (now (pos .entry)) (now (vel .entry)) (now (rows .entry)) horizon dim 0 from room) ⌝ }
+{
+    if dim as usize != c.dim {
+        return Refusal::WIDTH;
+    }
+    let count = entries(c.brake, from);
+    if too_short(c.pos_dim, pos.len(), vel.len(), count, room) {
+        return Refusal::SHORT;
+    }
+    if not_finite(pos, vel, rows) {
+        return Refusal::NOT_FINITE;
+    }
+    0
+}
+
+// The number before anything is computed: the configuration's own, then the sizes', then that of what is lent; 0 where there is none.
+fn forecast_refusal(
+    c: FuseConfig,
+    pos: &[f64],
+    vel: &[f64],
+    rows: &[f64],
+    horizon: u16,
+    dim: u16,
+    exec_steps: u16,
+    from: usize,
+    room: usize,
+) -> u8
+    ensures { λ r. ⌜ r ≡ refusal (configJudged c ++ (chunkReasons horizon dim «exec_steps» (length (now (rows .entry))) ++ lentJudged c (now (pos .entry)) (now (vel .entry)) (now (rows .entry)) horizon dim «exec_steps» from room)) ⌝ }
+{
+    let number = envelope::config_refusal(c);
+    if number != 0 {
+        return number;
+    }
+    let sizes = chunk::chunk_refusal(horizon, dim, exec_steps, rows.len());
+    if sizes != 0 {
+        return sizes;
+    }
+    lent_refusal(c, pos, vel, rows, horizon, dim, from, room)
+}
+
+// Whether the arm can still stop inside its walls: from row `from` through the committed rows and the braking after them. The slack
+// entries are filled in order and the rest stays. A computed number that isn't finite is refused with its place, the entries before it
+// being written; any other refusal, by the lowest number that applies, writes nothing.
+pub fn brake_feasible(
+    c: FuseConfig,
+    pos: &[f64],
+    vel: &[f64],
+    rows: &[f64],
+    horizon: u16,
+    dim: u16,
+    exec_steps: u16,
+    from: usize,
+    slack: &mut [f64],
+) -> BrakeOut
+    ensures { λ r. ⌜ (r ≡ forecastAnswer c (now (pos .entry)) (now (vel .entry)) (now (rows .entry)) horizon dim «exec_steps» from (length (now (slack .entry)))) × (now (slack .exit) ≡ forecastSlacks c (now (pos .entry)) (now (vel .entry)) (now (rows .entry)) horizon dim «exec_steps» from (now (slack .entry))) ⌝ }
+{
+    let number = forecast_refusal(
+        c,
+        pos,
+        vel,
+        rows,
+        horizon,
+        dim,
+        exec_steps,
+        from,
+        slack.len(),
+    );
+    if number != 0 {
+        return BrakeOut::Refused(Refusal::of(number));
+    }
+    forecast(c, pos, vel, rows, horizon, dim, from, slack)
+}
