@@ -2,3 +2,5 @@ pub mod ByKind
 pub mod Outcome
 pub mod Judged
 pub mod Room
+pub mod Told
+pub mod Sending

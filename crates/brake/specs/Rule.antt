@@ -110,19 +110,31 @@ ramp f a dt v n = do
   left ← minus f one part
   pure (greater +0 left)
 
--- the velocity with a factor on its first n coordinates, 0.0 where there is none
-unfoldable pub slowed : Format → Float → List Float → ℕ → Checked (List Float)
-slowed f k v n = each (λ (j : ℕ). if ltb j (length v) then times f (at v j) k else pure +0) (replicate 8 +0) n
+-- coordinate j of the velocity times k, 0.0 where there is none
+unfoldable pub scaledAt : Format → Float → List Float → ℕ → Checked Float
+scaledAt f k v j = if ltb j (length v) then times f (at v j) k else pure +0
 
--- the row that brakes: a velocity, a displacement (a velocity times dt), or a position
-unfoldable pub brakeRow : Format → ActionKind → Float → Float → Walls → List Float → List Float → ℕ → Checked (List Float)
-brakeRow f JointVelocity a dt w p v n = do
+-- .. on the first n coordinates
+unfoldable pub slowed : Format → Float → List Float → ℕ → Checked (List Float)
+slowed f k v n = each (scaledAt f k v) (replicate 8 +0) n
+
+-- a row of velocities that brakes
+unfoldable pub slower : Format → Float → Float → List Float → ℕ → Checked (List Float)
+slower f a dt v n = do
   k ← ramp f a dt v n
   slowed f k v n
-brakeRow f EeDelta a dt w p v n = do
+
+-- a row of displacements that brakes: velocities times dt
+unfoldable pub shorter : Format → Float → Float → List Float → ℕ → Checked (List Float)
+shorter f a dt v n = do
   k ← ramp f a dt v n
   m ← times f k dt
   slowed f m v n
+
+-- the row that brakes, by the kind of action
+unfoldable pub brakeRow : Format → ActionKind → Float → Float → Walls → List Float → List Float → ℕ → Checked (List Float)
+brakeRow f JointVelocity a dt w p v n = slower f a dt v n
+brakeRow f EeDelta a dt w p v n = shorter f a dt v n
 brakeRow f EePosition a dt w p v n = pure (setpoint w p n)
 brakeRow f JointPosition a dt w p v n = pure (setpoint w p n)
 brakeRow f Other a dt w p v n = pure (setpoint w p n)

@@ -10,14 +10,15 @@ ghost use Rattle.fmath.specs.Each.{at, over};
 ghost use Rattle.fmath.specs.Finite.{+0};
 ghost use Rattle.chunk.specs.Refusals.{chunkReasons};
 ghost use Rattle.envelope.specs.Refusals.{configJudged};
+ghost use Rattle.workspace.specs.Of.{wallsOf};
 ghost use Rattle.rollout.specs.Plant.{State};
 ghost use Rattle.rollout.specs.Forecast.{Forecast, writtenOf};
 ghost use Rattle.rollout.specs.Rule as rolling;
 ghost use Rattle.rollout.specs.Of as rolled;
 ghost use Rattle.stopping.specs.Rule as stopping-rule;
 ghost use Rattle.stopping.specs.Of as stopped;
-ghost use Rattle.brake.specs.Rule.{eight, armOf, forecastOf, setpoint, ramp, slowed, brakeRow, holdRow};
-ghost use Rattle.brake.specs.Answer.{tooShort, someLentNotFinite, outcome, lentJudged, forecastAnswer, forecastSlacks, brakeSent, brakeLent, brakeAnswer, brakeOutput, holdLent, holdAnswer, holdOutput};
+ghost use Rattle.brake.specs.Rule.{eight, armOf, forecastOf, setpoint, ramp, scaledAt, slowed, slower, shorter, brakeRow, holdRow};
+ghost use Rattle.brake.specs.Answer.{tooShort, someLentNotFinite, outcome, lentJudged, forecastAnswer, forecastSlacks, rowLent, brakeAnswer, brakeOutput, holdAnswer, holdOutput};
 ghost use Rattle.brake.specs.Of.{workspaceFor, courseFor, startFor, rowFrom, countFor, Planned};
 use envelope::ActionKind;
 use envelope::BrakeKind;
@@ -338,4 +339,175 @@ pub fn brake_feasible(
         return BrakeOut::Refused(Refusal::of(number));
     }
     forecast(c, pos, vel, rows, horizon, dim, from, slack)
+}
+
+// ---- brake and hold
+
+// The position, 0.0 where it has no such coordinate, inside its walls on the first n.
+fn setpoint(w: Workspace, pos: &[f64], n: usize) -> [f64; 8]
+    ensures { λ r. ⌜ r ≡ setpoint (wallsOf w) (now (pos .entry)) n ⌝ }
+{
+    let p = eight(pos, 8);
+    workspace::inward(w, p, n)
+}
+
+// The part of the velocity that one step of braking leaves.
+fn ramp(a_max: f64, dt: f64, vel: &[f64], n: usize) -> Reckoned
+    ensures { λ r. ⌜ r ≡ rolled.reckonedFrom (ramp binary64 «a_max» dt (now (vel .entry)) n) ⌝ }
+{
+    let s = fmath::magnitude(vel, lesser(n, vel.len()));
+    let most = s + 1e-9;
+    let left = 1.0 - a_max * dt / most;
+    let value = fmath::max(0.0, left);
+    let sound = fmath::finite(most) & fmath::finite(left);
+    Reckoned { value, sound }
+}
+
+// Coordinate j of the velocity times k, 0.0 where there is none.
+fn scaled(k: f64, vel: &[f64], j: usize) -> f64
+    ensures { λ r. ⌜ r ≡ scaledAt binary64 k (now (vel .entry)) j .value ⌝ }
+{
+    if j < vel.len() { vel[j] * k } else { 0.0 }
+}
+
+// .. on the first n coordinates.
+fn slowed(k: f64, vel: &[f64], n: usize) -> Row
+    requires { ⌜ n ≤ 8 ⌝ }
+    ensures { λ r. ⌜ r ≡ rowFrom (slowed binary64 k (now (vel .entry)) n) ⌝ }
+{
+    let mut at = [0.0; 8];
+    let mut sound = true;
+    let mut j = 0;
+    while j < n {
+        let x = scaled(k, vel, j);
+        at[j] = x;
+        sound = sound & fmath::finite(x);
+        j += 1;
+    }
+    Row { at, sound }
+}
+
+// A row of velocities that brakes.
+fn slower(a_max: f64, dt: f64, vel: &[f64], n: usize) -> Row
+    requires { ⌜ n ≤ 8 ⌝ }
+    ensures { λ r. ⌜ r ≡ rowFrom (slower binary64 «a_max» dt (now (vel .entry)) n) ⌝ }
+{
+    let k = ramp(a_max, dt, vel, n);
+    let r = slowed(k.value, vel, n);
+    let at = r.at;
+    let sound = k.sound & r.sound;
+    Row { at, sound }
+}
+
+// A row of displacements that brakes.
+fn shorter(a_max: f64, dt: f64, vel: &[f64], n: usize) -> Row
+    requires { ⌜ n ≤ 8 ⌝ }
+    ensures { λ r. ⌜ r ≡ rowFrom (shorter binary64 «a_max» dt (now (vel .entry)) n) ⌝ }
+{
+    let k = ramp(a_max, dt, vel, n);
+    let m = k.value * dt;
+    let fine = fmath::finite(m);
+    let r = slowed(m, vel, n);
+    let at = r.at;
+    let sound = k.sound & (fine & r.sound);
+    Row { at, sound }
+}
+
+// The row that brakes, by the kind of action.
+fn brake_row(
+    kind: ActionKind,
+    a_max: f64,
+    dt: f64,
+    w: Workspace,
+    pos: &[f64],
+    vel: &[f64],
+    n: usize,
+) -> Row
+    requires { ⌜ n ≤ 8 ⌝ }
+    ensures { λ r. ⌜ r ≡ rowFrom (brakeRow binary64 kind «a_max» dt (wallsOf w) (now (pos .entry)) (now (vel .entry)) n) ⌝ }
+{
+    match kind {
+        ActionKind::JointVelocity => slower(a_max, dt, vel, n),
+        ActionKind::EeDelta => shorter(a_max, dt, vel, n),
+        _ => {
+            let at = setpoint(w, pos, n);
+            Row { at, sound: true }
+        }
+    }
+}
+
+// The row that holds, by the kind of action.
+fn hold_row(kind: ActionKind, w: Workspace, pos: &[f64], n: usize) -> [f64; 8]
+    ensures { λ r. ⌜ r ≡ holdRow kind (wallsOf w) (now (pos .entry)) n ⌝ }
+{
+    match kind {
+        ActionKind::JointVelocity => [0.0; 8],
+        ActionKind::EeDelta => [0.0; 8],
+        _ => setpoint(w, pos, n),
+    }
+}
+
+// The first n numbers of a row, written over a slice; the rest stays.
+fn write_row(row: [f64; 8], n: usize, out: &mut [f64])
+    requires { ⌜ (n ≤ 8) × (n ≤ length (now out)) ⌝ }
+    ensures { λ _. ⌜ now (out .exit) ≡ over (at row) (now (out .entry)) n ⌝ }
+{
+    let mut j = 0;
+    while j < n {
+        out[j] = row[j];
+        j += 1;
+    }
+}
+
+// The number for a row before it is computed: the configuration's own, then 11, then 12; 0 where there is none.
+fn row_refusal(c: FuseConfig, fine: bool, room: usize) -> u8
+    ensures { λ r. ⌜ r ≡ refusal (configJudged c ++ rowLent c fine room) ⌝ }
+{
+    let number = envelope::config_refusal(c);
+    if number != 0 {
+        return number;
+    }
+    if room < c.dim {
+        return Refusal::SHORT;
+    }
+    if !fine {
+        return Refusal::NOT_FINITE;
+    }
+    0
+}
+
+// The row that brakes, written over the output's first dim numbers. A refusal, by the lowest number that applies, writes nothing.
+pub fn brake_action(c: FuseConfig, pos: &[f64], vel: &[f64], out: &mut [f64]) -> Sent
+    ensures { λ r. ⌜ (r ≡ brakeAnswer c (now (pos .entry)) (now (vel .entry)) (length (now (out .entry)))) × (now (out .exit) ≡ brakeOutput c (now (pos .entry)) (now (vel .entry)) (now (out .entry))) ⌝ }
+{
+    let fine = fmath::all_finite(pos, pos.len()) & fmath::all_finite(vel, vel.len());
+    let number = row_refusal(c, fine, out.len());
+    if number != 0 {
+        return Sent::Refused(Refusal::of(number));
+    }
+    let w = workspace_of(c);
+    let kind = c.kind;
+    let row = brake_row(kind, c.limits.a_max, c.limits.dt, w, pos, vel, c.dim);
+    if !row.sound {
+        return Sent::Refused(Refusal::of(Refusal::COMPUTED));
+    }
+    let at = row.at;
+    write_row(at, c.dim, out);
+    Sent::Done
+}
+
+// The row that holds a latched position, likewise.
+pub fn hold_action(c: FuseConfig, pos: &[f64], out: &mut [f64]) -> Sent
+    ensures { λ r. ⌜ (r ≡ holdAnswer c (now (pos .entry)) (length (now (out .entry)))) × (now (out .exit) ≡ holdOutput c (now (pos .entry)) (now (out .entry))) ⌝ }
+{
+    let fine = fmath::all_finite(pos, pos.len());
+    let number = row_refusal(c, fine, out.len());
+    if number != 0 {
+        return Sent::Refused(Refusal::of(number));
+    }
+    let w = workspace_of(c);
+    let kind = c.kind;
+    let row = hold_row(kind, w, pos, c.dim);
+    write_row(row, c.dim, out);
+    Sent::Done
 }

@@ -1,0 +1,52 @@
+-- `brake::hold_action` meets its contract: refused before the row is made, or written.
+use mathlib.Core.Path.{sym, _∙_}
+use denote.Ref.{now}
+use lib.ListN.{length}
+use Rattle.brake.proofs.Sending.{sized, hold-refused, hold-done}
+use borrow.Author.Needs.{needs}
+use Rattle.brake.proofs.hold_action.Statement.{statement}
+use Rattle.brake.proofs.hold_action.Tie as tie
+
+all-finite-requires : tie.Need-all-finite-requires
+all-finite-requires c κs = search needs
+
+row-refusal-requires : tie.Need-row-refusal-requires
+row-refusal-requires c κs = search needs
+
+of-requires : tie.Need-of-requires
+of-requires c κs = search needs
+
+returns : tie.Need-returns
+returns c = let g = c .before .before .before .before .before .before .args in let w = hold-refused (g .c) (now (g .pos)) (now (g .out)) (c .before .before .before .all-finite .ensures) (c .before .before .row-refusal .ensures) (c .before .if1 .taken) (c .of .ensures) in (w .gives, w .leaves)
+
+workspace-of-requires : tie.Need-workspace-of-requires
+workspace-of-requires c κs = search needs
+
+hold-row-requires : tie.Need-hold-row-requires
+hold-row-requires c κs = search needs
+
+write-row-requires : tie.Need-write-row-requires
+write-row-requires c κs = let g = c .before .before .before .before .before .before .before .before .args in sized (g .c) (c .before .before .before .before .before .all-finite .result) (length (now (g .out))) (sym (c .before .before .before .before .row-refusal .ensures) ∙ c .before .before .before .if1 .left)
+
+same-length : tie.Need-same-length
+same-length c = search needs
+
+returns-2 : tie.Need-returns-2
+returns-2 c =
+    let g = c .before .before .before .before .before .before .before .before .before .before .before .args in
+    let w = hold-done (g .c) (now (g .pos)) (now (g .out)) (c .before .before .before .before .before .before .before .before .all-finite .ensures) (sym (c .before .before .before .before .before .before .before .row-refusal .ensures) ∙ c .before .before .before .before .before .before .if1 .left) (c .before .before .before .before .before .workspace-of .ensures) (c .before .before .before .before .hold-row .ensures) (c .before .before .write-row .ensures) in
+    (w .gives, w .leaves)
+
+pub hold-action-spec : {M : Type 1} → statement M
+hold-action-spec =
+    tie.close
+    (tie.spec
+    all-finite-requires
+    row-refusal-requires
+    of-requires
+    returns
+    workspace-of-requires
+    hold-row-requires
+    write-row-requires
+    same-length
+    returns-2)
