@@ -4,3 +4,4 @@ pub mod Judged
 pub mod Room
 pub mod Told
 pub mod Sending
+pub mod Promises

@@ -34,7 +34,7 @@ use Rattle.brake.specs.Answer.{rowLent, eachFinite, sentAt, rowAt, brake
 
 -- ---- position kinds
 
-abbrev Position : ActionKind → Type 0
+abbrev pub Position : ActionKind → Type 0
 Position k = OneOf (0 ∷ 2 ∷ 4 ∷ []) (tagOf kind.the-type k)
 
 module _ (w : Walls) (p : List Float) (n : ℕ) where

@@ -1,0 +1,133 @@
+-- What module 7's entries promise: the forecast's answer and its entries, word for word, and that position kinds write inside the box.
+use Prim.Native.Nat.{ℕ, suc, _+_, _-_, _*_, _≤_, _<_}
+use mathlib.Core.Path.{_≡_, refl, sym, ap, _∙_}
+use mathlib.Core.Bool.{Bool, true, false, not, _&&_}
+use mathlib.Core.List.{List, [], _∷_, _++_}
+use native.Mathlib.Omega.{arith}
+use borrow.Author.Tests.{ne-eqb, eq-eqb}
+use lib.Dec.{eqb}
+use lib.ListN.{length, getD, replicate}
+use lib.Ieee.{Float, binary64, lt, inf}
+use Rattle.refusal.specs.Order.{computed, _when_, refusal, if_then_else_}
+use Rattle.refusal.specs.Chain.{both-pass}
+use Rattle.fmath.specs.Each.{at, all, over}
+use Rattle.fmath.specs.Finite.{+0}
+use Rattle.fmath.specs.Checked.{Checked, pure}
+use Rattle.fmath.proofs.Each.{length-over, over-at}
+use Rattle.chunk.specs.Refusals.{chunkReasons}
+use Rattle.envelope.specs.Refusals.{configJudged}
+use Rattle.envelope.specs.declared.ActionKind.{ActionKind}
+use Rattle.envelope.specs.declared.BrakeKind.the-variants.{PdSecondOrder}
+use Rattle.envelope.specs.declared.FuseConfig.{FuseConfig}
+use Rattle.envelope.proofs.Accepted.{accepted, dim-most, walls-ordered}
+use Rattle.workspace.specs.Rule.{Walls, slack}
+use Rattle.workspace.proofs.Inside.{inward-inside}
+use Rattle.rollout.specs.Plant.{Gains, State, substep}
+use Rattle.rollout.specs.Forecast.{Forecast, fine, slackAt, reached, placeOf, marginOf, feasibleOf, writtenOf}
+use Rattle.rollout.specs.Rule.{after, aim, forecast}
+use Rattle.rollout.proofs.Promises.{Whole, whole-reached, written-in-order, others-kept, first-failing-place, failing-at-the-end, accepted-whole}
+use Rattle.brake.specs.declared.BrakeOut.{BrakeOut}
+use Rattle.brake.specs.declared.BrakeOut.the-variants as out
+use Rattle.brake.specs.Rule.{eight, live, wallsAt, setpoint, brakeRow, holdRow, secondOrder, forecastBy}
+use Rattle.brake.specs.Answer.{outcome, plan, lentJudged, forecastAnswer, forecastSlacks, eachFinite, rowLent, rowAt, brakeSent, brakeRefusal, brakeOutput, holdRefusal, holdOutput}
+use Rattle.brake.proofs.Judged.{foreseen}
+use Rattle.brake.proofs.Sending.{Position, position-brakes, position-holds, sized}
+
+-- ---- the forecast
+
+module _ (c : FuseConfig) (p v rows : List Float) (h d e from : ℕ) (l : List Float)
+    (free : refusal (configJudged c ++ (chunkReasons h d e (length rows) ++ lentJudged c p v rows h d e from (length l))) ≡ 0) where
+  abbrev t : Forecast
+  t = plan c p v rows h d e from
+
+  abbrev answer : BrakeOut
+  answer = forecastAnswer c p v rows h d e from (length l)
+
+  abbrev slacks : List Float
+  slacks = forecastSlacks c p v rows h d e from l
+
+  -- where no refusal but 13 stops the call, the answer is what the forecast comes to
+  pub answer-is : answer ≡ outcome t
+  answer-is = sym (foreseen c p v rows h d e from l free refl refl .gives)
+
+  pub slacks-are : slacks ≡ writtenOf t l
+  slacks-are = sym (foreseen c p v rows h d e from l free refl refl .leaves)
+
+  -- if every computed number is finite, the count, the margin, the flag and the stop distance are the forecast's ..
+  pub accepted-answer : Whole t → t .stop .sound ≡ true → answer ≡ out.Accepted (t .count) (marginOf t) (feasibleOf t) (t .stop .value)
+  unfolding outcome placeOf
+  accepted-answer w s = answer-is ∙ rw (w, s)
+
+  -- .. each entry is written, and all others are kept
+  pub accepted-entries : Whole t → (k : ℕ) → k < t .count → k < length l → at slacks k ≡ slackAt t k
+  accepted-entries w k b r = ap (λ (m : List Float). at m k) slacks-are ∙ written-in-order t l k (rw (← whole-reached t w) at b) r
+
+  pub accepted-rest : Whole t → (k : ℕ) → t .count ≤ k → at slacks k ≡ at l k
+  accepted-rest w k b = ap (λ (m : List Float). at m k) slacks-are ∙ others-kept t l k (rw (← whole-reached t w) at b)
+
+  -- if place k + 1 is the first with a number that isn't finite, it is refused naming that place, with exactly the k entries before it written
+  module _ (k : ℕ) (in-it : k < t .count) (before : all (fine t) k ≡ true) (there : fine t k ≡ false) where
+    pub refused-answer : answer ≡ out.Refused (record { number = 13; place = suc k })
+    unfolding outcome
+    refused-answer = answer-is ∙ rw (first-failing-place t k in-it before there .0, ne-eqb (suc k) 0 (λ z. omega arith))
+
+    pub refused-entries : (j : ℕ) → j < k → j < length l → at slacks j ≡ slackAt t j
+    refused-entries j b r = ap (λ (m : List Float). at m j) slacks-are ∙ written-in-order t l j (rw (← first-failing-place t k in-it before there .1) at b) r
+
+    pub refused-rest : (j : ℕ) → k ≤ j → at slacks j ≡ at l j
+    refused-rest j b = ap (λ (m : List Float). at m j) slacks-are ∙ others-kept t l j (rw (← first-failing-place t k in-it before there .1) at b)
+
+  -- a stop distance that isn't finite has the place after the last entry
+  pub refused-at-the-end : Whole t → t .stop .sound ≡ false → answer ≡ out.Refused (record { number = 13; place = suc (t .count) })
+  unfolding outcome
+  refused-at-the-end w s = answer-is ∙ rw (failing-at-the-end t w s, ne-eqb (suc (t .count)) 0 (λ z. omega arith))
+
+-- for the second-order brake the forecast is that of `rollout`, whose promises say what N is, what each entry is, when it is feasible, and that the
+-- shorter of two lists begins the longer
+module _ (c : FuseConfig) (p v rows : List Float) (h d e from : ℕ) (kp kv dt : Float) (is : c .brake .kind ≡ PdSecondOrder kp kv dt) where
+  pub second-order-plan : plan c p v rows h d e from ≡ forecast binary64 (secondOrder binary64 c p v rows h d from (record { kp = kp; kv = kv; dt = dt }))
+  unfolding forecastBy
+  second-order-plan = rw is
+
+  pub count-is-N : plan c p v rows h d e from .count ≡ (c .brake .commit .0 - from + c .brake .«brake_steps» .0) * c .brake .substeps .0
+  count-is-N = ap (λ (t : Forecast). t .count) second-order-plan
+
+-- ---- position kinds write inside the box
+
+module _ (c : FuseConfig) (p l : List Float) (j : ℕ) (in-it : j < c .dim) where
+  abbrev lo : Float
+  lo = at (wallsAt binary64 c .lo) j
+
+  abbrev hi : Float
+  hi = at (wallsAt binary64 c .hi) j
+
+  setpoint-inside : refusal (configJudged c) ≡ 0 → (lt (at (setpoint (wallsAt binary64 c) p (c .dim)) j) lo ≡ false) × (lt hi (at (setpoint (wallsAt binary64 c) p (c .dim)) j) ≡ false)
+  unfolding setpoint eight
+  setpoint-inside z =
+      let fit = accepted c z in
+      let few = dim-most c fit in
+      inward-inside (wallsAt binary64 c) (eight p 8) (c .dim) j in-it (omega (arith, length-eight)) (walls-ordered c fit j (omega arith))
+    where
+      length-eight : length (eight p 8) ≡ 8
+      length-eight = length-over (λ (i : ℕ). getD p i +0) (replicate 8 +0) 8
+
+  abbrev Inside : List Float → Type 0
+  Inside m = (lt (at m j) lo ≡ false) × (lt hi (at m j) ≡ false)
+
+  written-inside : (fine : Bool) → refusal (configJudged c ++ rowLent c fine (length l)) ≡ 0 → Inside (over (at (setpoint (wallsAt binary64 c) p (c .dim))) l (c .dim))
+  written-inside fine z =
+      let w = sized c fine (length l) z in
+      rw (over-at (at (setpoint (wallsAt binary64 c) p (c .dim))) l (c .dim) j in-it (omega (arith, w .1)))
+      (setpoint-inside (both-pass (configJudged c) (rowLent c fine (length l)) z .0))
+
+  module _ (is : Position (c .kind)) where
+    pub brake-inside : (v : List Float) → brakeRefusal c p v (length l) ≡ 0 → Inside (brakeOutput c p v l)
+    unfolding brakeOutput brakeRefusal brakeSent
+    brake-inside v z =
+        let fine = eachFinite p && eachFinite v in
+        rw (z, position-brakes (wallsAt binary64 c) p (c .dim) binary64 (c .limits .«a_max») (c .limits .dt) v (c .kind) is)
+        (written-inside fine (both-pass (configJudged c ++ rowLent c fine (length l)) ((computed when not (brakeSent c p v .sound)) ∷ []) z .0))
+
+    pub hold-inside : holdRefusal c p (length l) ≡ 0 → Inside (holdOutput c p l)
+    unfolding holdOutput holdRefusal
+    hold-inside z = rw (z, position-holds (wallsAt binary64 c) p (c .dim) (c .kind) is) (written-inside (eachFinite p) z)
