@@ -1,13 +1,9 @@
 -- What is left beside the square of a number that is worked out in two parts, a * 2 ^ 21 + b. Each step fits into 64 digits, so that a difference that wraps
 -- shows itself by its size. Assumes nothing of a and b but their sizes.
 use mathlib.Core.Path.{_≡_, sym, ap, _∙_}
-use Prim.Native.Nat.{ℕ, _+_, _-_, _*_, _/_, _%_, _^_, _≤_, _<_}
+use Prim.Native.Nat.{ℕ, _+_, _-_, _*_, _%_, _^_, _≤_, _<_}
 use native.Mathlib.Nat.{mul-le-mul, mul-add, add-mul, mul-assoc, mul-comm, mul-right-comm}
 use native.Mathlib.Omega.{arith}
-use mathlib.Core.Bool.{cond}
-use lib.Dec.{ltb}
-use Rattle.root.specs.Root.{nearRoot}
-use Rattle.root.proofs.Floor.{scaled-lt, near-beside}
 
 pub square-parts : (a b : ℕ) → (a * 2 ^ 21 + b) * (a * 2 ^ 21 + b) ≡ a * a * 2 ^ 42 + a * b * 2 ^ 22 + b * b
 square-parts a b =
@@ -32,8 +28,3 @@ beside w a b second rest A B f s e t g r =
     let q : second + a * b ≡ (w - a * a) * 2 ^ 20 = omega arith in
     let u : rest + b * b ≡ second * 2 ^ 22 = omega arith in
     omega arith
-
--- at 53 digits, a number with so little left beside its square is the nearest or the one before it
-pub confirmed : (w n root rest : ℕ) → n ≡ 53 → w < 2 ^ 64 → root * root + rest ≡ w * 2 ^ 42 → rest ≤ 3 * root → nearRoot n (w * 4 ^ n / 2 ^ 64) ≡ cond (ltb root rest) (root + 1) root
-confirmed w n root rest e W h l =
-    rw e (near-beside 53 (w * 4 ^ 53 / 2 ^ 64) root rest (scaled-lt w 53 W) (omega arith) (omega arith))

@@ -1,13 +1,12 @@
 // The square root of an `f64`, correctly rounded, worked out from its bits in 64-bit integers.
 ghost use mathlib.Core.Path.{_≡_};
 ghost use Prim.Native.Nat.{_+_, _*_, _/_, _^_, _≤_, _<_};
-ghost use lib.Dec.{T, ltb};
-ghost use mathlib.Core.Bool.{cond};
+ghost use lib.Dec.{T};
 ghost use lib.IntN.{pos, _+ℤ_, _-ℤ_, _*ℤ_};
 ghost use lib.Signed.{mag, nonNeg};
 ghost use lib.Ieee.{binary64, ofBits};
 ghost use Rattle.root.specs.Root.{half, nearRoot, rootOf};
-ghost use Rattle.root.specs.Of.{Ranged, rootParts, unpacked, Written};
+ghost use Rattle.root.specs.Of.{Beside, Ranged, rootParts, unpacked, Written};
 
 // The number digits * 2^exponent; the exponent is unbiased, and as low as -1074 where a number is read.
 struct Parts {
@@ -66,6 +65,12 @@ fn product(a: u32, b: u32) -> u64
     ensures { λ r. ⌜ r ≡ a * b ⌝ }
 {
     (a as u64) * (b as u64)
+}
+
+// A root, and what is left beside its square.
+struct Rooted {
+    root: u64,
+    rest: u64,
 }
 
 // About the root of a number t / 2^30 between 1 and 4, and about one over it, each times 2^31. Nothing is promised of either.
@@ -133,18 +138,10 @@ fn remainder(w: u64, s: Split) -> u64
     0xffff_ffff_ffff_ffff
 }
 
-// The root or the next number, whichever is nearer to the root of root^2 + rest.
-fn nearer(root: u64, rest: u64) -> u64
-    requires { ⌜ root < 2 ^ 63 ⌝ }
-    ensures { λ r. ⌜ r ≡ cond (ltb root rest) (root + 1) root ⌝ }
-{
-    if root < rest { root + 1 } else { root }
-}
-
-// The whole number nearest to the root of w * 4^n / 2^64, one digit of the root and two of w a round.
-fn digit_by_digit(w: u64, n: u64) -> u64
+// The whole part of the root of w * 4^n / 2^64, one digit of the root and two of w a round; no round branches on a digit.
+fn digit_by_digit(w: u64, n: u64) -> Rooted
     requires { ⌜ n ≤ 60 ⌝ }
-    ensures { λ r. ⌜ r ≡ nearRoot n (w * 4 ^ n / 2 ^ 64) ⌝ }
+    ensures { λ r. ⌜ Beside (w * 4 ^ n / 2 ^ 64) r ⌝ }
 {
     let mut left = w;
     let mut root = 0u64;
@@ -153,33 +150,46 @@ fn digit_by_digit(w: u64, n: u64) -> u64
     while k < n {
         let next = rest * 4 + left / 0x4000_0000_0000_0000;
         let less = root * 4 + 1;
+        let digit = (less <= next) as u64;
         left = left << 2;
-        if less <= next {
-            rest = next - less;
-            root = root * 2 + 1;
-        } else {
-            rest = next;
-            root = root * 2;
-        }
+        rest = next - less * digit;
+        root = root * 2 + digit;
         k += 1;
     }
-    nearer(root, rest)
+    Rooted {
+        root: root,
+        rest: rest,
+    }
 }
 
-// The whole number nearest to the root of w * 4^n / 2^64: a guess that its remainder confirms, or else digit by digit.
-fn nearest_root(w: u64, n: u64) -> u64
+// The whole part of the root of w * 4^n / 2^64, or the number before it: a guess that its remainder confirms, or else digit by digit.
+fn whole_root(w: u64, n: u64) -> Rooted
     requires { ⌜ n ≤ 60 ⌝ }
-    ensures { λ r. ⌜ r ≡ nearRoot n (w * 4 ^ n / 2 ^ 64) ⌝ }
+    ensures { λ r. ⌜ Beside (w * 4 ^ n / 2 ^ 64) r ⌝ }
 {
     if n == 53 {
         let s = guess(w);
         let rest = remainder(w, s);
         let root = (s.a as u64) * 0x20_0000 + s.b as u64;
         if rest <= 3 * root {
-            return nearer(root, rest);
+            return Rooted {
+                root: root,
+                rest: rest,
+            };
         }
     }
     digit_by_digit(w, n)
+}
+
+// The whole number nearest to the root of w * 4^n / 2^64.
+fn nearest_root(w: u64, n: u64) -> u64
+    requires { ⌜ n ≤ 60 ⌝ }
+    ensures { λ r. ⌜ r ≡ nearRoot n (w * 4 ^ n / 2 ^ 64) ⌝ }
+{
+    let r = whole_root(w, n);
+    let root = r.root;
+    let rest = r.rest;
+    if root < rest { root + 1 } else { root }
 }
 
 // The exponent of the root, to p digits, of a number of z digits: half of the even one that is left where it is scaled to 2p - 1 or 2p digits.
