@@ -42,7 +42,7 @@ fn answer<T>(a: lictor::Answer<T>) -> Answer<T> {
     a.map_err(|r| model::Refusal { number: r.number, place: r.place })
 }
 
-fn chunk_view<'a>(v: &ChunkView<'a>) -> chunk::ChunkView<'a> {
+pub fn chunk_view<'a>(v: &ChunkView<'a>) -> chunk::ChunkView<'a> {
     let ChunkView { seq, t_emit, horizon, dim, exec_steps, data } = *v;
     chunk::ChunkView { seq, t_emit, horizon, dim, exec_steps, data }
 }

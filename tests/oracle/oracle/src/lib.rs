@@ -18,7 +18,7 @@ pub use compile::{compile, compile_calibrated};
 /// The published items themselves.
 pub mod rust {
     pub use lictor_core::{fmath, ChunkBuf, Feat, FuseConfig, T_GRID};
-    pub use lictor_detect::{brake, conformal, tier0, tier1};
+    pub use lictor_detect::{brake, conformal, tier0, tier1, window};
 }
 
 /// What `features` and `check_chunk` are told about the world.
@@ -32,6 +32,9 @@ thread_local! {
 
 /// Whether the processor's flags can be read, so that `take_raised` means something.
 pub const FLAGS_READ: bool = flags::READ;
+
+/// Whether it then means that the source evaluates a number that is not finite, and not only that the code computes one.
+pub const FLAGS_EXACT: bool = flags::EXACT;
 
 /// Whether a published function called here since the last look has computed a number that is not finite, also one
 /// that dropped out of its answer.
