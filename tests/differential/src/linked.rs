@@ -32,12 +32,8 @@ pub fn port() -> Port {
         path: Some(|t, d, w| answer(trail(t).path(d, w))),
         trail_clear: Some(|t| on_trail(t, |lent| lent.clear())),
         derive: Some(|c| answer(config(c).derive()).map(derived)),
-        check_chunk: Some(|c, pos, aux, ch, out| {
-            found(tier0::check_chunk(&config(c), pos, aux, chunk_view(&ch), out))
-        }),
-        check_action: Some(|c, pos, aux, prev, a, out| {
-            found(tier0::check_action(&config(c), pos, aux, prev, a, out))
-        }),
+        check_chunk: Some(|c, pos, aux, ch, out| found(tier0::check_chunk(&config(c), pos, aux, chunk_view(&ch), out))),
+        check_action: Some(|c, pos, aux, prev, a, out| found(tier0::check_action(&config(c), pos, aux, prev, a, out))),
         standardise: Some(|c, bin, sc| on_scores(sc, |s| conformal::standardise(&calibration(c), bin, s))),
         aggregate: Some(|c, sc| on_scores(sc, |s| conformal::aggregate(&calibration(c), s))),
         trip: Some(|c, sc| answer(conformal::trip(&calibration(c), &scores(sc)))),
