@@ -6,11 +6,11 @@ ghost use Rattle.tier0.specs.Of.{actionAnswer, actionOut, chunkAnswer, chunkOut
 ghost use Rattle.lictor.specs.Answer.{CheckGiven};
 
 #[no_mangle]
-pub extern "C" fn lictor_check_chunk(
+pub extern "C" fn lictor_check_chunk<'a>(
     numbers: &[f64; 44],
     counts: &[u64; 26],
-    center: &[f64; 192],
-    scale: &[f64; 192],
+    center: &'a [f64; 192],
+    scale: &'a [f64; 192],
     pos: &[f64],
     aux: &[f64],
     rows: &[f64],
@@ -27,17 +27,28 @@ pub extern "C" fn lictor_check_chunk(
     if !fits {
         return 255;
     }
-    let c = layout::config::config_of(numbers, counts, center, scale);
-    let a = tier0::check_chunk(c, pos, aux, rows, horizon, dim, exec_steps, out);
+    let c = layout::config::settings_of(numbers, counts);
+    let a = tier0::check_chunk_with(
+        c,
+        center,
+        scale,
+        pos,
+        aux,
+        rows,
+        horizon,
+        dim,
+        exec_steps,
+        out,
+    );
     crate::answer::put_check(a, marks, speed)
 }
 
 #[no_mangle]
-pub extern "C" fn lictor_check_action(
+pub extern "C" fn lictor_check_action<'a>(
     numbers: &[f64; 44],
     counts: &[u64; 26],
-    center: &[f64; 192],
-    scale: &[f64; 192],
+    center: &'a [f64; 192],
+    scale: &'a [f64; 192],
     pos: &[f64],
     aux: &[f64],
     prev: &[f64],
@@ -52,7 +63,7 @@ pub extern "C" fn lictor_check_action(
     if !fits {
         return 255;
     }
-    let c = layout::config::config_of(numbers, counts, center, scale);
-    let a = tier0::check_action(c, pos, aux, prev, action, out);
+    let c = layout::config::settings_of(numbers, counts);
+    let a = tier0::check_action_with(c, center, scale, pos, aux, prev, action, out);
     crate::answer::put_check(a, marks, speed)
 }

@@ -1,15 +1,16 @@
 // Tier 0: the geometric limits, on rows as they came, and the projection of each row inside them.
 ghost use mathlib.Core.Path.{_≡_};
-ghost use mathlib.Core.List.{[], _++_};
+ghost use mathlib.Core.List.{List, [], _++_};
 ghost use Prim.Native.Nat.{_+_, _-_, _*_, _≤_, _<_, min};
 ghost use lib.ListN.{length, replicate};
-ghost use lib.Ieee.{binary64};
+ghost use lib.Ieee.{Float, binary64};
 ghost use Rattle.refusal.specs.Order.{refusal};
 ghost use Rattle.fmath.specs.Each.{at, over};
 ghost use Rattle.fmath.specs.Checked.{pure, each};
 ghost use Rattle.fmath.specs.Finite.{+0};
 ghost use Rattle.chunk.specs.Refusals.{chunkReasons};
 ghost use Rattle.envelope.specs.Refusals.{configJudged};
+ghost use Rattle.envelope.specs.Whole.{whole};
 ghost use Rattle.tier0.specs.Rule.{arms, clear, inZone, zoneIn, slowZone, outOfBox, outOfReach, bit, tripBits, towards, shortened, pulled, leash, boxed, leashed, reached, moves, held, moved, project, projection, checkAction};
 ghost use Rattle.tier0.specs.Chunk.{rawRow, startRow, rowBefore, stepTo, bends, jolts, someOf, bentAt, tooBent, joltedAt, tooJolted, putRow, runRows, projectedRows, checkChunk};
 ghost use Rattle.tier0.specs.Refusals.{tooShort, someLentNotFinite, chunkTooShort, someChunkNotFinite};
@@ -17,6 +18,7 @@ ghost use Rattle.tier0.specs.Of.{checksOf, slowOf, zoneFrom, rowFrom, te
 use envelope::ClampMode;
 use envelope::Contact;
 use envelope::FuseConfig;
+use envelope::Settings;
 use envelope::TripMask;
 use refusal::Refusal;
 use workspace::Workspace;
@@ -110,11 +112,12 @@ pub struct Ruling {
 
 // ---- what is read
 
-fn checks_of(c: FuseConfig) -> Checks
-    ensures { λ r. ⌜ r ≡ checksOf c ⌝ }
+// The tables are not read.
+fn checks_of(c: Settings) -> Checks
+    ensures { λ r. ⌜ ((t u : List Float) → r ≡ checksOf (whole c t u)) ⌝ }
 {
-    let d = envelope::derive(c);
     let l = c.limits;
+    let d = envelope::derive_from(l, c.norm, c.walls, c.dim, c.pos_dim);
     let contact = c.contact;
     let clamp = c.clamp;
     let lo = d.box_lo;
@@ -523,17 +526,19 @@ fn not_finite(pos: &[f64], aux: &[f64], prev: &[f64], a: &[f64]) -> bool
 }
 
 // The number for what is lent: the configuration's own, then 11, then 12; 0 where there is none.
-fn action_refusal(
-    c: FuseConfig,
+fn action_refusal<'a>(
+    c: Settings,
+    center: &'a [f64; 192],
+    scale: &'a [f64; 192],
     pos: &[f64],
     aux: &[f64],
     prev: &[f64],
     a: &[f64],
     room: usize,
 ) -> u8
-    ensures { λ r. ⌜ r ≡ refusal (configJudged c ++ lentToAction c (now (pos .entry)) (now (aux .entry)) (now (prev .entry)) (now (a .entry)) room []) ⌝ }
+    ensures { λ r. ⌜ r ≡ refusal (configJudged (whole c (now (center .entry)) (now (scale .entry))) ++ lentToAction (whole c (now (center .entry)) (now (scale .entry))) (now (pos .entry)) (now (aux .entry)) (now (prev .entry)) (now (a .entry)) room []) ⌝ }
 {
-    let number = envelope::config_refusal(c);
+    let number = envelope::settings_refusal(c, center, scale);
     if number != 0 {
         return number;
     }
@@ -558,19 +563,20 @@ fn write_row(r: [f64; 8], n: usize, out: &mut [f64])
     }
 }
 
-// The check of the action a against its predecessor: which limits it exceeds, its speed, and, in out, its projection; the
-// rest of out stays. A refusal, by the lowest number that applies, leaves out as it was.
-pub fn check_action(
-    c: FuseConfig,
+// `check_action` of settings and lent tables.
+pub fn check_action_with<'a>(
+    c: Settings,
+    center: &'a [f64; 192],
+    scale: &'a [f64; 192],
     pos: &[f64],
     aux: &[f64],
     prev: &[f64],
     a: &[f64],
     out: &mut [f64],
 ) -> Check
-    ensures { λ r. ⌜ (r ≡ actionAnswer c (now (pos .entry)) (now (aux .entry)) (now (prev .entry)) (now (a .entry)) (length (now (out .entry)))) × (now (out .exit) ≡ actionOut c (now (pos .entry)) (now (aux .entry)) (now (prev .entry)) (now (a .entry)) (now (out .entry))) ⌝ }
+    ensures { λ r. ⌜ (r ≡ actionAnswer (whole c (now (center .entry)) (now (scale .entry))) (now (pos .entry)) (now (aux .entry)) (now (prev .entry)) (now (a .entry)) (length (now (out .entry)))) × (now (out .exit) ≡ actionOut (whole c (now (center .entry)) (now (scale .entry))) (now (pos .entry)) (now (aux .entry)) (now (prev .entry)) (now (a .entry)) (now (out .entry))) ⌝ }
 {
-    let number = action_refusal(c, pos, aux, prev, a, out.len());
+    let number = action_refusal(c, center, scale, pos, aux, prev, a, out.len());
     if number != 0 {
         return Check::Refused(Refusal::of(number));
     }
@@ -586,6 +592,22 @@ pub fn check_action(
         clamped_dims: v.mask,
         peak_speed: v.peak,
     }
+}
+
+// The check of the action a against its predecessor: which limits it exceeds, its speed, and, in out, its projection; the
+// rest of out stays. A refusal, by the lowest number that applies, leaves out as it was.
+pub fn check_action(
+    c: FuseConfig,
+    pos: &[f64],
+    aux: &[f64],
+    prev: &[f64],
+    a: &[f64],
+    out: &mut [f64],
+) -> Check
+    ensures { λ r. ⌜ (r ≡ actionAnswer c (now (pos .entry)) (now (aux .entry)) (now (prev .entry)) (now (a .entry)) (length (now (out .entry)))) × (now (out .exit) ≡ actionOut c (now (pos .entry)) (now (aux .entry)) (now (prev .entry)) (now (a .entry)) (now (out .entry))) ⌝ }
+{
+    let s = envelope::settings_of(c);
+    check_action_with(s, &c.calib.center, &c.calib.scale, pos, aux, prev, a, out)
 }
 
 // ---- rows
@@ -941,7 +963,7 @@ fn chunk_not_finite(pos: &[f64], aux: &[f64], rows: &[f64]) -> bool
 
 // The number for what is lent with a chunk whose configuration and sizes are accepted: 10, then 11, then 12.
 fn rows_refusal(
-    c: FuseConfig,
+    c: Settings,
     pos: &[f64],
     aux: &[f64],
     rows: &[f64],
@@ -949,7 +971,7 @@ fn rows_refusal(
     dim: u16,
     room: usize,
 ) -> u8
-    ensures { λ r. ⌜ r ≡ refusal (lentToChunk c (now (pos .entry)) (now (aux .entry)) (now (rows .entry)) horizon dim 0 room []) ⌝ }
+    ensures { λ r. ⌜ ((t u : List Float) → r ≡ refusal (lentToChunk (whole c t u) (now (pos .entry)) (now (aux .entry)) (now (rows .entry)) horizon dim 0 room [])) ⌝ }
 {
     let h = horizon as usize;
     let d = dim as usize;
@@ -966,8 +988,10 @@ fn rows_refusal(
 }
 
 // The number for a chunk: the configuration's own, then the sizes', then what is lent; 0 where there is none.
-fn chunk_refusal(
-    c: FuseConfig,
+fn chunk_refusal<'a>(
+    c: Settings,
+    center: &'a [f64; 192],
+    scale: &'a [f64; 192],
     pos: &[f64],
     aux: &[f64],
     rows: &[f64],
@@ -976,9 +1000,9 @@ fn chunk_refusal(
     exec_steps: u16,
     room: usize,
 ) -> u8
-    ensures { λ r. ⌜ r ≡ refusal (configJudged c ++ (chunkReasons horizon dim «exec_steps» (length (now (rows .entry))) ++ lentToChunk c (now (pos .entry)) (now (aux .entry)) (now (rows .entry)) horizon dim «exec_steps» room [])) ⌝ }
+    ensures { λ r. ⌜ r ≡ refusal (configJudged (whole c (now (center .entry)) (now (scale .entry))) ++ (chunkReasons horizon dim «exec_steps» (length (now (rows .entry))) ++ lentToChunk (whole c (now (center .entry)) (now (scale .entry))) (now (pos .entry)) (now (aux .entry)) (now (rows .entry)) horizon dim «exec_steps» room [])) ⌝ }
 {
-    let number = envelope::config_refusal(c);
+    let number = envelope::settings_refusal(c, center, scale);
     if number != 0 {
         return number;
     }
@@ -989,10 +1013,11 @@ fn chunk_refusal(
     rows_refusal(c, pos, aux, rows, horizon, dim, room)
 }
 
-// The check of a chunk of rows: which limits they exceed, the greatest speed, and, in out, the projected rows; the rest of
-// out stays. A refusal, by the lowest number that applies, leaves out as it was.
-pub fn check_chunk(
-    c: FuseConfig,
+// `check_chunk` of settings and lent tables.
+pub fn check_chunk_with<'a>(
+    c: Settings,
+    center: &'a [f64; 192],
+    scale: &'a [f64; 192],
     pos: &[f64],
     aux: &[f64],
     rows: &[f64],
@@ -1001,9 +1026,20 @@ pub fn check_chunk(
     exec_steps: u16,
     out: &mut [f64],
 ) -> Check
-    ensures { λ r. ⌜ (r ≡ chunkAnswer c (now (pos .entry)) (now (aux .entry)) (now (rows .entry)) horizon dim «exec_steps» (length (now (out .entry)))) × (now (out .exit) ≡ chunkOut c (now (pos .entry)) (now (aux .entry)) (now (rows .entry)) horizon dim «exec_steps» (now (out .entry))) ⌝ }
+    ensures { λ r. ⌜ (r ≡ chunkAnswer (whole c (now (center .entry)) (now (scale .entry))) (now (pos .entry)) (now (aux .entry)) (now (rows .entry)) horizon dim «exec_steps» (length (now (out .entry)))) × (now (out .exit) ≡ chunkOut (whole c (now (center .entry)) (now (scale .entry))) (now (pos .entry)) (now (aux .entry)) (now (rows .entry)) horizon dim «exec_steps» (now (out .entry))) ⌝ }
 {
-    let number = chunk_refusal(c, pos, aux, rows, horizon, dim, exec_steps, out.len());
+    let number = chunk_refusal(
+        c,
+        center,
+        scale,
+        pos,
+        aux,
+        rows,
+        horizon,
+        dim,
+        exec_steps,
+        out.len(),
+    );
     if number != 0 {
         return Check::Refused(Refusal::of(number));
     }
@@ -1020,4 +1056,33 @@ pub fn check_chunk(
         clamped_dims: v.mask,
         peak_speed: v.peak,
     }
+}
+
+// The check of a chunk of rows: which limits they exceed, the greatest speed, and, in out, the projected rows; the rest of
+// out stays. A refusal, by the lowest number that applies, leaves out as it was.
+pub fn check_chunk(
+    c: FuseConfig,
+    pos: &[f64],
+    aux: &[f64],
+    rows: &[f64],
+    horizon: u16,
+    dim: u16,
+    exec_steps: u16,
+    out: &mut [f64],
+) -> Check
+    ensures { λ r. ⌜ (r ≡ chunkAnswer c (now (pos .entry)) (now (aux .entry)) (now (rows .entry)) horizon dim «exec_steps» (length (now (out .entry)))) × (now (out .exit) ≡ chunkOut c (now (pos .entry)) (now (aux .entry)) (now (rows .entry)) horizon dim «exec_steps» (now (out .entry))) ⌝ }
+{
+    let s = envelope::settings_of(c);
+    check_chunk_with(
+        s,
+        &c.calib.center,
+        &c.calib.scale,
+        pos,
+        aux,
+        rows,
+        horizon,
+        dim,
+        exec_steps,
+        out,
+    )
 }
