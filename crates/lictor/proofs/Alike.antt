@@ -21,6 +21,8 @@ use Rattle.conformal.specs.declared.Calibration.{Calibration}
 use Rattle.conformal.specs.Answer.{standardised, aggregated, tripped}
 use Rattle.envelope.specs.declared.Derived.{Derived}
 use Rattle.envelope.specs.declared.FuseConfig.{FuseConfig}
+use Rattle.envelope.specs.declared.Settings.{Settings}
+use Rattle.envelope.specs.Whole.{whole}
 use Rattle.envelope.specs.Derive.{derived}
 use Rattle.envelope.specs.Refusals.{configJudged}
 use Rattle.tier0.specs.declared.Check.{Check}
@@ -91,8 +93,8 @@ net-alike d w e q = rw q at e
 pub path-alike : (d w : ℕ) {a : Number} {t u : Trail} → a ≡ pathOf binary64 t d w → t ≡ u → a ≡ pathOf binary64 u d w
 path-alike d w e q = rw q at e
 
-pub chunk-alike : (p aux rows : List Float) (h d e : ℕ) (l : List Float) {a : Check} {o : List Float} {c k : FuseConfig} → (a ≡ chunkAnswer c p aux rows h d e (length l)) × (o ≡ chunkOut c p aux rows h d e l) → c ≡ k → (a ≡ chunkAnswer k p aux rows h d e (length l)) × (o ≡ chunkOut k p aux rows h d e l)
-chunk-alike p aux rows h d e l g q = rw q at g
+pub chunk-alike : (t u p aux rows : List Float) (h d e : ℕ) (l : List Float) {a : Check} {o : List Float} {c k : Settings} → (a ≡ chunkAnswer (whole c t u) p aux rows h d e (length l)) × (o ≡ chunkOut (whole c t u) p aux rows h d e l) → c ≡ k → (a ≡ chunkAnswer (whole k t u) p aux rows h d e (length l)) × (o ≡ chunkOut (whole k t u) p aux rows h d e l)
+chunk-alike t u p aux rows h d e l g q = rw q at g
 
-pub action-alike : (p aux prev b l : List Float) {a : Check} {o : List Float} {c k : FuseConfig} → (a ≡ actionAnswer c p aux prev b (length l)) × (o ≡ actionOut c p aux prev b l) → c ≡ k → (a ≡ actionAnswer k p aux prev b (length l)) × (o ≡ actionOut k p aux prev b l)
-action-alike p aux prev b l g q = rw q at g
+pub action-alike : (t u p aux prev b l : List Float) {a : Check} {o : List Float} {c k : Settings} → (a ≡ actionAnswer (whole c t u) p aux prev b (length l)) × (o ≡ actionOut (whole c t u) p aux prev b l) → c ≡ k → (a ≡ actionAnswer (whole k t u) p aux prev b (length l)) × (o ≡ actionOut (whole k t u) p aux prev b l)
+action-alike t u p aux prev b l g q = rw q at g

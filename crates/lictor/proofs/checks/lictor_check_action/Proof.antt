@@ -12,11 +12,11 @@ counts-fit-requires c κs = search needs
 returns : tie.Need-returns
 returns c = check-misfit (not-true _ (c .if1 .taken)) (c .before .counts-fit .ensures)
 
-config-of-requires : tie.Need-config-of-requires
-config-of-requires c κs = search needs
+settings-of-requires : tie.Need-settings-of-requires
+settings-of-requires c κs = search needs
 
-check-action-requires : tie.Need-check-action-requires
-check-action-requires c κs = search needs
+check-action-with-requires : tie.Need-check-action-with-requires
+check-action-with-requires c κs = search needs
 
 put-check-requires : tie.Need-put-check-requires
 put-check-requires c κs = search needs
@@ -25,7 +25,7 @@ same-length : tie.Need-same-length
 same-length c = search needs
 
 returns-2 : tie.Need-returns-2
-returns-2 c = let s = c .before .before .before .before .before .before .before .before .before .before .before .before .before .before .before .args in check-fits (not-false _ (c .before .before .before .before .before .before .before .before .if1 .left)) (c .before .before .before .before .before .before .before .before .before .counts-fit .ensures) (action-alike (now (s .pos)) (now (s .aux)) (now (s .prev)) (now (s .action)) (now (s .out)) (c .before .before .before .before .before .check-action .ensures) (c .before .before .before .before .before .before .before .config-of .ensures)) (c .put-check .ensures)
+returns-2 c = let s = c .before .before .before .before .before .before .before .before .before .before .before .before .before .before .before .args in check-fits (not-false _ (c .before .before .before .before .before .before .before .before .if1 .left)) (c .before .before .before .before .before .before .before .before .before .counts-fit .ensures) (action-alike (now (s .center)) (now (s .scale)) (now (s .pos)) (now (s .aux)) (now (s .prev)) (now (s .action)) (now (s .out)) (c .before .before .before .before .before .check-action-with .ensures) (c .before .before .before .before .before .before .before .settings-of .ensures)) (c .put-check .ensures)
 
 pub lictor-check-action-spec : {M : Type 1} → statement M
 lictor-check-action-spec =
@@ -33,8 +33,8 @@ lictor-check-action-spec =
     (tie.spec
     counts-fit-requires
     returns
-    config-of-requires
-    check-action-requires
+    settings-of-requires
+    check-action-with-requires
     put-check-requires
     same-length
     returns-2)

@@ -12,11 +12,11 @@ counts-fit-requires c κs = search needs
 returns : tie.Need-returns
 returns c = check-misfit (not-true _ (c .if1 .taken)) (c .before .counts-fit .ensures)
 
-config-of-requires : tie.Need-config-of-requires
-config-of-requires c κs = search needs
+settings-of-requires : tie.Need-settings-of-requires
+settings-of-requires c κs = search needs
 
-check-chunk-requires : tie.Need-check-chunk-requires
-check-chunk-requires c κs = search needs
+check-chunk-with-requires : tie.Need-check-chunk-with-requires
+check-chunk-with-requires c κs = search needs
 
 put-check-requires : tie.Need-put-check-requires
 put-check-requires c κs = search needs
@@ -25,7 +25,7 @@ same-length : tie.Need-same-length
 same-length c = search needs
 
 returns-2 : tie.Need-returns-2
-returns-2 c = let s = c .before .before .before .before .before .before .before .before .before .before .before .before .before .before .args in check-fits (not-false _ (c .before .before .before .before .before .before .before .before .if1 .left)) (c .before .before .before .before .before .before .before .before .before .counts-fit .ensures) (chunk-alike (now (s .pos)) (now (s .aux)) (now (s .rows)) (s .horizon) (s .dim) (s .exec-steps) (now (s .out)) (c .before .before .before .before .before .check-chunk .ensures) (c .before .before .before .before .before .before .before .config-of .ensures)) (c .put-check .ensures)
+returns-2 c = let s = c .before .before .before .before .before .before .before .before .before .before .before .before .before .before .args in check-fits (not-false _ (c .before .before .before .before .before .before .before .before .if1 .left)) (c .before .before .before .before .before .before .before .before .before .counts-fit .ensures) (chunk-alike (now (s .center)) (now (s .scale)) (now (s .pos)) (now (s .aux)) (now (s .rows)) (s .horizon) (s .dim) (s .exec-steps) (now (s .out)) (c .before .before .before .before .before .check-chunk-with .ensures) (c .before .before .before .before .before .before .before .settings-of .ensures)) (c .put-check .ensures)
 
 pub lictor-check-chunk-spec : {M : Type 1} → statement M
 lictor-check-chunk-spec =
@@ -33,8 +33,8 @@ lictor-check-chunk-spec =
     (tie.spec
     counts-fit-requires
     returns
-    config-of-requires
-    check-chunk-requires
+    settings-of-requires
+    check-chunk-with-requires
     put-check-requires
     same-length
     returns-2)
