@@ -1,4 +1,5 @@
 pub mod Floor
+pub mod Beside
 pub mod Near
 pub mod Whole
 pub mod Units

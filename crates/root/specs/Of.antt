@@ -7,7 +7,14 @@ use lib.IntN.{ℤ, pos, subℕ}
 use lib.Signed.{mag}
 use lib.Ieee.{Float, Format, low, hid, ones, ofBits}
 use Rattle.root.specs.declared.Parts.{Parts}
+use Rattle.root.specs.declared.Rooted.{Rooted}
 use Rattle.root.specs.Root.{nearRoot, rootExponent, scaled}
+
+-- the whole part of the root of x, or the number before it, with what is left beside its square; the nearest is then that number or the next
+pub record Beside (x : ℕ) (r : Rooted) : Type 0 where
+  pub whole : r .root * r .root + r .rest ≡ x
+  pub little : r .rest ≤ 3 * r .root + 2
+  pub small : r .root < 2 ^ 60
 
 -- what the root to p digits takes: 1 to p digits, and an exponent k - l with room for the digits of the scaled number below it
 pub record Ranged (x : Parts) (p : ℕ) : Type 0 where

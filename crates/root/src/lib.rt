@@ -6,7 +6,7 @@ ghost use lib.IntN.{pos, _+ℤ_, _-ℤ_, _*ℤ_};
 ghost use lib.Signed.{mag, nonNeg};
 ghost use lib.Ieee.{binary64, ofBits};
 ghost use Rattle.root.specs.Root.{half, nearRoot, rootOf};
-ghost use Rattle.root.specs.Of.{Ranged, rootParts, unpacked, Written};
+ghost use Rattle.root.specs.Of.{Beside, Ranged, rootParts, unpacked, Written};
 
 // The number digits * 2^exponent; the exponent is unbiased, and as low as -1074 where a number is read.
 struct Parts {
@@ -51,10 +51,97 @@ fn excess(e: i64, h: i64) -> u64
     (e - 2 * h) as u64
 }
 
-// The whole number nearest to the root of w * 4^n / 2^64, one digit of the root and two of w a round.
-fn nearest_root(w: u64, n: u64) -> u64
+// The highest 32 digits of 64.
+fn top(x: u64) -> u32 {
+    (x / 0x1_0000_0000) as u32
+}
+
+// The lowest 32 digits of 64.
+fn bottom(x: u64) -> u32 {
+    (x % 0x1_0000_0000) as u32
+}
+
+fn product(a: u32, b: u32) -> u64
+    ensures { λ r. ⌜ r ≡ a * b ⌝ }
+{
+    (a as u64) * (b as u64)
+}
+
+// A root, and what is left beside its square.
+struct Rooted {
+    root: u64,
+    rest: u64,
+}
+
+// About the root of a number t / 2^30 between 1 and 4, and about one over it, each times 2^31. Nothing is promised of either.
+struct Estimate {
+    root: u32,
+    inverse: u32,
+}
+
+// The root as a * 2^21 + b, both as whole numbers.
+struct Split {
+    a: u32,
+    b: u32,
+}
+
+// One over the root to 7 digits, c0 + c1 v + c4 v^4 with v = 4 - t / 2^30, and t times it.
+fn first_estimate(t: u32) -> Estimate {
+    let v = 0xffff_ffff - t;
+    let v2 = top(product(v, v));
+    let v4 = top(product(v2, v2));
+    let y = top(0x3fc0_0000_0000_0000 + product(v, 0x2773_0000) + product(v4, 0x6bc6_0000));
+    Estimate {
+        root: bottom(product(t, y) / 0x4000_0000),
+        inverse: y,
+    }
+}
+
+// Twice as many digits: both are multiplied by 3/2 - root * inverse / 2, the 3/2 times 2^63.
+fn better_estimate(e: Estimate, three_halves: u64) -> Estimate {
+    let k = top(std::num::wrapping_sub_u64(three_halves, product(e.root, e.inverse)));
+    Estimate {
+        root: bottom(product(e.root, k) / 0x8000_0000),
+        inverse: bottom(product(e.inverse, k) / 0x8000_0000),
+    }
+}
+
+// About the root of w * 2^42, seldom above it and seldom by more than 1 below it: an estimate that is a little low, and what is left of w over twice it.
+fn guess(w: u64) -> Split
+    ensures { λ r. ⌜ r .b < 2 ^ 29 ⌝ }
+{
+    let first = first_estimate(top(w));
+    let second = better_estimate(first, 0xc000_0000_0000_0000);
+    let e = better_estimate(second, 0xbfff_fffc_0000_0000);
+    let over = std::num::wrapping_sub_u64(w, product(e.root, e.root));
+    Split {
+        a: e.root,
+        b: (product(bottom(over / 128), e.inverse) / 0x8_0000_0000) as u32,
+    }
+}
+
+// What w * 2^42 has above the square of a * 2^21 + b; 2^64 - 1 where it has less, or far more.
+fn remainder(w: u64, s: Split) -> u64
+    requires { ⌜ s .b < 2 ^ 29 ⌝ }
+    ensures { λ r. ⌜ (r < 2 ^ 63 → (s .a * 2 ^ 21 + s .b) * (s .a * 2 ^ 21 + s .b) + r ≡ w * 2 ^ 42) ⌝ }
+{
+    let square = product(s.a, s.a);
+    if square <= w {
+        let first = w - square;
+        if first < 0x100_0000_0000 {
+            let second = std::num::wrapping_sub_u64(first * 0x10_0000, product(s.a, s.b));
+            if second < 0x100_0000_0000 {
+                return std::num::wrapping_sub_u64(second * 0x40_0000, product(s.b, s.b));
+            }
+        }
+    }
+    0xffff_ffff_ffff_ffff
+}
+
+// The whole part of the root of w * 4^n / 2^64, one digit of the root and two of w a round; no round branches on a digit.
+fn digit_by_digit(w: u64, n: u64) -> Rooted
     requires { ⌜ n ≤ 60 ⌝ }
-    ensures { λ r. ⌜ r ≡ nearRoot n (w * 4 ^ n / 2 ^ 64) ⌝ }
+    ensures { λ r. ⌜ Beside (w * 4 ^ n / 2 ^ 64) r ⌝ }
 {
     let mut left = w;
     let mut root = 0u64;
@@ -63,16 +150,45 @@ fn nearest_root(w: u64, n: u64) -> u64
     while k < n {
         let next = rest * 4 + left / 0x4000_0000_0000_0000;
         let less = root * 4 + 1;
+        let digit = (less <= next) as u64;
         left = left << 2;
-        if less <= next {
-            rest = next - less;
-            root = root * 2 + 1;
-        } else {
-            rest = next;
-            root = root * 2;
-        }
+        rest = next - less * digit;
+        root = root * 2 + digit;
         k += 1;
     }
+    Rooted {
+        root: root,
+        rest: rest,
+    }
+}
+
+// The whole part of the root of w * 4^n / 2^64, or the number before it: a guess that its remainder confirms, or else digit by digit.
+fn whole_root(w: u64, n: u64) -> Rooted
+    requires { ⌜ n ≤ 60 ⌝ }
+    ensures { λ r. ⌜ Beside (w * 4 ^ n / 2 ^ 64) r ⌝ }
+{
+    if n == 53 {
+        let s = guess(w);
+        let rest = remainder(w, s);
+        let root = (s.a as u64) * 0x20_0000 + s.b as u64;
+        if rest <= 3 * root {
+            return Rooted {
+                root: root,
+                rest: rest,
+            };
+        }
+    }
+    digit_by_digit(w, n)
+}
+
+// The whole number nearest to the root of w * 4^n / 2^64.
+fn nearest_root(w: u64, n: u64) -> u64
+    requires { ⌜ n ≤ 60 ⌝ }
+    ensures { λ r. ⌜ r ≡ nearRoot n (w * 4 ^ n / 2 ^ 64) ⌝ }
+{
+    let r = whole_root(w, n);
+    let root = r.root;
+    let rest = r.rest;
     if root < rest { root + 1 } else { root }
 }
 
