@@ -9,7 +9,7 @@ use std::{env, hint::black_box, time::Instant};
 
 use differential::{linked, port::Port};
 use model::{ClampMode, FuseConfig};
-use oracle::rust::{brake, conformal, fmath, tier0, tier1};
+use oracle::rust::{self, brake, conformal, fmath, tier0, tier1};
 
 const ROUNDS: usize = 15;
 
@@ -65,6 +65,9 @@ fn main() {
     println!("{:<34} {:>12} {:>12} {:>8}", "entry", "Rust ns", "port ns", "ratio");
     root(&port);
     norm(&port);
+    chunk(&port);
+    window(&port);
+    trail(&port);
     forecast(&port, 1);
     forecast(&port, 8);
     check_chunk(&port);
@@ -98,6 +101,62 @@ fn norm(port: &Port) {
     let v = &v;
     let ported = port.norm.map(|f| calls(1000, move || f(black_box(v), 8)));
     line("norm of 8", 1000, Some(rust), ported);
+}
+
+fn chunk(port: &Port) {
+    let data = &inputs::numbers(512);
+    let ch = inputs::chunk(8, data);
+    let (lent, raw) = (linked::chunk_view(&ch), oracle::chunk_view(ch));
+    let (mut held, mut raw_held) = (lictor::chunk::ChunkBuf::new(), rust::ChunkBuf::new());
+    let rust = calls(100, || raw_held.fill(1, 1, 64, 8, 1, black_box(data)));
+    let ported = port.fill.map(|_| calls(100, || held.copy_from(black_box(lent))));
+    line("fill 64 x 8", 100, Some(rust), ported);
+    let (mut row, mut i, mut j) = ([0.0; 8], 0, 0);
+    let rust = calls(1000, || {
+        i = (i + 1) % 64;
+        black_box(black_box(raw).action(i));
+    });
+    let ported = port.action.map(|_| {
+        calls(1000, || {
+            j = (j + 1) % 64;
+            black_box(lent).action(j, black_box(&mut row))
+        })
+    });
+    line("action of 8", 1000, Some(rust), ported);
+}
+
+fn window(port: &Port) {
+    let (mut w, mut raw) = (lictor::window::Window::default(), rust::window::Window { bits: 0 });
+    let rust = calls(1000, || {
+        raw.push(black_box(true), black_box(0xff_ffff));
+        raw.hits()
+    });
+    let ported = port.push.zip(port.hits).map(|_| {
+        calls(1000, || {
+            w.push(black_box(true), black_box(0xff_ffff));
+            w.hits()
+        })
+    });
+    line("window push and hits", 1000, Some(rust), ported);
+}
+
+fn trail(port: &Port) {
+    let p = &inputs::numbers(8);
+    let (mut t, mut raw) = (lictor::window::Trail::new(), rust::window::Trail::new());
+    for q in inputs::numbers(256).chunks(8) {
+        t.push(q, 8).expect("a position that is recorded");
+        raw.push(q, 8);
+    }
+    let (full, raw_full) = (t, raw);
+    let rust = calls(1000, || raw.push(black_box(p), 8));
+    let ported = port.trail_push.map(|_| calls(1000, || t.push(black_box(p), 8)));
+    line("trail push of 8", 1000, Some(rust), ported);
+    let rust = calls(1000, || black_box(&raw_full).net(8, 20));
+    let ported = port.net.map(|_| calls(1000, || black_box(&full).net(8, 20)));
+    line("trail net, 20 samples of 8", 1000, Some(rust), ported);
+    let rust = calls(1000, || black_box(&raw_full).path(8, 20));
+    let ported = port.path.map(|_| calls(1000, || black_box(&full).path(8, 20)));
+    line("trail path, 20 samples of 8", 1000, Some(rust), ported);
 }
 
 fn forecast(port: &Port, dim: usize) {

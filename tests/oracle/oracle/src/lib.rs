@@ -18,7 +18,7 @@ pub use compile::{compile, compile_calibrated};
 /// The published items themselves.
 pub mod rust {
     pub use lictor_core::{fmath, ChunkBuf, Feat, FuseConfig, T_GRID};
-    pub use lictor_detect::{brake, conformal, tier0, tier1};
+    pub use lictor_detect::{brake, conformal, tier0, tier1, window};
 }
 
 /// What `features` and `check_chunk` are told about the world.
