@@ -190,6 +190,34 @@ struct lictor_derived {
 uint64_t lictor_derive(const struct lictor_numbers *numbers, const struct lictor_counts *counts,
                        const double center[192], const double scale[192], struct lictor_derived *derived);
 
+/* ---- the checks: limits held against planned rows, which are projected inside them
+
+   A limit trips where a row as it came strictly exceeds it. Under LICTOR_CLAMP_PROJECT the output is the rows moved inside
+   the armed limits, each by the box, the leash to the projected row before it and, the first row, the reach; under
+   LICTOR_CLAMP_OFF it is the rows as they came. */
+
+struct lictor_check_marks {
+    uint64_t trips;        /* trip bits */
+    uint64_t clamped_dims; /* a bit for each coordinate that was moved in any row */
+};
+
+/* Checks a chunk from a position; aux is what the camera saw, and a slow zone whose channels it lacks is off. Writes the
+   first horizon x dim numbers of out, the marks, and the greatest speed. LICTOR_BAD_CODE, LICTOR_SIZE to
+   LICTOR_COMPUTED. */
+uint64_t lictor_check_chunk(const struct lictor_numbers *numbers, const struct lictor_counts *counts,
+                            const double center[192], const double scale[192], const double *position,
+                            size_t position_count, const double *aux, size_t aux_count, const double *rows,
+                            size_t rows_count, uint16_t horizon, uint16_t dim, uint16_t exec_steps, double *out,
+                            size_t out_count, struct lictor_check_marks *marks, double *peak_speed);
+
+/* Checks one action against the one before it, without LICTOR_TRIP_ACCEL and LICTOR_TRIP_JERK. Writes the first dim numbers
+   of out, the marks, and the speed. LICTOR_BAD_CODE, LICTOR_SIZE to LICTOR_CHANNELS, LICTOR_SHORT to LICTOR_COMPUTED. */
+uint64_t lictor_check_action(const struct lictor_numbers *numbers, const struct lictor_counts *counts,
+                             const double center[192], const double scale[192], const double *position,
+                             size_t position_count, const double *aux, size_t aux_count, const double *previous,
+                             size_t previous_count, const double *action, size_t action_count, double *out,
+                             size_t out_count, struct lictor_check_marks *marks, double *peak_speed);
+
 /* ---- the gate: scores held against a calibration (its tables, tau, mask of features, and the first n_terms of its terms) */
 
 /* feature bits, by position */
@@ -247,6 +275,7 @@ LICTOR_ASSERT(sizeof(struct lictor_trail_marks) == 2 * sizeof(uint64_t), "2 coun
 LICTOR_ASSERT(sizeof(struct lictor_numbers) == 44 * sizeof(double), "44 numbers");
 LICTOR_ASSERT(sizeof(struct lictor_counts) == 26 * sizeof(uint64_t), "26 counts");
 LICTOR_ASSERT(sizeof(struct lictor_derived) == 29 * sizeof(double), "29 numbers");
+LICTOR_ASSERT(sizeof(struct lictor_check_marks) == 2 * sizeof(uint64_t), "2 counts");
 LICTOR_ASSERT(sizeof(struct lictor_scores) == 25 * sizeof(double), "25 numbers");
 LICTOR_ASSERT(sizeof(struct lictor_marks) == 2 * sizeof(uint64_t), "2 counts");
 #undef LICTOR_ASSERT

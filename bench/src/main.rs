@@ -181,8 +181,10 @@ fn check_chunk(port: &Port) {
         tier0::check_chunk(black_box(&raw), oracle::obs(&pos, &aux, &[]), oracle::chunk_view(ch), &mut buf)
     });
     let mut out = vec![0.0; 512];
-    let (cfg, pos, aux) = (&cfg, &pos, &aux);
-    let ported = port.check_chunk.map(|f| calls(100, move || f(black_box(cfg), pos, aux, ch, &mut out)));
+    let (cfg, ch, pos, aux) = (linked::config(&cfg), linked::chunk_view(&ch), &pos, &aux);
+    let ported = port
+        .check_chunk
+        .map(|_| calls(100, move || lictor::tier0::check_chunk(black_box(&cfg), pos, aux, ch, &mut out)));
     line("check_chunk 64 x 8, all armed", 100, Some(rust), ported);
 }
 
@@ -193,8 +195,10 @@ fn check_action(port: &Port) {
     let mut to = [0.0; 8];
     let rust = calls(1000, || tier0::check_action(black_box(&raw), oracle::obs(&pos, &aux, &[]), &prev, &a, &mut to));
     let mut out = [0.0; 8];
-    let (cfg, pos, aux, prev, a) = (&cfg, &pos, &aux, &prev, &a);
-    let ported = port.check_action.map(|f| calls(1000, move || f(black_box(cfg), pos, aux, prev, a, &mut out)));
+    let (cfg, pos, aux, prev, a) = (linked::config(&cfg), &pos, &aux, &prev, &a);
+    let ported = port
+        .check_action
+        .map(|_| calls(1000, move || lictor::tier0::check_action(black_box(&cfg), pos, aux, prev, a, &mut out)));
     line("check_action, 8 axes, all armed", 1000, Some(rust), ported);
 }
 

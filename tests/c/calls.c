@@ -95,6 +95,37 @@ static void configuration(void) {
     EXPECT(lictor_derive(&n, &c, center, scale, &d) == LICTOR_NUMBER && d.inv_dt == 2.0);
 }
 
+/* document 01: from (0,0), row (6,8), step 5, SPEED alone armed: SPEED, projected to (3 - 3 x 2^-36, 4 - 4 x 2^-36); row
+   (3,4): no trip, same row */
+static void checks(void) {
+    struct lictor_numbers n = {0};
+    struct lictor_counts c = {0};
+    struct lictor_check_marks m = {7, 7};
+    const double origin[2] = {0.0, 0.0}, far[2] = {6.0, 8.0}, near[2] = {3.0, 4.0};
+    const double short_of = 1.0 - 1.0 / 68719476736.0;
+    double out[3] = {7.0, 7.0, 7.0}, speed = 7.0;
+    n.dt = n.a_max = n.j_max = n.reach_max = 1.0, n.v_max = 5.0;
+    n.brake_k_v = n.brake_dt = n.norm_scale[0] = n.norm_scale[1] = 1.0;
+    c.dim = c.pos_dim = 2, c.substeps = 1, c.clamp = LICTOR_CLAMP_PROJECT, c.armed = LICTOR_TRIP_SPEED;
+#define CHUNK(row) lictor_check_chunk(&n, &c, center, scale, origin, 2, origin, 0, row, 2, 1, 2, 1, out, 3, &m, &speed)
+#define ACTION(row) lictor_check_action(&n, &c, center, scale, origin, 2, origin, 0, origin, 2, row, 2, out, 3, &m, &speed)
+    EXPECT(CHUNK(far) == LICTOR_ACCEPTED && m.trips == LICTOR_TRIP_SPEED && m.clamped_dims == 3 && speed == 10.0);
+    EXPECT(out[0] == 3.0 * short_of && out[1] == 4.0 * short_of && out[2] == 7.0);
+    EXPECT(CHUNK(near) == LICTOR_ACCEPTED && m.trips == 0 && m.clamped_dims == 0 && speed == 5.0);
+    EXPECT(out[0] == 3.0 && out[1] == 4.0 && out[2] == 7.0);
+    EXPECT(ACTION(far) == LICTOR_ACCEPTED && m.trips == LICTOR_TRIP_SPEED && m.clamped_dims == 3 && speed == 10.0);
+    EXPECT(out[0] == 3.0 * short_of && out[1] == 4.0 * short_of && out[2] == 7.0);
+    EXPECT(ACTION(near) == LICTOR_ACCEPTED && m.trips == 0 && out[0] == 3.0 && out[1] == 4.0);
+    c.clamp = 2;
+    EXPECT(CHUNK(far) == LICTOR_BAD_CODE && ACTION(far) == LICTOR_BAD_CODE && out[0] == 3.0 && m.trips == 0);
+    c.clamp = LICTOR_CLAMP_OFF, c.dim = 3;
+    EXPECT(CHUNK(far) == LICTOR_NUMBER && speed == 5.0);
+    n.norm_scale[2] = 1.0;
+    EXPECT(CHUNK(far) == LICTOR_WIDTH && ACTION(far) == LICTOR_SHORT && out[0] == 3.0 && m.trips == 0 && speed == 5.0);
+#undef CHUNK
+#undef ACTION
+}
+
 /* document 01: z (2,1), terms {0,1} and {0}: s = 2; tau 2 doesn't trip */
 static void gate(void) {
     const uint32_t terms[8] = {3, 1, 0, 0, 0, 0, 0, 0};
@@ -119,6 +150,7 @@ int main(void) {
     windows();
     trails();
     configuration();
+    checks();
     gate();
     puts(failed ? "C calls: failed" : "C calls: as expected");
     return failed;

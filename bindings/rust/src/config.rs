@@ -90,10 +90,10 @@ pub struct FuseConfig {
 /// A configuration laid out as the library takes it: make it once and lend it to every call.
 #[derive(Clone, Debug)]
 pub struct Config {
-    numbers: [f64; 44],
-    counts: [u64; 26],
-    center: [f64; 192],
-    scale: [f64; 192],
+    pub(crate) numbers: [f64; 44],
+    pub(crate) counts: [u64; 26],
+    pub(crate) center: [f64; 192],
+    pub(crate) scale: [f64; 192],
 }
 
 impl Config {

@@ -8,6 +8,7 @@ pub mod conformal;
 pub mod fmath;
 mod raw;
 mod refusal;
+pub mod tier0;
 pub mod window;
 
 pub use refusal::{Answer, Refusal};

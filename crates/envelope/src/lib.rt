@@ -7,6 +7,7 @@ ghost use lib.Ieee.{binary64};
 ghost use Rattle.refusal.specs.Order.{size, number, steps, channels, _when_, refusal};
 ghost use Rattle.conformal.specs.Refusals as calibration;
 ghost use Rattle.envelope.specs.Derive.{kept, lowWalls, highWalls, inverses, isotropic, derivedFrom, derived};
+ghost use Rattle.envelope.specs.Whole.{whole, settingsOf};
 ghost use Rattle.envelope.specs.Steps.{substepsIn};
 ghost use Rattle.envelope.specs.Refusals.{sizesOk, limitsOk, gainsOk, brakeOk, zoneOk, normOk, boxOk, scalarsOk, ordered, derivedOk, numbersOk, countsOk, stepsOk, channelsOk, configJudged};
 use conformal::Calibration;
@@ -120,6 +121,26 @@ pub struct FuseConfig {
     pub horizon_ticks: u32,
 }
 
+// The configuration without the calibration's two tables, which are lent beside it: a call then copies a sixth of it.
+pub struct Settings {
+    pub kind: ActionKind,
+    pub dim: usize,
+    pub pos_dim: usize,
+    pub limits: Limits,
+    pub norm: Norm,
+    pub walls: Box,
+    pub contact: Contact,
+    pub brake: BrakeModel,
+    pub clamp: ClampMode,
+    pub armed: u32,
+    pub aux_count: usize,
+    pub calibrated: bool,
+    pub mask: u32,
+    pub gate: GateSpec,
+    pub tau: f64,
+    pub horizon_ticks: u32,
+}
+
 // What module 4 derives.
 pub struct Derived {
     pub inv_dt: f64,
@@ -130,6 +151,38 @@ pub struct Derived {
     pub box_hi: [f64; 8],
     pub inv_norm_scale: [f64; 8],
     pub norm_scale_iso: f64,
+}
+
+// The settings of a configuration.
+pub fn settings_of(c: FuseConfig) -> Settings
+    ensures { λ r. ⌜ r ≡ settingsOf c ⌝ }
+{
+    let kind = c.kind;
+    let limits = c.limits;
+    let norm = c.norm;
+    let walls = c.walls;
+    let contact = c.contact;
+    let brake = c.brake;
+    let clamp = c.clamp;
+    let gate = c.calib.gate;
+    Settings {
+        kind,
+        dim: c.dim,
+        pos_dim: c.pos_dim,
+        limits,
+        norm,
+        walls,
+        contact,
+        brake,
+        clamp,
+        armed: c.armed,
+        aux_count: c.aux_count,
+        calibrated: c.calibrated,
+        mask: c.calib.mask,
+        gate,
+        tau: c.calib.tau,
+        horizon_ticks: c.horizon_ticks,
+    }
 }
 
 // ---- what is derived
@@ -202,7 +255,7 @@ fn isotropic(scale: &[f64; 8], n: usize) -> f64
 }
 
 // What is derived, from the parts that it is derived from.
-fn derive_from(l: Limits, norm: Norm, walls: Box, dim: usize, pos_dim: usize) -> Derived
+pub fn derive_from(l: Limits, norm: Norm, walls: Box, dim: usize, pos_dim: usize) -> Derived
     ensures { λ r. ⌜ r ≡ derivedFrom binary64 l norm walls dim «pos_dim» ⌝ }
 {
     let inv_dt = 1.0 / l.dt;
@@ -354,19 +407,24 @@ fn derived_ok(d: Derived) -> bool
 }
 
 // The calibration's numbers, where the flag is set.
-fn calibration_ok(c: FuseConfig) -> bool
-    ensures { λ r. ⌜ r ≡ (not (c .calibrated) || calibration.numbersOk (c .calib .center) (c .calib .scale) (c .calib .tau)) ⌝ }
+fn calibration_ok<'a>(
+    calibrated: bool,
+    center: &'a [f64; 192],
+    scale: &'a [f64; 192],
+    tau: f64,
+) -> bool
+    ensures { λ r. ⌜ r ≡ (not calibrated || calibration.numbersOk (now (center .entry)) (now (scale .entry)) tau) ⌝ }
 {
-    if c.calibrated {
-        conformal::numbers_ok(&c.calib.center, &c.calib.scale, c.calib.tau)
+    if calibrated {
+        conformal::numbers_ok(center, scale, tau)
     } else {
         true
     }
 }
 
 // All numbers of a configuration, given or derived.
-fn numbers_ok(c: FuseConfig) -> bool
-    ensures { λ r. ⌜ r ≡ numbersOk c ⌝ }
+fn numbers_ok<'a>(c: Settings, center: &'a [f64; 192], scale: &'a [f64; 192]) -> bool
+    ensures { λ r. ⌜ r ≡ numbersOk (whole c (now (center .entry)) (now (scale .entry))) ⌝ }
 {
     let brake = c.brake;
     let kind = brake.kind;
@@ -378,7 +436,7 @@ fn numbers_ok(c: FuseConfig) -> bool
     let h = norm_ok(c.norm, c.dim);
     let i = box_ok(c.walls, c.pos_dim);
     let j = derived_ok(d);
-    let k = calibration_ok(c);
+    let k = calibration_ok(c.calibrated, center, scale, c.tau);
     e & f & g & h & i & j & k
 }
 
@@ -446,15 +504,23 @@ fn first_of(sizes: bool, numbers: bool, counts: bool, apart: bool) -> u8
     0
 }
 
-// The number of document 01's table that a configuration is refused with, 0 where it is accepted.
-pub fn config_refusal(c: FuseConfig) -> u8
-    ensures { λ r. ⌜ r ≡ refusal (configJudged c) ⌝ }
+// The number of document 01's table that settings with their tables are refused with, 0 where they are accepted.
+pub fn settings_refusal<'a>(c: Settings, center: &'a [f64; 192], scale: &'a [f64; 192]) -> u8
+    ensures { λ r. ⌜ r ≡ refusal (configJudged (whole c (now (center .entry)) (now (scale .entry)))) ⌝ }
 {
     let contact = c.contact;
-    let gate = c.calib.gate;
-    let a = sizes_ok(c.dim, c.pos_dim, c.calibrated, gate, c.calib.mask);
-    let b = numbers_ok(c);
+    let gate = c.gate;
+    let a = sizes_ok(c.dim, c.pos_dim, c.calibrated, gate, c.mask);
+    let b = numbers_ok(c, center, scale);
     let d = steps_ok(c.brake, c.calibrated, c.horizon_ticks);
     let e = channels_ok(contact, c.aux_count);
     first_of(a, b, d, e)
+}
+
+// .. that a configuration is refused with.
+pub fn config_refusal(c: FuseConfig) -> u8
+    ensures { λ r. ⌜ r ≡ refusal (configJudged c) ⌝ }
+{
+    let s = settings_of(c);
+    settings_refusal(s, &c.calib.center, &c.calib.scale)
 }

@@ -5,7 +5,6 @@ use mathlib.Core.List.{List, [], _∷_, _++_}
 use lib.Dec.{leb, eqb}
 use lib.Ieee.{Float}
 use Rattle.fmath.specs.Each.{at, every}
-use Rattle.conformal.specs.declared.Calibration.{Calibration}
 use Rattle.conformal.specs.declared.GateSpec.{GateSpec}
 use Rattle.envelope.specs.declared.ActionKind.{ActionKind}
 use Rattle.envelope.specs.declared.ActionKind.the-variants as K
@@ -22,7 +21,9 @@ use Rattle.envelope.specs.declared.Norm.{Norm}
 use Rattle.envelope.specs.declared.Box.{Box}
 use Rattle.envelope.specs.declared.BrakeModel.{BrakeModel}
 use Rattle.envelope.specs.declared.Derived.{Derived}
+use Rattle.envelope.specs.declared.Settings.{Settings}
 use Rattle.envelope.specs.declared.FuseConfig.{FuseConfig}
+use Rattle.envelope.specs.Whole.{whole}
 use Rattle.layout.specs.Places.{count, part, in8, in16, in32}
 
 -- ---- codes
@@ -86,15 +87,11 @@ gateOf c = record {
       ∷ in32 (count c 16) ∷ in32 (count c 17) ∷ in32 (count c 18) ∷ in32 (count c 19) ∷ [];
 }
 
--- number 43, count 23 and the tables
-unfoldable pub calibrationOf : List Float → List ℕ → List Float → List Float → Calibration
-calibrationOf n c center scale =
-    record { center = center; scale = scale; mask = in32 (count c 23); gate = gateOf c; tau = at n 43 }
-
 -- ---- all of it
 
-unfoldable pub configOf : List Float → List ℕ → List Float → List Float → FuseConfig
-configOf n c center scale = record {
+-- the mask of the calibration is count 23, its tau number 43
+unfoldable pub settingsOf : List Float → List ℕ → Settings
+settingsOf n c = record {
   kind = kindOf (count c 2);
   dim = count c 0;
   «pos_dim» = count c 1;
@@ -107,9 +104,15 @@ configOf n c center scale = record {
   armed = in32 (count c 20);
   «aux_count» = count c 21;
   calibrated = eqb (count c 22) 1;
-  calib = calibrationOf n c center scale;
+  mask = in32 (count c 23);
+  gate = gateOf c;
+  tau = at n 43;
   «horizon_ticks» = in32 (count c 25);
 }
+
+-- .. with the tables of centers and scales
+abbrev pub configOf : List Float → List ℕ → List Float → List Float → FuseConfig
+configOf n c center scale = whole (settingsOf n c) center scale
 
 -- each code is one of its kind and each count fits its field; a contact's are read where there is one, the calibration's where its flag is set
 abbrev pub long : ℕ → Bool

@@ -2,7 +2,7 @@
 ghost use mathlib.Core.Path.{_≡_};
 ghost use Prim.Native.Nat.{_+_, _≤_};
 ghost use Rattle.layout.specs.Places.{part};
-ghost use Rattle.layout.specs.Config.{kindOf, clampOf, brakeKindOf, contactOf, limitsOf, brakeOf, zoneOf, normOf, wallsOf, gateOf, calibrationOf, configOf, zoneFits, gateFits, countsFit, derivedFlat};
+ghost use Rattle.layout.specs.Config.{kindOf, clampOf, brakeKindOf, contactOf, limitsOf, brakeOf, zoneOf, normOf, wallsOf, gateOf, settingsOf, configOf, zoneFits, gateFits, countsFit, derivedFlat};
 use crate::places::to_u8;
 use crate::places::to_u16;
 use crate::places::to_u32;
@@ -19,6 +19,7 @@ use envelope::Derived;
 use envelope::FuseConfig;
 use envelope::Limits;
 use envelope::Norm;
+use envelope::Settings;
 use envelope::Substeps;
 
 // ---- codes: one that is none gives the last kind
@@ -159,35 +160,11 @@ fn gate_of(c: &[u64; 26]) -> GateSpec
     GateSpec { n_terms, terms }
 }
 
-fn calibration_of(
-    n: &[f64; 44],
-    c: &[u64; 26],
-    center: &[f64; 192],
-    scale: &[f64; 192],
-) -> Calibration
-    ensures { λ r. ⌜ r ≡ calibrationOf (now (n .entry)) (now (c .entry)) (now (center .entry)) (now (scale .entry)) ⌝ }
-{
-    let gate = gate_of(c);
-    let mask = to_u32(c[23]);
-    Calibration {
-        center: *center,
-        scale: *scale,
-        mask,
-        gate,
-        tau: n[43],
-    }
-}
-
 // ---- all of it
 
-// The configuration that the arrays stand for.
-pub fn config_of(
-    n: &[f64; 44],
-    c: &[u64; 26],
-    center: &[f64; 192],
-    scale: &[f64; 192],
-) -> FuseConfig
-    ensures { λ r. ⌜ r ≡ configOf (now (n .entry)) (now (c .entry)) (now (center .entry)) (now (scale .entry)) ⌝ }
+// The settings that the arrays stand for.
+pub fn settings_of(n: &[f64; 44], c: &[u64; 26]) -> Settings
+    ensures { λ r. ⌜ r ≡ settingsOf (now (n .entry)) (now (c .entry)) ⌝ }
 {
     let kind = kind_of(c[2]);
     let limits = limits_of(n);
@@ -197,9 +174,10 @@ pub fn config_of(
     let brake = brake_of(n, c);
     let clamp = clamp_of(c[3]);
     let armed = to_u32(c[20]);
-    let calib = calibration_of(n, c, center, scale);
+    let mask = to_u32(c[23]);
+    let gate = gate_of(c);
     let horizon_ticks = to_u32(c[25]);
-    FuseConfig {
+    Settings {
         kind,
         dim: c[0] as usize,
         pos_dim: c[1] as usize,
@@ -212,8 +190,53 @@ pub fn config_of(
         armed,
         aux_count: c[21] as usize,
         calibrated: c[22] == 1,
-        calib,
+        mask,
+        gate,
+        tau: n[43],
         horizon_ticks,
+    }
+}
+
+// The configuration that the arrays stand for, its tables copied.
+pub fn config_of(
+    n: &[f64; 44],
+    c: &[u64; 26],
+    center: &[f64; 192],
+    scale: &[f64; 192],
+) -> FuseConfig
+    ensures { λ r. ⌜ r ≡ configOf (now (n .entry)) (now (c .entry)) (now (center .entry)) (now (scale .entry)) ⌝ }
+{
+    let s = settings_of(n, c);
+    let kind = s.kind;
+    let limits = s.limits;
+    let norm = s.norm;
+    let walls = s.walls;
+    let contact = s.contact;
+    let brake = s.brake;
+    let clamp = s.clamp;
+    let gate = s.gate;
+    let calib = Calibration {
+        center: *center,
+        scale: *scale,
+        mask: s.mask,
+        gate,
+        tau: s.tau,
+    };
+    FuseConfig {
+        kind,
+        dim: s.dim,
+        pos_dim: s.pos_dim,
+        limits,
+        norm,
+        walls,
+        contact,
+        brake,
+        clamp,
+        armed: s.armed,
+        aux_count: s.aux_count,
+        calibrated: s.calibrated,
+        calib,
+        horizon_ticks: s.horizon_ticks,
     }
 }
 

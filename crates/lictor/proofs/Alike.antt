@@ -1,8 +1,9 @@
 -- Equal answers are given alike, so that a function which hands on an entry's answer meets the entry's rule.
 use Prim.Native.Nat.{ℕ}
-use mathlib.Core.Path.{_≡_, ap, _∙_}
-use mathlib.Core.Bool.{Bool}
+use mathlib.Core.Path.{_≡_, sym, ap, _∙_}
+use mathlib.Core.Bool.{Bool, true, false}
 use mathlib.Core.List.{List}
+use lib.ListN.{length}
 use lib.Ieee.{Float, binary64}
 use Rattle.refusal.specs.Order.{refusal}
 use Rattle.fmath.specs.declared.Number.{Number}
@@ -20,9 +21,13 @@ use Rattle.conformal.specs.declared.Calibration.{Calibration}
 use Rattle.conformal.specs.Answer.{standardised, aggregated, tripped}
 use Rattle.envelope.specs.declared.Derived.{Derived}
 use Rattle.envelope.specs.declared.FuseConfig.{FuseConfig}
+use Rattle.envelope.specs.declared.Settings.{Settings}
+use Rattle.envelope.specs.Whole.{whole}
 use Rattle.envelope.specs.Derive.{derived}
 use Rattle.envelope.specs.Refusals.{configJudged}
-use Rattle.lictor.specs.Answer.{fitting, NumberGiven, FilledGiven, MaskGiven, RecordedGiven, TrailNumberGiven, DerivedGiven, ScoredGiven, VerdictGiven, BinGiven}
+use Rattle.tier0.specs.declared.Check.{Check}
+use Rattle.tier0.specs.Of.{actionAnswer, actionOut, chunkAnswer, chunkOut}
+use Rattle.lictor.specs.Answer.{fitting, NumberGiven, FilledGiven, MaskGiven, RecordedGiven, TrailNumberGiven, DerivedGiven, CheckPut, CheckGiven, ScoredGiven, VerdictGiven, BinGiven}
 
 pub number-alike : {a b : Number} {r : ℕ} {old new : Float} → a ≡ b → NumberGiven a r old new → NumberGiven b r old new
 number-alike e g = rw e at g
@@ -50,6 +55,14 @@ verdict-alike p q g = rw (p, q) at g
 
 pub bin-alike : {a b : TimeBin} {r old new : ℕ} → a ≡ b → BinGiven a r old new → BinGiven b r old new
 bin-alike e g = rw e at g
+
+-- a check whose counts do not fit leaves every place as it was
+pub check-misfit : {f g : Bool} {a : Check} {l : List Float} {m : List ℕ} {x : Float} {o : List Float} → f ≡ false → f ≡ g → CheckGiven g a l 255 m m x x o o
+check-misfit e p = let z = sym p ∙ e in record { number = rw z; marks = rw z; speed = rw z; output = rw z }
+
+-- .. and one whose counts fit is put where it belongs
+pub check-fits : {f g : Bool} {a b : Check} {l : List Float} {r : ℕ} {m₀ m : List ℕ} {x₀ x : Float} {o₀ o : List Float} → f ≡ true → f ≡ g → (a ≡ b) × (o ≡ l) → CheckPut a r m₀ m x₀ x → CheckGiven g b l r m₀ m x₀ x o₀ o
+check-fits e p q g = let z = sym p ∙ e in record { number = rw (z, ← q .0) (g .number); marks = rw (z, ← q .0) (g .marks); speed = rw (z, ← q .0) (g .speed); output = rw z (q .1) }
 
 -- ---- an entry's answer on equal arguments
 
@@ -79,3 +92,9 @@ net-alike d w e q = rw q at e
 
 pub path-alike : (d w : ℕ) {a : Number} {t u : Trail} → a ≡ pathOf binary64 t d w → t ≡ u → a ≡ pathOf binary64 u d w
 path-alike d w e q = rw q at e
+
+pub chunk-alike : (t u p aux rows : List Float) (h d e : ℕ) (l : List Float) {a : Check} {o : List Float} {c k : Settings} → (a ≡ chunkAnswer (whole c t u) p aux rows h d e (length l)) × (o ≡ chunkOut (whole c t u) p aux rows h d e l) → c ≡ k → (a ≡ chunkAnswer (whole k t u) p aux rows h d e (length l)) × (o ≡ chunkOut (whole k t u) p aux rows h d e l)
+chunk-alike t u p aux rows h d e l g q = rw q at g
+
+pub action-alike : (t u p aux prev b l : List Float) {a : Check} {o : List Float} {c k : Settings} → (a ≡ actionAnswer (whole c t u) p aux prev b (length l)) × (o ≡ actionOut (whole c t u) p aux prev b l) → c ≡ k → (a ≡ actionAnswer (whole k t u) p aux prev b (length l)) × (o ≡ actionOut (whole k t u) p aux prev b l)
+action-alike t u p aux prev b l g q = rw q at g

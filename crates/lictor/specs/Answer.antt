@@ -19,6 +19,8 @@ use Rattle.conformal.specs.declared.Verdict.the-variants as Y
 use Rattle.conformal.specs.declared.TimeBin.{TimeBin}
 use Rattle.conformal.specs.declared.TimeBin.the-variants as B
 use Rattle.envelope.specs.declared.Derived.{Derived}
+use Rattle.tier0.specs.declared.Check.{Check}
+use Rattle.tier0.specs.declared.Check.the-variants as T
 use Rattle.layout.specs.Trail.{trailMarks}
 use Rattle.layout.specs.Scores.{scoresFlat, marksFlat}
 use Rattle.layout.specs.Config.{derivedFlat}
@@ -91,6 +93,33 @@ pub record TrailNumberGiven (fits : Bool) (a : Number) (r : ℕ) (old new : Floa
 pub record DerivedGiven (n : ℕ) (d : Derived) (r : ℕ) (old new : List Float) : Type 0 where
   pub number : r ≡ n
   pub numbers : new ≡ written n (derivedFlat d) old
+
+-- ---- module 5: trips and clamped_dims in 2 counts, a speed, and the output
+
+unfoldable pub checkNumber : Check → ℕ
+checkNumber (T.Passed trips dims speed) = 0
+checkNumber (T.Refused r) = r .number
+
+unfoldable pub checkMarks : Check → List ℕ → List ℕ
+checkMarks (T.Passed trips dims speed) old = trips ∷ dims ∷ []
+checkMarks (T.Refused r) old = old
+
+unfoldable pub checkSpeed : Check → Float → Float
+checkSpeed (T.Passed trips dims speed) old = speed
+checkSpeed (T.Refused r) old = old
+
+-- r is returned, and the places of the marks and of the speed hold m and x
+pub record CheckPut (a : Check) (r : ℕ) (m₀ m : List ℕ) (x₀ x : Float) : Type 0 where
+  pub number : r ≡ checkNumber a
+  pub marks : m ≡ checkMarks a m₀
+  pub speed : x ≡ checkSpeed a x₀
+
+-- .. for a configuration whose counts may not fit; the entry leaves l in the output
+pub record CheckGiven (fits : Bool) (a : Check) (l : List Float) (r : ℕ) (m₀ m : List ℕ) (x₀ x : Float) (o₀ o : List Float) : Type 0 where
+  pub number : r ≡ fitting fits (checkNumber a)
+  pub marks : m ≡ (if fits then checkMarks a m₀ else m₀)
+  pub speed : x ≡ (if fits then checkSpeed a x₀ else x₀)
+  pub output : o ≡ (if fits then l else o₀)
 
 -- ---- module 8: scores, a verdict, a time bin
 

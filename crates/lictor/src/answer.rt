@@ -1,12 +1,13 @@
 // Answers, put where C reads them: the number is returned, and a refusal leaves every place as it was.
 ghost use mathlib.Core.Path.{_≡_};
-ghost use Rattle.lictor.specs.Answer.{fitting, NumberGiven, FilledGiven, MaskGiven, RecordedGiven, TrailNumberGiven, DerivedGiven, ScoredGiven, VerdictGiven, BinGiven};
+ghost use Rattle.lictor.specs.Answer.{fitting, NumberGiven, FilledGiven, MaskGiven, RecordedGiven, TrailNumberGiven, DerivedGiven, CheckPut, ScoredGiven, VerdictGiven, BinGiven};
 use chunk::Filled;
 use conformal::Scored;
 use conformal::TimeBin;
 use conformal::Verdict;
 use envelope::Derived;
 use fmath::Number;
+use tier0::Check;
 use window::Masked;
 use window::Recorded;
 
@@ -87,6 +88,23 @@ pub fn put_derived(number: u64, d: Derived, derived: &mut [f64; 29]) -> u64
         layout::config::put_derived(d, derived);
     }
     number
+}
+
+pub fn put_check(a: Check, marks: &mut [u64; 2], speed: &mut f64) -> u64
+    ensures { λ r. ⌜ CheckPut a r (now (marks .entry)) (now (marks .exit)) (now (speed .entry)) (now (speed .exit)) ⌝ }
+{
+    match a {
+        Check::Passed {
+            trips,
+            clamped_dims,
+            peak_speed,
+        } => {
+            *marks = [trips as u64, clamped_dims as u64];
+            *speed = peak_speed;
+            0
+        }
+        Check::Refused(r) => r.number as u64,
+    }
 }
 
 pub fn put_scored(fits: bool, a: Scored, scores: &mut [f64; 25], marks: &mut [u64; 2]) -> u64

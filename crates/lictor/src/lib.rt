@@ -26,6 +26,7 @@ use conformal::GateSpec;
 use window::Window;
 
 mod answer;
+mod checks;
 
 // ---- module 1
 

@@ -8,8 +8,8 @@ use native.Mathlib.Omega.{arith}
 use borrow.Author.Count.{below-more}
 use borrow.Author.Tests.{eq-eqb}
 use lib.Dec.{eqb}
-use lib.ListN.{length, replicate}
-use lib.Seq.{getD-set-same, getD-set-other}
+use lib.ListN.{length, drop, replicate}
+use lib.Seq.{getD-set-same, getD-set-other, getD-drop}
 use lib.Ieee.{Float, Format, nan, inf, fin, mul, lt, le, ne, eq, up, down}
 use Rattle.refusal.specs.Order.{if_then_else_}
 use Rattle.fmath.specs.Each.{at, some, over}
@@ -24,10 +24,11 @@ use Rattle.workspace.specs.Rule.{Walls, beyond, inward}
 use Rattle.envelope.specs.declared.ClampMode.{ClampMode}
 use Rattle.envelope.specs.declared.ClampMode.the-variants.{Off, Project}
 use Rattle.envelope.specs.declared.Contact.{Contact}
-use Rattle.envelope.specs.declared.Contact.the-variants.{None}
+use Rattle.envelope.specs.declared.Contact.the-variants.{None, Zone}
 use Rattle.tier0.specs.declared.Checks.{Checks}
-use Rattle.tier0.specs.Rule.{WORKSPACE, SPEED, ACCEL, JERK, REACH, CONTACT, arms, shared, Slow, clear, inZone, zoneIn, slowZone, outOfBox, outOfReach, tripBits, leash, boxed, leashed, reached, moves, held, moved, project, projection, checkAction}
-use Rattle.tier0.specs.Chunk.{startRow, stepTo, someLonger, someOutOfBox, tooBent, tooJolted, rawRow, exceeds, putRow, nextRow, runRows, checkChunk}
+use Rattle.tier0.specs.Rule.{WORKSPACE, SPEED, ACCEL, JERK, REACH, CONTACT, arms, shared, Slow, clear, seen, inZone, zoneIn, slowZone, outOfBox, outOfReach, tripBits, leash, boxed, leashed, reached, moves, held, moved, project, projection, checkAction}
+use Rattle.tier0.specs.Chunk.{startRow, stepTo, someLonger, someOutOfBox, tooBent, tooJolted, rawRow, exceeds, putRow, nextRow, runRows, projectedRows, checkChunk}
+use Rattle.tier0.proofs.Rows.{row-fits}
 
 -- ---- the bits
 
@@ -225,21 +226,44 @@ no-contact f s p aux e = go (arms s CONTACT) (s .contact) e
     go true c h = rw h
     go false c h = refl
 
--- .. so CONTACT is not raised
-pub no-contact-no-trip : (f : Format) (s : Checks) (p aux rows l : List Float) (h : ℕ) → s .contact ≡ None → raised CONTACT (chunkTrips f s p aux rows l h) ≡ false
-no-contact-no-trip f s p aux rows l h e =
+far-clear : (f : Format) (dt radius speed : Float) (i j : ℕ) (p aux : List Float) → le (dist f p (at aux i ∷ at aux j ∷ []) 2 .value) radius ≡ false → inZone f dt radius speed i j p aux .value ≡ clear
+unfolding inZone
+far-clear f dt radius speed i j p aux e = rw e
+
+or-clear : (b : Bool) (x : Checked Slow) → x .value ≡ clear → (if b then x else pure clear) .value ≡ clear
+or-clear true x e = e
+or-clear false x e = refl
+
+-- outside the radius of the configured one likewise
+pub outside-radius : (f : Format) (s : Checks) (p aux : List Float) (radius speed : Float) (i j : ℕ) → s .contact ≡ Zone radius speed i j → le (dist f p (at aux i ∷ at aux j ∷ []) 2 .value) radius ≡ false → slowZone f s p aux .value ≡ clear
+unfolding slowZone zoneIn
+outside-radius f s p aux radius speed i j e far =
+    or-clear (arms s CONTACT) (zoneIn f (s .dt) (s .contact) p aux)
+    (rw e (or-clear (seen p aux i j) (inZone f (s .dt) radius speed i j p aux) (far-clear f (s .dt) radius speed i j p aux far)))
+
+-- where there is none CONTACT is not raised: neither of a chunk ..
+pub clear-no-trip : (f : Format) (s : Checks) (p aux rows l : List Float) (h : ℕ) → slowZone f s p aux .value ≡ clear → raised CONTACT (chunkTrips f s p aux rows l h) ≡ false
+clear-no-trip f s p aux rows l h e =
     chunk-contact-exactly f s p aux rows l h
-    ∙ ap (λ (x : Checked Slow). x .value .inside && someLonger f (startRow s p rows) rows (s .dim) (x .value .step) h) (no-contact f s p aux e)
+    ∙ ap (λ (x : Slow). x .inside && someLonger f (startRow s p rows) rows (s .dim) (x .step) h) e
+
+-- .. nor of an action
+pub clear-no-action-trip : (f : Format) (s : Checks) (p aux prev a : List Float) → slowZone f s p aux .value ≡ clear → raised CONTACT (actionTrips f s p aux prev a) ≡ false
+clear-no-action-trip f s p aux prev a e =
+    action-contact-exactly f s p aux prev a
+    ∙ ap (λ (x : Slow). x .inside && lt (x .step) (actionStep f s p aux prev a)) e
+
+-- with no contact configured, in particular
+pub no-contact-no-trip : (f : Format) (s : Checks) (p aux rows l : List Float) (h : ℕ) → s .contact ≡ None → raised CONTACT (chunkTrips f s p aux rows l h) ≡ false
+no-contact-no-trip f s p aux rows l h e = clear-no-trip f s p aux rows l h (ap (λ (x : Checked Slow). x .value) (no-contact f s p aux e))
+
+pub no-contact-no-action-trip : (f : Format) (s : Checks) (p aux prev a : List Float) → s .contact ≡ None → raised CONTACT (actionTrips f s p aux prev a) ≡ false
+no-contact-no-action-trip f s p aux prev a e = clear-no-action-trip f s p aux prev a (ap (λ (x : Checked Slow). x .value) (no-contact f s p aux e))
 
 -- .. and no slow step enters the leash
 pub no-contact-no-leash : (speed : Bool) (most : Float) → leash speed most clear ≡ (if speed then most else clear .step)
 no-contact-no-leash true most = refl
 no-contact-no-leash false most = refl
-
--- outside the radius likewise
-pub outside-radius : (f : Format) (dt radius speed : Float) (i j : ℕ) (p aux : List Float) → le (dist f p (at aux i ∷ at aux j ∷ []) 2 .value) radius ≡ false → inZone f dt radius speed i j p aux .value ≡ clear
-unfolding inZone
-outside-radius f dt radius speed i j p aux e = rw e
 
 -- ---- with everything unarmed nothing is moved
 
@@ -297,6 +321,22 @@ difference-touched f g n inv most e = ap (λ (x : Float). lt most x) e ∙ lt-ir
 
 -- ---- with everything unarmed, said of the whole checks
 
+-- entry j of a row is that entry of the chunk
+row-at : (rows : List Float) (n i : ℕ) → n ≤ 8 → (j : ℕ) → j < n → at (rawRow rows n i) j ≡ at rows (i * n + j)
+unfolding held
+row-at rows n i w j k = over-at (at (drop (i * n) rows)) (replicate 8 +0) n w j k ∙ getD-drop (i * n) rows j nan
+
+below-rows : (i h j n : ℕ) → i < h → j < n → i * n + j < h * n
+below-rows i h j n a b = omega (arith, row-fits i h n (h * n) a (omega arith))
+
+-- what is put over the first k numbers from k on is put over the first k + n
+put-over : (g : ℕ → Float) (l r : List Float) (k n : ℕ) → ((j : ℕ) → j < n → at r j ≡ g (k + j)) → putRow r (over g l k) k n ≡ over g l (k + n)
+unfolding putRow over
+put-over g l r k zero e = let z : k + 0 ≡ k = omega arith in rw z
+put-over g l r k (suc n) e =
+    let z : k + suc n ≡ suc (k + n) = omega arith in
+    rw (z, put-over g l r k n (λ j w. e j (omega arith)), e n (omega arith))
+
 module _ (f : Format) (s : Checks) (e : s .armed ≡ 0) (p : List Float) where
   after-unarmed : (m : ClampMode) (x : Checked Slow) (prev b : List Float) → x ≡ pure clear → ((j : ℕ) → j < s .dim → finite (at b j) ≡ true) → projection f s m (x .value) p prev b .value ≡ record { rows = b; mask = 0 }
   unfolding projection project
@@ -310,12 +350,26 @@ module _ (f : Format) (s : Checks) (e : s .armed ≡ 0) (p : List Float) where
 
   module _ (rows q l : List Float) where
     -- each row of a chunk is written as it came
-    pub unarmed-rows : (i : ℕ) → runRows f s clear p rows q l (suc i) .value .out ≡ putRow (rawRow rows (s .dim) i) (runRows f s clear p rows q l i .value .out) (i * s .dim) (s .dim)
+    unarmed-row : (i : ℕ) → runRows f s clear p rows q l (suc i) .value .out ≡ putRow (rawRow rows (s .dim) i) (runRows f s clear p rows q l i .value .out) (i * s .dim) (s .dim)
     unfolding runRows nextRow
-    unarmed-rows i = rw (unarmed-stays f s p (runRows f s clear p rows q l i .value .last) (rawRow rows (s .dim) i) (eqb i 0) e)
+    unarmed-row i = rw (unarmed-stays f s p (runRows f s clear p rows q l i .value .last) (rawRow rows (s .dim) i) (eqb i 0) e)
 
-    -- .. and clamped_dims is 0
-    pub unarmed-mask : (h : ℕ) → ((i j : ℕ) → i < h → j < s .dim → finite (at (rawRow rows (s .dim) i) j) ≡ true) → runRows f s clear p rows q l h .value .mask ≡ 0
+    none-run : runRows f s clear p rows q l 0 .value .out ≡ over (at rows) l (0 * s .dim)
+    unfolding runRows over
+    none-run = let z : 0 * s .dim ≡ 0 = omega arith in rw z
+
+    -- .. and so are all
+    unarmed-rows : s .dim ≤ 8 → (h : ℕ) → runRows f s clear p rows q l h .value .out ≡ over (at rows) l (h * s .dim)
+    unarmed-rows w zero = none-run
+    unarmed-rows w (suc i) =
+        let more : suc i * s .dim ≡ i * s .dim + s .dim = omega arith in
+        unarmed-row i
+        ∙ ap (λ (x : List Float). putRow (rawRow rows (s .dim) i) x (i * s .dim) (s .dim)) (unarmed-rows w i)
+        ∙ put-over (at rows) l (rawRow rows (s .dim) i) (i * s .dim) (s .dim) (row-at rows (s .dim) i w)
+        ∙ ap (over (at rows) l) (sym more)
+
+    -- .. and no bit is set in clamped_dims
+    unarmed-mask : (h : ℕ) → ((i j : ℕ) → i < h → j < s .dim → finite (at (rawRow rows (s .dim) i) j) ≡ true) → runRows f s clear p rows q l h .value .mask ≡ 0
     unfolding runRows nextRow
     unarmed-mask zero real = refl
     unarmed-mask (suc i) real =
@@ -324,3 +378,15 @@ module _ (f : Format) (s : Checks) (e : s .armed ≡ 0) (p : List Float) where
           unmoved (rawRow rows (s .dim) i) (s .dim) (λ j k. real i j (omega arith) k),
           unarmed-mask i (λ a j k w. real a j (omega arith) w),
         )
+
+  rows-unarmed : (m : ClampMode) (x : Checked Slow) (rows q l : List Float) (h : ℕ) → x ≡ pure clear → s .dim ≤ 8 → ((k : ℕ) → k < h * s .dim → finite (at rows k) ≡ true) → projectedRows f s m (x .value) p rows q l h .value ≡ record { rows = over (at rows) l (h * s .dim); mask = 0 }
+  unfolding projectedRows
+  rows-unarmed Off x rows q l h ex w real = refl
+  rows-unarmed Project x rows q l h ex w real =
+      let each-real : (i j : ℕ) → i < h → j < s .dim → finite (at (rawRow rows (s .dim) i) j) ≡ true = λ i j a b. ap finite (row-at rows (s .dim) i w j b) ∙ real (i * s .dim + j) (below-rows i h j (s .dim) a b) in
+      rw (ex, unarmed-rows rows q l w h, unarmed-mask rows q l h each-real)
+
+  -- the rows of a chunk come out as they went in, and clamped_dims is 0
+  pub unarmed-chunk : (aux rows l : List Float) (h : ℕ) → s .dim ≤ 8 → ((k : ℕ) → k < h * s .dim → finite (at rows k) ≡ true) → checkChunk f s p aux rows l h .value .after ≡ record { rows = over (at rows) l (h * s .dim); mask = 0 }
+  unfolding checkChunk
+  unarmed-chunk aux rows l h w real = rows-unarmed (s .clamp) (slowZone f s p aux) rows (startRow s p rows) l h (unarmed-no-zone f s p aux e) w real

@@ -6,13 +6,15 @@ use mathlib.Core.List.{List, [], _∷_}
 use lib.IntN.{pos, negsuc}
 use lib.Ieee.{Float, binary64, fin, add, sub, mul, div, lt, ne}
 use Rattle.root.specs.Root.{rootOf, number, rootExponent, half, nearRoot, floorRoot, scaled}
-use Rattle.fmath.specs.Each.{over}
+use Rattle.fmath.specs.Each.{all, some, over}
 use Rattle.fmath.specs.Finite.{finite, +0}
 use Rattle.fmath.specs.Checked.{Checked, sumFrom, each}
+use Rattle.fmath.specs.Least.{greater, greatest}
 use Rattle.fmath.specs.Norm.{squaredGap, dist}
 use Rattle.envelope.specs.declared.ClampMode.the-variants.{Project}
 use Rattle.envelope.specs.declared.Contact.the-variants.{None}
 use Rattle.tier0.specs.declared.Checks.{Checks}
+use Rattle.tier0.specs.Chunk.{startRow, rowBefore, stepTo, peakStep, someLonger, someOutOfBox, tooBent, tooJolted, putRow, nextRow, runRows, projectedRows, checkChunk}
 use Rattle.tier0.specs.Rule.{SPEED, arms, slowZone, outOfBox, outOfReach, tripBits, toward, shortened, pulled, boxed, leashed, reached, moves, held, moved, project, projection, Judgement, checkAction}
 
 abbrev 1! : Float
@@ -71,6 +73,18 @@ six-eight = refl
 pub three-four : to 3! 4! ≡ record { value = record { trips = 0; peak = 5!; after = record { rows = 3! ∷ 4! ∷ zeros; mask = 0 } }; sound = true }
 unfolding checkAction tripBits mul projection slowZone outOfBox dist project moves arms lt rootOf reached moved sumFrom add leashed ne squaredGap sub outOfReach pulled held over finite boxed shortened each toward div number rootExponent half nearRoot floorRoot scaled
 three-four = refl
+
+-- the same as a chunk of one row from (0,0), written over two zeros
+abbrev row : Float → Float → Checked Judgement
+row x y = checkChunk binary64 plane origin [] (x ∷ y ∷ []) origin 1
+
+pub row-six-eight : row 6! 8! ≡ record { value = record { trips = SPEED; peak = fin false 5 (pos 1); after = record { rows = fin false (3 * 0xf_ffff_ffff) (negsuc 35) ∷ fin false 0xf_ffff_ffff (negsuc 33) ∷ []; mask = 3 } }; sound = true }
+unfolding checkChunk startRow rowBefore stepTo peakStep someLonger someOutOfBox tooBent tooJolted putRow nextRow runRows projectedRows all some greater greatest tripBits mul slowZone outOfBox dist moves arms lt rootOf reached moved sumFrom add leashed ne squaredGap sub outOfReach pulled held over finite boxed shortened each toward div number rootExponent half nearRoot floorRoot scaled
+row-six-eight = refl
+
+pub row-three-four : row 3! 4! ≡ record { value = record { trips = 0; peak = 5!; after = record { rows = 3! ∷ 4! ∷ []; mask = 0 } }; sound = true }
+unfolding checkChunk startRow rowBefore stepTo peakStep someLonger someOutOfBox tooBent tooJolted putRow nextRow runRows projectedRows all some greater greatest tripBits mul slowZone outOfBox dist moves arms lt rootOf reached moved sumFrom add leashed ne squaredGap sub outOfReach pulled held over finite boxed shortened each toward div number rootExponent half nearRoot floorRoot scaled
+row-three-four = refl
 
 -- one coordinate, SPEED alone armed, step 1.5
 abbrev line : Checks

@@ -57,7 +57,7 @@ pub fn horizon(rng: &mut Rng) -> usize {
     match rng.below(32) {
         0 => rng.pick(&[0, 65]),
         1..=2 => rng.pick(&[MAX_H - 1, MAX_H]),
-        3..=5 => rng.within(6, 30),
+        3..=5 => rng.within(6, MAX_H - 2),
         _ => rng.within(1, 5),
     }
 }

@@ -1,8 +1,10 @@
 //! The port as a customer has it, through `bindings/rust`: the model's arguments taken over into the binding's, and its
 //! answer back.
 
-use lictor::{chunk, config, conformal, fmath, window};
-use model::{ActionKind, BrakeKind, Calibration, ChunkBuf, ChunkView, ClampMode, Derived, FuseConfig, Scores, Trail};
+use lictor::{chunk, config, conformal, fmath, tier0, window};
+use model::{
+    ActionKind, BrakeKind, Calibration, ChunkBuf, ChunkView, ClampMode, Derived, FuseConfig, Scores, Tier0Out, Trail,
+};
 
 use crate::port::{Answer, Port};
 
@@ -30,6 +32,8 @@ pub fn port() -> Port {
         path: Some(|t, d, w| answer(trail(t).path(d, w))),
         trail_clear: Some(|t| on_trail(t, |lent| lent.clear())),
         derive: Some(|c| answer(config(c).derive()).map(derived)),
+        check_chunk: Some(|c, pos, aux, ch, out| found(tier0::check_chunk(&config(c), pos, aux, chunk_view(&ch), out))),
+        check_action: Some(|c, pos, aux, prev, a, out| found(tier0::check_action(&config(c), pos, aux, prev, a, out))),
         standardise: Some(|c, bin, sc| on_scores(sc, |s| conformal::standardise(&calibration(c), bin, s))),
         aggregate: Some(|c, sc| on_scores(sc, |s| conformal::aggregate(&calibration(c), s))),
         trip: Some(|c, sc| answer(conformal::trip(&calibration(c), &scores(sc)))),
@@ -40,6 +44,10 @@ pub fn port() -> Port {
 
 fn answer<T>(a: lictor::Answer<T>) -> Answer<T> {
     a.map_err(|r| model::Refusal { number: r.number, place: r.place })
+}
+
+fn found(a: lictor::Answer<tier0::Tier0Out>) -> Answer<Tier0Out> {
+    answer(a).map(|r| Tier0Out { trips: r.trips, clamped_dims: r.clamped_dims, peak_speed: r.peak_speed })
 }
 
 pub fn chunk_view<'a>(v: &ChunkView<'a>) -> chunk::ChunkView<'a> {

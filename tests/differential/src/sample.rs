@@ -2,8 +2,8 @@
 //! has the layout: 8-byte little-endian words, a section for each entry, a count of records and then the records.
 
 use model::{
-    brake::count_of, conformal, ActionKind, BrakeKind, ClampMode, Derived, FuseConfig, Scores, Tier1Rt, Trail, MAX_D,
-    NFEAT,
+    brake::count_of, conformal, tier1 as rule, ActionKind, BrakeKind, ClampMode, Derived, FuseConfig, Scores, Tier1Rt,
+    Trail, MAX_D, NFEAT,
 };
 
 use crate::{
@@ -219,11 +219,8 @@ fn featured(i: &tier1::FeaturesIn, r: &mut Record) -> Option<()> {
     r.count(prev.filled as usize).count(prev.t_emit as usize).count(prev.horizon as usize).count(prev.dim as usize);
     r.numbers(prev.rows(), ROWS * MAX_D).list(&i.pos, MAX_D).list(&i.ext, MAX_D).chunk(new);
     let mut sc = Scores::NEW;
-    oracle::take_raised();
+    rule::features(&i.cfg, &mut rt.clone(), &i.pos, &i.ext, Some(new.view()), &mut sc.clone()).ok()?;
     oracle::features(&i.cfg, &mut rt, &i.pos, &i.ext, Some(new.view()), &mut sc);
-    if oracle::take_raised() {
-        return None;
-    }
     r.numbers(&sc.f, NFEAT).count(sc.valid as usize).numbers(&rt.held, 6).count(rt.held_valid as usize);
     Some(())
 }

@@ -32,6 +32,20 @@ fn checked(cfg: &FuseConfig, pos: &[f64], aux: &[f64], ch: ChunkView<'_>) -> (u3
     (rust, tier0::check_chunk(cfg, pos, aux, ch, &mut out).map(|r| r.trips))
 }
 
+/// What the Rust finds of an action from position 0, with its first coordinate in the output; the model's answer.
+fn checked_action(
+    cfg: &FuseConfig,
+    aux: &[f64],
+    prev: &[f64],
+    a: &[f64],
+) -> (Tier0Out, f64, Result<Tier0Out, Refusal>) {
+    let (mut out, mut kept) = ([7.0], [7.0]);
+    let rust = oracle::check_action(cfg, &[0.0], aux, prev, a, &mut out);
+    let model = tier0::check_action(cfg, &[0.0], aux, prev, a, &mut kept);
+    assert!(model.is_ok() || kept == [7.0], "a refusal writes nothing");
+    (rust, out[0], model)
+}
+
 /// Feasible and margin of the Rust, and the model's answer.
 fn forecast(cfg: &FuseConfig, p: &[f64], v: &[f64], ch: ChunkView<'_>) -> (bool, f64, Result<BrakeOut, Refusal>) {
     let (rust, _, _) = oracle::brake_feasible(cfg, p, v, ch, 0);
@@ -99,6 +113,14 @@ fn a_slow_zone_that_is_not_seen() {
     let (pos, centre) = ([1e200, 0.0], [0.0, 0.0]);
     assert_eq!(checked(&cfg, &pos, &centre, rows(2, &[1e200, 0.0])), (0, refused(13)));
     assert_eq!(checked(&cfg, &[1e100, 0.0], &centre, rows(2, &[2e100, 0.0])), (CONTACT, Ok(CONTACT)));
+}
+
+#[test]
+fn a_step_too_long_to_measure() {
+    let cfg = FuseConfig { armed: SPEED, clamp: ClampMode::Project, ..boxed(1) };
+    let (rust, out, model) = checked_action(&cfg, &[], &[0.0], &[1e200]);
+    assert_eq!((rust.trips, rust.peak_speed, out), (SPEED, f64::INFINITY, 0.0), "pulled onto its predecessor");
+    assert_eq!(model, refused(13));
 }
 
 /// A full trail that stands still, and the features of a tick.
@@ -202,6 +224,29 @@ fn a_chunk_of_another_width() {
 fn a_short_position() {
     let cfg = FuseConfig { armed: WORKSPACE, ..boxed(1) };
     assert_eq!(checked(&cfg, &[], &[], rows(1, &[9.0])), (0, refused(11)));
+}
+
+#[test]
+fn a_short_predecessor() {
+    let cfg = FuseConfig { armed: SPEED, ..boxed(1) };
+    let (rust, out, model) = checked_action(&cfg, &[], &[], &[9.0]);
+    assert_eq!((rust.trips, out), (0, 7.0), "nothing is checked or written");
+    assert_eq!(model, refused(11));
+}
+
+#[test]
+fn a_chunk_that_does_not_fit_its_sizes() {
+    let cfg = FuseConfig { armed: WORKSPACE, ..boxed(1) };
+    assert_eq!(checked(&cfg, &[0.0], &[], rows(1, &[])), (0, refused(5)));
+    assert_eq!(checked(&cfg, &[0.0], &[], ChunkView { exec_steps: 2, ..rows(1, &[9.0]) }), (WORKSPACE, refused(8)));
+    assert_eq!(checked(&cfg, &[0.0], &[], ChunkView { horizon: 2, ..rows(1, &[9.0]) }), (WORKSPACE, refused(9)));
+}
+
+#[test]
+fn a_nan_that_is_not_read() {
+    let cfg = FuseConfig { armed: WORKSPACE, ..boxed(1) };
+    assert_eq!(checked(&cfg, &[0.0], &[f64::NAN], rows(1, &[9.0])), (WORKSPACE, refused(12)));
+    assert_eq!(checked(&cfg, &[0.0, f64::NAN], &[], rows(1, &[9.0])), (WORKSPACE, refused(12)));
 }
 
 #[test]

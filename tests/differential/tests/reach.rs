@@ -35,7 +35,7 @@ impl Met {
 fn the_checks() {
     let (chunks, actions) = (tier0::check_chunk(&Port::default()), tier0::check_action(&Port::default()));
     let mut met = Met::new();
-    let mut note = |name: &str, cfg: &FuseConfig, r: Result<Tier0Out, Refusal>| {
+    let mut note = |name: &str, cfg: &FuseConfig, h: u16, r: Result<Tier0Out, Refusal>| {
         let Ok(r) = r else { return };
         for bit in [WORKSPACE, SPEED, ACCEL, JERK, REACH, CONTACT] {
             if cfg.armed & bit != 0 {
@@ -43,18 +43,29 @@ fn the_checks() {
             }
         }
         met.note(format!("{name} {:?} moved {}", cfg.clamp, r.clamped_dims != 0));
+        met.note(format!("{name} {:?} armed {}", cfg.clamp, cfg.armed % 64));
+        met.note(format!("{name} dim {} pos_dim {}", cfg.dim, cfg.pos_dim));
+        met.note(format!("{name} horizon {h}"));
     };
     for call in 0..CALLS {
         let i = chunks.input(1, call);
-        note("chunk", &i.cfg, rule::check_chunk(&i.cfg, &i.pos, &i.aux, i.ch.view(), &mut i.out.clone()));
+        let r = rule::check_chunk(&i.cfg, &i.pos, &i.aux, i.ch.view(), &mut i.out.clone());
+        note("chunk", &i.cfg, i.ch.horizon, r);
         let i = actions.input(1, call);
-        note("action", &i.cfg, rule::check_action(&i.cfg, &i.pos, &i.aux, &i.prev, &i.a, &mut i.out.clone()));
+        let r = rule::check_action(&i.cfg, &i.pos, &i.aux, &i.prev, &i.a, &mut i.out.clone());
+        note("action", &i.cfg, 1, r);
     }
     let trips = |name: &'static str, bits: &'static [u32]| {
         bits.iter().flat_map(move |b| [true, false].map(|t| format!("{name} trip {b} {t}")))
     };
     met.all(trips("chunk", &[1, 2, 4, 8, 16, 32]).chain(trips("action", &[1, 2, 16, 32])));
     met.all(["chunk Project moved true", "action Project moved true", "chunk Off moved false"].map(String::from));
+    for name in ["chunk", "action"] {
+        let clamps = ["Off", "Project"];
+        met.all(clamps.iter().flat_map(|c| (0..64).map(move |m| format!("{name} {c} armed {m}"))));
+        met.all((1..=8).flat_map(|d| (1..=8).map(move |p| format!("{name} dim {d} pos_dim {p}"))));
+    }
+    met.all((1..=64).map(|h| format!("chunk horizon {h}")));
 }
 
 #[test]

@@ -7,7 +7,7 @@ numbers-ok-requires : tie.Need-numbers-ok-requires
 numbers-ok-requires c κs = search needs
 
 returns : tie.Need-returns
-returns c = rw (c .before .before .before .before .if1 .taken) (c .numbers-ok .ensures)
+returns c = rw (c .before .if1 .taken) (c .numbers-ok .ensures)
 
 returns-2 : tie.Need-returns-2
 returns-2 c = rw (c .if1 .left)

@@ -1,34 +1,26 @@
--- `envelope::config_refusal` meets its contract: each test is the condition of its number.
-use mathlib.Core.Path.{_∙_}
+-- `envelope::config_refusal` meets its contract: settings with their own tables are the configuration.
+use Prim.Native.Nat.{ℕ}
+use mathlib.Core.Path.{_≡_}
+use Rattle.refusal.specs.Order.{refusal}
+use Rattle.envelope.specs.declared.Settings.{Settings}
+use Rattle.envelope.specs.declared.FuseConfig.{FuseConfig}
+use Rattle.envelope.specs.Whole.{whole, settingsOf}
+use Rattle.envelope.specs.Refusals.{configJudged}
 use borrow.Author.Needs.{needs}
 use Rattle.envelope.proofs.config_refusal.Statement.{statement}
 use Rattle.envelope.proofs.config_refusal.Tie as tie
 
-sizes-ok-requires : tie.Need-sizes-ok-requires
-sizes-ok-requires c κs = search needs
+own-tables : (c : FuseConfig) (s : Settings) {r : ℕ} → r ≡ refusal (configJudged (whole s (c .calib .center) (c .calib .scale))) → s ≡ settingsOf c → r ≡ refusal (configJudged c)
+own-tables c s e q = rw q at e
 
-numbers-ok-requires : tie.Need-numbers-ok-requires
-numbers-ok-requires c κs = search needs
+settings-of-requires : tie.Need-settings-of-requires
+settings-of-requires c κs = search needs
 
-steps-ok-requires : tie.Need-steps-ok-requires
-steps-ok-requires c κs = search needs
-
-channels-ok-requires : tie.Need-channels-ok-requires
-channels-ok-requires c κs = search needs
-
-first-of-requires : tie.Need-first-of-requires
-first-of-requires c κs = search needs
+settings-refusal-requires : tie.Need-settings-refusal-requires
+settings-refusal-requires c κs = search needs
 
 returns : tie.Need-returns
-returns c = (c .first-of .ensures) ∙ rw (c .before .before .before .before .sizes-ok .ensures, c .before .before .before .numbers-ok .ensures, c .before .before .steps-ok .ensures, c .before .channels-ok .ensures)
+returns c = own-tables (c .before .before .before .before .before .args .t1) _ (c .settings-refusal .ensures) (c .before .before .before .before .settings-of .ensures)
 
 pub config-refusal-spec : {M : Type 1} → statement M
-config-refusal-spec =
-    tie.close
-    (tie.spec
-    sizes-ok-requires
-    numbers-ok-requires
-    steps-ok-requires
-    channels-ok-requires
-    first-of-requires
-    returns)
+config-refusal-spec = tie.close (tie.spec settings-of-requires settings-refusal-requires returns)

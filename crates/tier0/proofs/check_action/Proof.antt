@@ -1,41 +1,37 @@
--- `tier0::check_action` meets its contract: refused by what is lent, refused by a computed number, or passed.
-use mathlib.Core.Path.{sym, _∙_}
-use borrow.Author.Tests.{not-true, not-false}
+-- `tier0::check_action` meets its contract: settings with their own tables are the configuration.
+use Prim.Native.Nat.{ℕ}
+use mathlib.Core.Path.{_≡_}
+use mathlib.Core.List.{List}
+use lib.ListN.{length}
+use lib.Ieee.{Float}
 use denote.Ref.{now}
-use Rattle.tier0.proofs.Refused.{accepted-sizes, sized-checks, lent-refused, not-sound, passes}
+use Rattle.envelope.specs.declared.Settings.{Settings}
+use Rattle.envelope.specs.declared.FuseConfig.{FuseConfig}
+use Rattle.envelope.specs.Whole.{whole, settingsOf}
+use Rattle.tier0.specs.declared.Check.{Check}
+use Rattle.tier0.specs.Of.{actionAnswer, actionOut}
 use borrow.Author.Needs.{needs}
 use Rattle.tier0.proofs.check_action.Statement.{statement}
 use Rattle.tier0.proofs.check_action.Tie as tie
 
-action-refusal-requires : tie.Need-action-refusal-requires
-action-refusal-requires c κs = search needs
+own-tables : (c : FuseConfig) (p aux prev a : List Float) (l : List Float) (s : Settings) {r : Check} {o : List Float}
+    → (r ≡ actionAnswer (whole s (c .calib .center) (c .calib .scale)) p aux prev a (length l)) × (o ≡ actionOut (whole s (c .calib .center) (c .calib .scale)) p aux prev a l)
+    → s ≡ settingsOf c
+    → (r ≡ actionAnswer c p aux prev a (length l)) × (o ≡ actionOut c p aux prev a l)
+own-tables c p aux prev a l s e q = rw q at e
 
-of-requires : tie.Need-of-requires
-of-requires c κs = search needs
+settings-of-requires : tie.Need-settings-of-requires
+settings-of-requires c κs = search needs
 
-returns : tie.Need-returns
-returns c = let g = c .before .before .before .before .before .before .before .before .args in let w = lent-refused (g .c) (now (g .pos)) (now (g .aux)) (now (g .prev)) (now (g .a)) (now (g .out)) _ (c .before .before .action-refusal .ensures) (c .before .if1 .taken) (c .of .ensures) in (w .gives, w .leaves)
-
-checks-of-requires : tie.Need-checks-of-requires
-checks-of-requires c κs = search needs
-
-judge-action-requires : tie.Need-judge-action-requires
-judge-action-requires c κs = let g = c .before .before .before .before .before .before .before .before .args in sized-checks (g .c) (now (g .pos)) (now (g .prev)) (now (g .a)) _ (c .checks-of .ensures) (accepted-sizes (g .c) (now (g .pos)) (now (g .aux)) (now (g .prev)) (now (g .a)) _ (sym (c .before .before .action-refusal .ensures) ∙ c .before .if1 .left))
-
-of-requires-2 : tie.Need-of-requires-2
-of-requires-2 c κs = search needs
-
-returns-2 : tie.Need-returns-2
-returns-2 c = let g = c .before .before .before .before .before .before .before .before .before .before .before .before .args in let w = not-sound (g .c) (now (g .pos)) (now (g .aux)) (now (g .prev)) (now (g .a)) (now (g .out)) (sym (c .before .before .before .before .before .before .action-refusal .ensures) ∙ c .before .before .before .before .before .if1 .left) (c .before .before .before .before .checks-of .ensures) (c .before .before .before .judge-action .ensures) (not-true _ (c .before .if2 .taken)) (c .of2 .ensures) in (w .gives, w .leaves)
-
-write-row-requires : tie.Need-write-row-requires
-write-row-requires c κs = let g = c .before .before .before .before .before .before .before .before .before .before .before .before .before .args in let w = accepted-sizes (g .c) (now (g .pos)) (now (g .aux)) (now (g .prev)) (now (g .a)) _ (sym (c .before .before .before .before .before .before .before .action-refusal .ensures) ∙ c .before .before .before .before .before .before .if1 .left) in (w .narrow, w .out)
+check-action-with-requires : tie.Need-check-action-with-requires
+check-action-with-requires c κs = search needs
 
 same-length : tie.Need-same-length
 same-length c = search needs
 
-returns-3 : tie.Need-returns-3
-returns-3 c = let g = c .before .before .before .before .before .before .before .before .before .before .before .before .before .before .before .before .args in let w = passes (g .c) (now (g .pos)) (now (g .aux)) (now (g .prev)) (now (g .a)) (now (g .out)) (sym (c .before .before .before .before .before .before .before .before .before .before .action-refusal .ensures) ∙ c .before .before .before .before .before .before .before .before .before .if1 .left) (c .before .before .before .before .before .before .before .before .checks-of .ensures) (c .before .before .before .before .before .before .before .judge-action .ensures) (not-false _ (c .before .before .before .before .before .if2 .left)) (c .before .before .write-row .ensures) in (w .gives, w .leaves)
+returns : tie.Need-returns
+returns c = let g = c .before .before .before .before .before .before .before .before .before .before .before .before .before .args in own-tables (g .t1) (now (g .pos)) (now (g .aux)) (now (g .prev)) (now (g .a)) (now (g .out)) _ (c .before .before .check-action-with .ensures) (c .before .before .before .before .before .before .before .settings-of .ensures)
 
 pub check-action-spec : {M : Type 1} → statement M
-check-action-spec = tie.close (tie.spec action-refusal-requires of-requires returns checks-of-requires judge-action-requires of-requires-2 returns-2 write-row-requires same-length returns-3)
+check-action-spec =
+    tie.close (tie.spec settings-of-requires check-action-with-requires same-length returns)

@@ -1,0 +1,69 @@
+// Module 5 for C: the checks of an action and of a chunk.
+ghost use mathlib.Core.Path.{_≡_};
+ghost use lib.ListN.{length};
+ghost use Rattle.layout.specs.Config.{configOf, countsFit};
+ghost use Rattle.tier0.specs.Of.{actionAnswer, actionOut, chunkAnswer, chunkOut};
+ghost use Rattle.lictor.specs.Answer.{CheckGiven};
+
+#[no_mangle]
+pub extern "C" fn lictor_check_chunk<'a>(
+    numbers: &[f64; 44],
+    counts: &[u64; 26],
+    center: &'a [f64; 192],
+    scale: &'a [f64; 192],
+    pos: &[f64],
+    aux: &[f64],
+    rows: &[f64],
+    horizon: u16,
+    dim: u16,
+    exec_steps: u16,
+    out: &mut [f64],
+    marks: &mut [u64; 2],
+    speed: &mut f64,
+) -> u64
+    ensures { λ r. ⌜ CheckGiven (countsFit (now (counts .entry))) (chunkAnswer (configOf (now (numbers .entry)) (now (counts .entry)) (now (center .entry)) (now (scale .entry))) (now (pos .entry)) (now (aux .entry)) (now (rows .entry)) horizon dim «exec_steps» (length (now (out .entry)))) (chunkOut (configOf (now (numbers .entry)) (now (counts .entry)) (now (center .entry)) (now (scale .entry))) (now (pos .entry)) (now (aux .entry)) (now (rows .entry)) horizon dim «exec_steps» (now (out .entry))) r (now (marks .entry)) (now (marks .exit)) (now (speed .entry)) (now (speed .exit)) (now (out .entry)) (now (out .exit)) ⌝ }
+{
+    let fits = layout::config::counts_fit(counts);
+    if !fits {
+        return 255;
+    }
+    let c = layout::config::settings_of(numbers, counts);
+    let a = tier0::check_chunk_with(
+        c,
+        center,
+        scale,
+        pos,
+        aux,
+        rows,
+        horizon,
+        dim,
+        exec_steps,
+        out,
+    );
+    crate::answer::put_check(a, marks, speed)
+}
+
+#[no_mangle]
+pub extern "C" fn lictor_check_action<'a>(
+    numbers: &[f64; 44],
+    counts: &[u64; 26],
+    center: &'a [f64; 192],
+    scale: &'a [f64; 192],
+    pos: &[f64],
+    aux: &[f64],
+    prev: &[f64],
+    action: &[f64],
+    out: &mut [f64],
+    marks: &mut [u64; 2],
+    speed: &mut f64,
+) -> u64
+    ensures { λ r. ⌜ CheckGiven (countsFit (now (counts .entry))) (actionAnswer (configOf (now (numbers .entry)) (now (counts .entry)) (now (center .entry)) (now (scale .entry))) (now (pos .entry)) (now (aux .entry)) (now (prev .entry)) (now (action .entry)) (length (now (out .entry)))) (actionOut (configOf (now (numbers .entry)) (now (counts .entry)) (now (center .entry)) (now (scale .entry))) (now (pos .entry)) (now (aux .entry)) (now (prev .entry)) (now (action .entry)) (now (out .entry))) r (now (marks .entry)) (now (marks .exit)) (now (speed .entry)) (now (speed .exit)) (now (out .entry)) (now (out .exit)) ⌝ }
+{
+    let fits = layout::config::counts_fit(counts);
+    if !fits {
+        return 255;
+    }
+    let c = layout::config::settings_of(numbers, counts);
+    let a = tier0::check_action_with(c, center, scale, pos, aux, prev, action, out);
+    crate::answer::put_check(a, marks, speed)
+}

@@ -1,0 +1,42 @@
+-- `tier0::check_action_with` meets its contract: refused by what is lent, refused by a computed number, or passed.
+use mathlib.Core.Path.{sym, _∙_}
+use borrow.Author.Tests.{not-true, not-false}
+use denote.Ref.{now}
+use Rattle.tier0.proofs.Refused.{accepted-sizes, sized-checks, lent-refused, not-sound, passes}
+use Rattle.envelope.specs.Whole.{whole}
+use borrow.Author.Needs.{needs}
+use Rattle.tier0.proofs.check_action_with.Statement.{statement}
+use Rattle.tier0.proofs.check_action_with.Tie as tie
+
+action-refusal-requires : tie.Need-action-refusal-requires
+action-refusal-requires c κs = search needs
+
+of-requires : tie.Need-of-requires
+of-requires c κs = search needs
+
+returns : tie.Need-returns
+returns c = let g = c .before .before .before .before .before .before .before .before .args in let w = lent-refused (whole (g .c) (now (g .center)) (now (g .scale))) (now (g .pos)) (now (g .aux)) (now (g .prev)) (now (g .a)) (now (g .out)) _ (c .before .before .action-refusal .ensures) (c .before .if1 .taken) (c .of .ensures) in (w .gives, w .leaves)
+
+checks-of-requires : tie.Need-checks-of-requires
+checks-of-requires c κs = search needs
+
+judge-action-requires : tie.Need-judge-action-requires
+judge-action-requires c κs = let g = c .before .before .before .before .before .before .before .before .args in sized-checks (whole (g .c) (now (g .center)) (now (g .scale))) (now (g .pos)) (now (g .prev)) (now (g .a)) _ (c .checks-of .ensures _ _) (accepted-sizes (whole (g .c) (now (g .center)) (now (g .scale))) (now (g .pos)) (now (g .aux)) (now (g .prev)) (now (g .a)) _ (sym (c .before .before .action-refusal .ensures) ∙ c .before .if1 .left))
+
+of-requires-2 : tie.Need-of-requires-2
+of-requires-2 c κs = search needs
+
+returns-2 : tie.Need-returns-2
+returns-2 c = let g = c .before .before .before .before .before .before .before .before .before .before .before .before .args in let w = not-sound (whole (g .c) (now (g .center)) (now (g .scale))) (now (g .pos)) (now (g .aux)) (now (g .prev)) (now (g .a)) (now (g .out)) (sym (c .before .before .before .before .before .before .action-refusal .ensures) ∙ c .before .before .before .before .before .if1 .left) (c .before .before .before .before .checks-of .ensures _ _) (c .before .before .before .judge-action .ensures) (not-true _ (c .before .if2 .taken)) (c .of2 .ensures) in (w .gives, w .leaves)
+
+write-row-requires : tie.Need-write-row-requires
+write-row-requires c κs = let g = c .before .before .before .before .before .before .before .before .before .before .before .before .before .args in let w = accepted-sizes (whole (g .c) (now (g .center)) (now (g .scale))) (now (g .pos)) (now (g .aux)) (now (g .prev)) (now (g .a)) _ (sym (c .before .before .before .before .before .before .before .action-refusal .ensures) ∙ c .before .before .before .before .before .before .if1 .left) in (w .narrow, w .out)
+
+same-length : tie.Need-same-length
+same-length c = search needs
+
+returns-3 : tie.Need-returns-3
+returns-3 c = let g = c .before .before .before .before .before .before .before .before .before .before .before .before .before .before .before .before .args in let w = passes (whole (g .c) (now (g .center)) (now (g .scale))) (now (g .pos)) (now (g .aux)) (now (g .prev)) (now (g .a)) (now (g .out)) (sym (c .before .before .before .before .before .before .before .before .before .before .action-refusal .ensures) ∙ c .before .before .before .before .before .before .before .before .before .if1 .left) (c .before .before .before .before .before .before .before .before .checks-of .ensures _ _) (c .before .before .before .before .before .before .before .judge-action .ensures) (not-false _ (c .before .before .before .before .before .if2 .left)) (c .before .before .write-row .ensures) in (w .gives, w .leaves)
+
+pub check-action-with-spec : {M : Type 1} → statement M
+check-action-with-spec = tie.close (tie.spec action-refusal-requires of-requires returns checks-of-requires judge-action-requires of-requires-2 returns-2 write-row-requires same-length returns-3)

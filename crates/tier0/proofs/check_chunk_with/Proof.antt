@@ -1,0 +1,70 @@
+-- `tier0::check_chunk_with` meets its contract: refused by what is lent, refused by a computed number, or passed.
+use mathlib.Core.Path.{refl, sym, _∙_}
+use native.Mathlib.Omega.{arith}
+use borrow.Author.Tests.{not-true, not-false}
+use denote.Ref.{now}
+use lib.Ieee.{ofBits}
+use Rattle.tier0.proofs.ChunkRefused.{accepted-sizes, sized-checks, lent-refused, not-sound, passes}
+use Rattle.envelope.specs.Whole.{whole}
+use borrow.Author.Needs.{needs}
+use Rattle.tier0.proofs.check_chunk_with.Statement.{statement}
+use Rattle.tier0.proofs.check_chunk_with.Tie as tie
+
+chunk-refusal-requires : tie.Need-chunk-refusal-requires
+chunk-refusal-requires c κs = search needs
+
+of-requires : tie.Need-of-requires
+of-requires c κs = search needs
+
+returns : tie.Need-returns
+returns c = let g = c .before .before .before .before .before .before .before .args in let w = lent-refused (whole (g .c) (now (g .center)) (now (g .scale))) (now (g .pos)) (now (g .aux)) (now (g .rows)) (g .horizon) (g .dim) (g .exec-steps) (now (g .out)) _ (c .before .before .chunk-refusal .ensures) (c .before .if1 .taken) (c .of .ensures) in (w .gives, w .leaves)
+
+checks-of-requires : tie.Need-checks-of-requires
+checks-of-requires c κs = search needs
+
+slice-aggregate-judge-chunk : tie.Need-slice-aggregate-judge-chunk
+slice-aggregate-judge-chunk c = search needs
+
+judge-chunk-requires : tie.Need-judge-chunk-requires
+judge-chunk-requires c κs = let g = c .before .before .before .before .before .before .before .before .args in sized-checks (whole (g .c) (now (g .center)) (now (g .scale))) (now (g .pos)) (now (g .rows)) (g .horizon) _ (c .before .checks-of .ensures _ _) (accepted-sizes (whole (g .c) (now (g .center)) (now (g .scale))) (now (g .pos)) (now (g .aux)) (now (g .rows)) (g .horizon) (g .dim) (g .exec-steps) _ (sym (c .before .before .before .chunk-refusal .ensures) ∙ c .before .before .if1 .left))
+
+of-requires-2 : tie.Need-of-requires-2
+of-requires-2 c κs = search needs
+
+returns-2 : tie.Need-returns-2
+unfolding ofBits
+returns-2 c = let g = c .before .before .before .before .before .before .before .before .before .before .before .before .before .args in let w = not-sound (whole (g .c) (now (g .center)) (now (g .scale))) (now (g .pos)) (now (g .aux)) (now (g .rows)) (g .horizon) (g .dim) (g .exec-steps) (now (g .out)) (sym (c .before .before .before .before .before .before .before .before .chunk-refusal .ensures) ∙ c .before .before .before .before .before .before .before .if1 .left) (c .before .before .before .before .before .before .checks-of .ensures _ _) refl (c .before .before .before .before .judge-chunk .ensures) (not-true _ (c .before .if2 .taken)) (c .of2 .ensures) in (w .gives, w .leaves)
+
+slice-aggregate-write-rows : tie.Need-slice-aggregate-write-rows
+slice-aggregate-write-rows c = search needs
+
+mul-write-rows : tie.Need-mul-write-rows
+mul-write-rows c = let g = c .before .before .before .before .before .before .before .before .before .before .before .before .before .before .args in let w = accepted-sizes (whole (g .c) (now (g .center)) (now (g .scale))) (now (g .pos)) (now (g .aux)) (now (g .rows)) (g .horizon) (g .dim) (g .exec-steps) _ (sym (c .before .before .before .before .before .before .before .before .before .chunk-refusal .ensures) ∙ c .before .before .before .before .before .before .before .before .if1 .left) in let k = w .small in omega arith
+
+write-rows-requires : tie.Need-write-rows-requires
+write-rows-requires c κs = let g = c .before .before .before .before .before .before .before .before .before .before .before .before .before .before .before .args in let w = accepted-sizes (whole (g .c) (now (g .center)) (now (g .scale))) (now (g .pos)) (now (g .aux)) (now (g .rows)) (g .horizon) (g .dim) (g .exec-steps) _ (sym (c .before .before .before .before .before .before .before .before .before .before .chunk-refusal .ensures) ∙ c .before .before .before .before .before .before .before .before .before .if1 .left) in (w .small, search (needs, w), w .out)
+
+same-length : tie.Need-same-length
+same-length c = search needs
+
+returns-3 : tie.Need-returns-3
+unfolding ofBits
+returns-3 c = let g = c .before .before .before .before .before .before .before .before .before .before .before .before .before .before .before .before .before .before .args in let w = passes (whole (g .c) (now (g .center)) (now (g .scale))) (now (g .pos)) (now (g .aux)) (now (g .rows)) (g .horizon) (g .dim) (g .exec-steps) (now (g .out)) (sym (c .before .before .before .before .before .before .before .before .before .before .before .before .before .chunk-refusal .ensures) ∙ c .before .before .before .before .before .before .before .before .before .before .before .before .if1 .left) (c .before .before .before .before .before .before .before .before .before .before .before .checks-of .ensures _ _) refl (c .before .before .before .before .before .before .before .before .before .judge-chunk .ensures) (not-false _ (c .before .before .before .before .before .before .if2 .left)) (c .before .before .write-rows .ensures) in (w .gives, w .leaves)
+
+pub check-chunk-with-spec : {M : Type 1} → statement M
+check-chunk-with-spec =
+    tie.close
+    (tie.spec
+    chunk-refusal-requires
+    of-requires
+    returns
+    checks-of-requires
+    slice-aggregate-judge-chunk
+    judge-chunk-requires
+    of-requires-2
+    returns-2
+    slice-aggregate-write-rows
+    mul-write-rows
+    write-rows-requires
+    same-length
+    returns-3)

@@ -1,0 +1,18 @@
+-- `tier0::projected::project` meets its contract.
+use lib.Ieee.{binary64}
+use Rattle.tier0.proofs.Steps.{project-is}
+use borrow.Author.Needs.{needs}
+use Rattle.tier0.proofs.projected.project.Statement.{statement}
+use Rattle.tier0.proofs.projected.project.Tie as tie
+
+moves-requires : tie.Need-moves-requires
+moves-requires c κs = search needs
+
+moved-requires : tie.Need-moved-requires
+moved-requires c κs = search needs
+
+returns : tie.Need-returns
+returns c = project-is binary64 _ _ _ _ _ (c .before .before .before .before .moves .ensures) (c .moved .ensures)
+
+pub project-spec : {M : Type 1} → statement M
+project-spec = tie.close (tie.spec moves-requires moved-requires returns)

@@ -1,0 +1,282 @@
+// Projection: a row moved inside the box, to its leash and into reach; the rows of a chunk, each from the projected one before.
+ghost use mathlib.Core.Path.{_≡_};
+ghost use Prim.Native.Nat.{_+_, _*_, _≤_};
+ghost use lib.ListN.{length};
+ghost use lib.Ieee.{binary64};
+ghost use Rattle.fmath.specs.Each.{at, over};
+ghost use Rattle.fmath.specs.Checked.{each};
+ghost use Rattle.tier0.specs.Rule.{towards, shortened, pulled, leash, boxed, leashed, reached, moves, moved, project, projection};
+ghost use Rattle.tier0.specs.Chunk.{putRow, runRows, projectedRows};
+ghost use Rattle.tier0.specs.Of.{slowOf, rowFrom, clampedFrom, runFrom, ranFrom};
+use crate::Checks;
+use crate::Clamped;
+use crate::Ran;
+use crate::Row;
+use crate::SlowZone;
+use crate::measure::armed;
+use crate::measure::raw_row;
+use crate::measure::shared;
+use crate::trips::weight;
+use envelope::ClampMode;
+use envelope::TripMask;
+
+// The row, each of its first n coordinates the part s of the way from q to it.
+fn moved_toward(s: f64, q: &[f64], n: usize, a: [f64; 8]) -> Row
+    requires { ⌜ (n ≤ 8) × (n ≤ length (now q)) ⌝ }
+    ensures { λ r. ⌜ r ≡ rowFrom (each (towards binary64 s (now (q .entry)) a) a n) ⌝ }
+{
+    let mut r = a;
+    let mut sound = true;
+    let mut i = 0;
+    while i < n {
+        let x = q[i] + (a[i] - q[i]) * s;
+        r[i] = x;
+        sound = sound & fmath::finite(x);
+        i += 1;
+    }
+    Row { at: r, sound }
+}
+
+// The row shortened towards q, from which it is so far. The factor lands it inside the limit by 2^-36 of it.
+fn shortened(most: f64, far: f64, q: &[f64], n: usize, a: [f64; 8]) -> Row
+    requires { ⌜ (n ≤ 8) × (n ≤ length (now q)) ⌝ }
+    ensures { λ r. ⌜ r ≡ rowFrom (shortened binary64 most far (now (q .entry)) n a) ⌝ }
+{
+    let short = most * (1.0 - 1.0 / 68719476736.0);
+    let s = short / far;
+    let fine = fmath::finite(short);
+    let good = fmath::finite(s);
+    let r = moved_toward(s, q, n, a);
+    let at = r.at;
+    Row {
+        at,
+        sound: fine & (good & r.sound),
+    }
+}
+
+// The row pulled towards q, where it is further from it than `most`.
+fn pulled(most: f64, q: &[f64], n: usize, a: [f64; 8]) -> Row
+    requires { ⌜ (n ≤ 8) × (n ≤ length (now q)) ⌝ }
+    ensures { λ r. ⌜ r ≡ rowFrom (pulled binary64 most (now (q .entry)) n a) ⌝ }
+{
+    let far = fmath::distance(&a, q, n);
+    let fine = fmath::finite(far);
+    if most < far {
+        let r = shortened(most, far, q, n, a);
+        let at = r.at;
+        return Row {
+            at,
+            sound: fine & r.sound,
+        };
+    }
+    Row { at: a, sound: fine }
+}
+
+// The row inside the box, where WORKSPACE is armed.
+fn boxed(s: Checks, a: [f64; 8]) -> [f64; 8]
+    ensures { λ r. ⌜ r ≡ boxed s a ⌝ }
+{
+    if !armed(s, TripMask::WORKSPACE) {
+        return a;
+    }
+    let walls = s.walls;
+    let n = shared(s);
+    workspace::inward(walls, a, n)
+}
+
+// The least armed leash.
+fn leash(speed: bool, step_max: f64, z: SlowZone) -> f64
+    ensures { λ r. ⌜ r ≡ leash speed «step_max» (slowOf z) ⌝ }
+{
+    if !speed {
+        return z.step;
+    }
+    if z.inside {
+        fmath::min(step_max, z.step)
+    } else {
+        step_max
+    }
+}
+
+// The row leashed to the one before it, where a leash is armed.
+fn leashed(s: Checks, z: SlowZone, prev: &[f64], a: [f64; 8]) -> Row
+    requires { ⌜ (s .dim ≤ 8) × (s .dim ≤ length (now prev)) ⌝ }
+    ensures { λ r. ⌜ r ≡ rowFrom (leashed binary64 s (slowOf z) (now (prev .entry)) a) ⌝ }
+{
+    let speed = armed(s, TripMask::SPEED);
+    if !(speed | z.inside) {
+        return Row { at: a, sound: true };
+    }
+    let most = leash(speed, s.step_max, z);
+    pulled(most, prev, s.dim, a)
+}
+
+// The row pulled towards the position, where REACH is armed.
+fn reached(s: Checks, pos: &[f64], a: [f64; 8]) -> Row
+    requires { ⌜ (s .dim ≤ 8) × (s .«pos_dim» ≤ length (now pos)) ⌝ }
+    ensures { λ r. ⌜ r ≡ rowFrom (reached binary64 s (now (pos .entry)) a) ⌝ }
+{
+    if !armed(s, TripMask::REACH) {
+        return Row { at: a, sound: true };
+    }
+    let n = shared(s);
+    pulled(s.reach_max, pos, n, a)
+}
+
+// One row after the three moves; the reach pull is the first row's.
+fn moves(s: Checks, z: SlowZone, pos: &[f64], first: bool, prev: &[f64], a: [f64; 8]) -> Row
+    requires { ⌜ (s .dim ≤ 8) × (s .dim ≤ length (now prev)) × (s .«pos_dim» ≤ length (now pos)) ⌝ }
+    ensures { λ r. ⌜ r ≡ rowFrom (moves binary64 s (slowOf z) (now (pos .entry)) first (now (prev .entry)) a) ⌝ }
+{
+    let inside = boxed(s, a);
+    let l = leashed(s, z, prev, inside);
+    let near = l.at;
+    if first {
+        let r = reached(s, pos, near);
+        let at = r.at;
+        return Row {
+            at,
+            sound: l.sound & r.sound,
+        };
+    }
+    Row {
+        at: near,
+        sound: l.sound,
+    }
+}
+
+// A bit for each coordinate that differs, as numbers.
+fn moved(a: &[f64; 8], b: &[f64; 8], n: usize) -> u32
+    requires { ⌜ n ≤ 8 ⌝ }
+    ensures { λ r. ⌜ r ≡ moved (now (a .entry)) (now (b .entry)) n ⌝ }
+{
+    let mut m = 0u32;
+    let mut w = 1u32;
+    let mut i = 0usize;
+    while i < n {
+        m = m + weight(a[i] != b[i], w);
+        w = w * 2;
+        i += 1;
+    }
+    m
+}
+
+// The action after the three moves, and the coordinates that they moved.
+fn project(s: Checks, z: SlowZone, pos: &[f64], prev: &[f64], a: [f64; 8]) -> Clamped
+    requires { ⌜ (s .dim ≤ 8) × (s .dim ≤ length (now prev)) × (s .«pos_dim» ≤ length (now pos)) ⌝ }
+    ensures { λ r. ⌜ r ≡ clampedFrom (project binary64 s (slowOf z) (now (pos .entry)) (now (prev .entry)) a) ⌝ }
+{
+    let r = moves(s, z, pos, true, prev, a);
+    let at = r.at;
+    let mask = moved(&a, &at, s.dim);
+    Clamped {
+        at,
+        mask,
+        sound: r.sound,
+    }
+}
+
+// The projection, or the action as it came under ClampMode Off.
+pub fn projection(s: Checks, z: SlowZone, pos: &[f64], prev: &[f64], a: [f64; 8]) -> Clamped
+    requires { ⌜ (s .dim ≤ 8) × (s .dim ≤ length (now prev)) × (s .«pos_dim» ≤ length (now pos)) ⌝ }
+    ensures { λ r. ⌜ r ≡ clampedFrom (projection binary64 s (s .clamp) (slowOf z) (now (pos .entry)) (now (prev .entry)) a) ⌝ }
+{
+    let mode = s.clamp;
+    match mode {
+        ClampMode::Off => Clamped {
+            at: a,
+            mask: 0,
+            sound: true,
+        },
+        ClampMode::Project => project(s, z, pos, prev, a),
+    }
+}
+
+// The first n numbers of a row, written over a slice from k on.
+fn put_row(r: [f64; 8], k: usize, n: usize, out: &mut [f64])
+    requires { ⌜ (n ≤ 8) × (k + n ≤ length (now out)) ⌝ }
+    ensures { λ _. ⌜ now (out .exit) ≡ putRow r (now (out .entry)) k n ⌝ }
+{
+    let mut i = 0usize;
+    while i < n {
+        out[k + i] = r[i];
+        i += 1;
+    }
+}
+
+// A row after its moves, from the projected one before it.
+fn next_row(s: Checks, z: SlowZone, pos: &[f64], first: bool, q: [f64; 8], a: [f64; 8]) -> Row
+    requires { ⌜ (s .dim ≤ 8) × (s .«pos_dim» ≤ length (now pos)) ⌝ }
+    ensures { λ r. ⌜ r ≡ rowFrom (moves binary64 s (slowOf z) (now (pos .entry)) first q a) ⌝ }
+{
+    moves(s, z, pos, first, &q, a)
+}
+
+// The projected rows, each from the projected one before it; q0 stands before row 0.
+fn run_rows(
+    s: Checks,
+    z: SlowZone,
+    pos: &[f64],
+    rows: &[f64],
+    q0: [f64; 8],
+    h: usize,
+    out: &mut [f64],
+) -> Ran
+    requires { ⌜ (s .dim ≤ 8) × (s .«pos_dim» ≤ length (now pos)) × (h ≤ 64) × (h * s .dim ≤ length (now rows)) × (h * s .dim ≤ length (now out)) ⌝ }
+    ensures { λ r. ⌜ (r ≡ runFrom (runRows binary64 s (slowOf z) (now (pos .entry)) (now (rows .entry)) q0 (now (out .entry)) h)) × (now (out .exit) ≡ runRows binary64 s (slowOf z) (now (pos .entry)) (now (rows .entry)) q0 (now (out .entry)) h .value .out) ⌝ }
+{
+    let n = s.dim;
+    let mut q = q0;
+    let mut mask = 0u32;
+    let mut sound = true;
+    let mut i = 0usize;
+    while i < h {
+        let a = raw_row(rows, n, i);
+        let r = next_row(s, z, pos, i == 0, q, a);
+        let at = r.at;
+        mask = mask | moved(&a, &at, n);
+        put_row(at, i * n, n, out);
+        q = at;
+        sound = sound & r.sound;
+        i += 1;
+    }
+    Ran { mask, sound }
+}
+
+// The first n numbers of a slice, written over another; the rest stays.
+pub fn write_rows(rows: &[f64], n: usize, out: &mut [f64])
+    requires { ⌜ (n ≤ 512) × (n ≤ length (now rows)) × (n ≤ length (now out)) ⌝ }
+    ensures { λ _. ⌜ now (out .exit) ≡ over (at (now (rows .entry))) (now (out .entry)) n ⌝ }
+{
+    let mut i = 0usize;
+    while i < n {
+        out[i] = rows[i];
+        i += 1;
+    }
+}
+
+// The rows projected, or as they came under ClampMode Off, written over out.
+pub fn projected_rows(
+    s: Checks,
+    z: SlowZone,
+    pos: &[f64],
+    rows: &[f64],
+    q: [f64; 8],
+    h: usize,
+    out: &mut [f64],
+) -> Ran
+    requires { ⌜ (s .dim ≤ 8) × (s .«pos_dim» ≤ length (now pos)) × (h ≤ 64) × (h * s .dim ≤ length (now rows)) × (h * s .dim ≤ length (now out)) ⌝ }
+    ensures { λ r. ⌜ (r ≡ ranFrom (projectedRows binary64 s (s .clamp) (slowOf z) (now (pos .entry)) (now (rows .entry)) q (now (out .entry)) h)) × (now (out .exit) ≡ projectedRows binary64 s (s .clamp) (slowOf z) (now (pos .entry)) (now (rows .entry)) q (now (out .entry)) h .value .rows) ⌝ }
+{
+    let mode = s.clamp;
+    match mode {
+        ClampMode::Off => {
+            write_rows(rows, h * s.dim, out);
+            Ran {
+                mask: 0,
+                sound: true,
+            }
+        }
+        ClampMode::Project => run_rows(s, z, pos, rows, q, h, out),
+    }
+}

@@ -1,0 +1,126 @@
+// The number that what is lent is refused with.
+ghost use mathlib.Core.Path.{_≡_};
+ghost use mathlib.Core.List.{List, [], _++_};
+ghost use lib.ListN.{length};
+ghost use lib.Ieee.{Float};
+ghost use Rattle.refusal.specs.Order.{refusal};
+ghost use Rattle.chunk.specs.Refusals.{chunkReasons};
+ghost use Rattle.envelope.specs.Refusals.{configJudged};
+ghost use Rattle.envelope.specs.Whole.{whole};
+ghost use Rattle.tier0.specs.Refusals.{tooShort, someLentNotFinite, chunkTooShort, someChunkNotFinite};
+ghost use Rattle.tier0.specs.Of.{lentToAction, lentToChunk};
+use envelope::Settings;
+use refusal::Refusal;
+
+// Whether a lent slice is shorter than the configuration asks.
+fn too_short(dim: usize, pos_dim: usize, pos: usize, prev: usize, a: usize, room: usize) -> bool
+    ensures { λ r. ⌜ r ≡ tooShort dim «pos_dim» pos prev a room ⌝ }
+{
+    (pos < pos_dim) | (prev < dim) | (a < dim) | (room < dim)
+}
+
+// Whether some number that is lent, read or not, is not finite.
+fn not_finite(pos: &[f64], aux: &[f64], prev: &[f64], a: &[f64]) -> bool
+    ensures { λ r. ⌜ r ≡ someLentNotFinite (now (pos .entry)) (now (aux .entry)) (now (prev .entry)) (now (a .entry)) ⌝ }
+{
+    let k = fmath::all_finite(pos, pos.len());
+    let l = fmath::all_finite(aux, aux.len());
+    let m = fmath::all_finite(prev, prev.len());
+    let n = fmath::all_finite(a, a.len());
+    !k | !l | !m | !n
+}
+
+// The number for what is lent: the configuration's own, then 11, then 12; 0 where there is none.
+pub fn action_refusal<'a>(
+    c: Settings,
+    center: &'a [f64; 192],
+    scale: &'a [f64; 192],
+    pos: &[f64],
+    aux: &[f64],
+    prev: &[f64],
+    a: &[f64],
+    room: usize,
+) -> u8
+    ensures { λ r. ⌜ r ≡ refusal (configJudged (whole c (now (center .entry)) (now (scale .entry))) ++ lentToAction (whole c (now (center .entry)) (now (scale .entry))) (now (pos .entry)) (now (aux .entry)) (now (prev .entry)) (now (a .entry)) room []) ⌝ }
+{
+    let number = envelope::settings_refusal(c, center, scale);
+    if number != 0 {
+        return number;
+    }
+    if too_short(c.dim, c.pos_dim, pos.len(), prev.len(), a.len(), room) {
+        return Refusal::SHORT;
+    }
+    if not_finite(pos, aux, prev, a) {
+        return Refusal::NOT_FINITE;
+    }
+    0
+}
+
+// Whether the position is shorter than pos_dim, or the output than the chunk.
+fn chunk_too_short(pos_dim: usize, pos: usize, size: usize, room: usize) -> bool
+    ensures { λ r. ⌜ r ≡ chunkTooShort «pos_dim» pos size room ⌝ }
+{
+    (pos < pos_dim) | (room < size)
+}
+
+// Whether some number that is lent with a chunk, read or not, is not finite.
+fn chunk_not_finite(pos: &[f64], aux: &[f64], rows: &[f64]) -> bool
+    ensures { λ r. ⌜ r ≡ someChunkNotFinite (now (pos .entry)) (now (aux .entry)) (now (rows .entry)) ⌝ }
+{
+    let k = fmath::all_finite(pos, pos.len());
+    let l = fmath::all_finite(aux, aux.len());
+    let m = fmath::all_finite(rows, rows.len());
+    !k | !l | !m
+}
+
+// The number for what is lent with a chunk whose configuration and sizes are accepted: 10, then 11, then 12.
+fn rows_refusal(
+    c: Settings,
+    pos: &[f64],
+    aux: &[f64],
+    rows: &[f64],
+    horizon: u16,
+    dim: u16,
+    room: usize,
+) -> u8
+    ensures { λ r. ⌜ ((t u : List Float) → r ≡ refusal (lentToChunk (whole c t u) (now (pos .entry)) (now (aux .entry)) (now (rows .entry)) horizon dim 0 room [])) ⌝ }
+{
+    let h = horizon as usize;
+    let d = dim as usize;
+    if d != c.dim {
+        return Refusal::WIDTH;
+    }
+    if chunk_too_short(c.pos_dim, pos.len(), h * d, room) {
+        return Refusal::SHORT;
+    }
+    if chunk_not_finite(pos, aux, rows) {
+        return Refusal::NOT_FINITE;
+    }
+    0
+}
+
+// The number for a chunk: the configuration's own, then the sizes', then what is lent; 0 where there is none.
+pub fn chunk_refusal<'a>(
+    c: Settings,
+    center: &'a [f64; 192],
+    scale: &'a [f64; 192],
+    pos: &[f64],
+    aux: &[f64],
+    rows: &[f64],
+    horizon: u16,
+    dim: u16,
+    exec_steps: u16,
+    room: usize,
+) -> u8
+    ensures { λ r. ⌜ r ≡ refusal (configJudged (whole c (now (center .entry)) (now (scale .entry))) ++ (chunkReasons horizon dim «exec_steps» (length (now (rows .entry))) ++ lentToChunk (whole c (now (center .entry)) (now (scale .entry))) (now (pos .entry)) (now (aux .entry)) (now (rows .entry)) horizon dim «exec_steps» room [])) ⌝ }
+{
+    let number = envelope::settings_refusal(c, center, scale);
+    if number != 0 {
+        return number;
+    }
+    let sizes = chunk::chunk_refusal(horizon, dim, exec_steps, rows.len());
+    if sizes != 0 {
+        return sizes;
+    }
+    rows_refusal(c, pos, aux, rows, horizon, dim, room)
+}
