@@ -27,7 +27,10 @@ use Rattle.envelope.specs.Derive.{derived}
 use Rattle.envelope.specs.Refusals.{configJudged}
 use Rattle.tier0.specs.declared.Check.{Check}
 use Rattle.tier0.specs.Of.{actionAnswer, actionOut, chunkAnswer, chunkOut}
-use Rattle.lictor.specs.Answer.{fitting, NumberGiven, FilledGiven, MaskGiven, RecordedGiven, TrailNumberGiven, DerivedGiven, CheckPut, CheckGiven, ScoredGiven, VerdictGiven, BinGiven}
+use Rattle.brake.specs.declared.BrakeOut.{BrakeOut}
+use Rattle.brake.specs.declared.Sent.{Sent}
+use Rattle.brake.specs.Answer.{forecastAnswer, forecastSlacks, brakeAnswer, brakeOutput, holdAnswer, holdOutput}
+use Rattle.lictor.specs.Answer.{fitting, NumberGiven, FilledGiven, MaskGiven, RecordedGiven, TrailNumberGiven, DerivedGiven, CheckPut, CheckGiven, ForecastPut, ForecastGiven, sentNumber, SentGiven, ScoredGiven, VerdictGiven, BinGiven}
 
 pub number-alike : {a b : Number} {r : ℕ} {old new : Float} → a ≡ b → NumberGiven a r old new → NumberGiven b r old new
 number-alike e g = rw e at g
@@ -64,6 +67,20 @@ check-misfit e p = let z = sym p ∙ e in record { number = rw z; marks = rw z; 
 pub check-fits : {f g : Bool} {a b : Check} {l : List Float} {r : ℕ} {m₀ m : List ℕ} {x₀ x : Float} {o₀ o : List Float} → f ≡ true → f ≡ g → (a ≡ b) × (o ≡ l) → CheckPut a r m₀ m x₀ x → CheckGiven g b l r m₀ m x₀ x o₀ o
 check-fits e p q g = let z = sym p ∙ e in record { number = rw (z, ← q .0) (g .number); marks = rw (z, ← q .0) (g .marks); speed = rw (z, ← q .0) (g .speed); output = rw z (q .1) }
 
+-- a forecast whose counts do not fit leaves every place as it was; one whose counts fit is put where it belongs
+pub forecast-misfit : {f g : Bool} {a : BrakeOut} {l : List Float} {m : List ℕ} {x : List Float} {p : ℕ} {s : List Float} → f ≡ false → f ≡ g → ForecastGiven g a l 255 m m x x p p s s
+forecast-misfit e q = let z = sym q ∙ e in record { number = rw z; marks = rw z; reach = rw z; place = rw z; slacks = rw z }
+
+pub forecast-fits : {f g : Bool} {a b : BrakeOut} {l : List Float} {r : ℕ} {m₀ m : List ℕ} {x₀ x : List Float} {p₀ p : ℕ} {s₀ s : List Float} → f ≡ true → f ≡ g → (a ≡ b) × (s ≡ l) → ForecastPut a r m₀ m x₀ x p₀ p → ForecastGiven g b l r m₀ m x₀ x p₀ p s₀ s
+forecast-fits e y q g = let z = sym y ∙ e in record { number = rw (z, ← q .0) (g .number); marks = rw (z, ← q .0) (g .marks); reach = rw (z, ← q .0) (g .reach); place = rw (z, ← q .0) (g .place); slacks = rw z (q .1) }
+
+-- .. and so for a row
+pub sent-misfit : {f g : Bool} {a : Sent} {l o : List Float} → f ≡ false → f ≡ g → SentGiven g a l 255 o o
+sent-misfit e q = let z = sym q ∙ e in record { number = rw z; output = rw z }
+
+pub sent-fits : {f g : Bool} {a b : Sent} {l : List Float} {r : ℕ} {o₀ o : List Float} → f ≡ true → f ≡ g → (a ≡ b) × (o ≡ l) → r ≡ sentNumber a → SentGiven g b l r o₀ o
+sent-fits e y q g = let z = sym y ∙ e in record { number = rw (z, ← q .0) g; output = rw z (q .1) }
+
 -- ---- an entry's answer on equal arguments
 
 pub standardised-alike : (bin : ℕ) {a : Scored} {cal k : Calibration} {sc t : Scores} → a ≡ standardised binary64 cal bin sc → cal ≡ k → sc ≡ t → a ≡ standardised binary64 k bin t
@@ -98,3 +115,12 @@ chunk-alike t u p aux rows h d e l g q = rw q at g
 
 pub action-alike : (t u p aux prev b l : List Float) {a : Check} {o : List Float} {c k : Settings} → (a ≡ actionAnswer (whole c t u) p aux prev b (length l)) × (o ≡ actionOut (whole c t u) p aux prev b l) → c ≡ k → (a ≡ actionAnswer (whole k t u) p aux prev b (length l)) × (o ≡ actionOut (whole k t u) p aux prev b l)
 action-alike t u p aux prev b l g q = rw q at g
+
+pub forecast-alike : (p v rows : List Float) (h d e from : ℕ) (l : List Float) {a : BrakeOut} {m : List Float} {c k : FuseConfig} → (a ≡ forecastAnswer c p v rows h d e from (length l)) × (m ≡ forecastSlacks c p v rows h d e from l) → c ≡ k → (a ≡ forecastAnswer k p v rows h d e from (length l)) × (m ≡ forecastSlacks k p v rows h d e from l)
+forecast-alike p v rows h d e from l q y = (rw y at (q .0), rw y at (q .1))
+
+pub brake-alike : (p v l : List Float) {a : Sent} {m : List Float} {c k : FuseConfig} → (a ≡ brakeAnswer c p v (length l)) × (m ≡ brakeOutput c p v l) → c ≡ k → (a ≡ brakeAnswer k p v (length l)) × (m ≡ brakeOutput k p v l)
+brake-alike p v l q y = (rw y at (q .0), rw y at (q .1))
+
+pub hold-alike : (p l : List Float) {a : Sent} {m : List Float} {c k : FuseConfig} → (a ≡ holdAnswer c p (length l)) × (m ≡ holdOutput c p l) → c ≡ k → (a ≡ holdAnswer k p (length l)) × (m ≡ holdOutput k p l)
+hold-alike p l q y = (rw y at (q .0), rw y at (q .1))

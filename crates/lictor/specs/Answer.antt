@@ -21,6 +21,10 @@ use Rattle.conformal.specs.declared.TimeBin.the-variants as B
 use Rattle.envelope.specs.declared.Derived.{Derived}
 use Rattle.tier0.specs.declared.Check.{Check}
 use Rattle.tier0.specs.declared.Check.the-variants as T
+use Rattle.brake.specs.declared.BrakeOut.{BrakeOut}
+use Rattle.brake.specs.declared.BrakeOut.the-variants as F
+use Rattle.brake.specs.declared.Sent.{Sent}
+use Rattle.brake.specs.declared.Sent.the-variants as S
 use Rattle.layout.specs.Trail.{trailMarks}
 use Rattle.layout.specs.Scores.{scoresFlat, marksFlat}
 use Rattle.layout.specs.Config.{derivedFlat}
@@ -119,6 +123,47 @@ pub record CheckGiven (fits : Bool) (a : Check) (l : List Float) (r : ℕ) (m₀
   pub number : r ≡ fitting fits (checkNumber a)
   pub marks : m ≡ (if fits then checkMarks a m₀ else m₀)
   pub speed : x ≡ (if fits then checkSpeed a x₀ else x₀)
+  pub output : o ≡ (if fits then l else o₀)
+
+-- ---- module 7: count and feasible in 2 counts, margin and stop distance in 2 numbers, the place of a refusal, and the slacks
+
+unfoldable pub forecastNumber : BrakeOut → ℕ
+forecastNumber (F.Accepted count margin feasible stop) = 0
+forecastNumber (F.Refused r) = r .number
+
+unfoldable pub forecastMarks : BrakeOut → List ℕ → List ℕ
+forecastMarks (F.Accepted count margin feasible stop) old = count ∷ bit feasible ∷ []
+forecastMarks (F.Refused r) old = old
+
+unfoldable pub forecastReach : BrakeOut → List Float → List Float
+forecastReach (F.Accepted count margin feasible stop) old = margin ∷ stop ∷ []
+forecastReach (F.Refused r) old = old
+
+unfoldable pub forecastPlace : BrakeOut → ℕ → ℕ
+forecastPlace (F.Accepted count margin feasible stop) old = old
+forecastPlace (F.Refused r) old = r .place
+
+pub record ForecastPut (a : BrakeOut) (r : ℕ) (m₀ m : List ℕ) (x₀ x : List Float) (p₀ p : ℕ) : Type 0 where
+  pub number : r ≡ forecastNumber a
+  pub marks : m ≡ forecastMarks a m₀
+  pub reach : x ≡ forecastReach a x₀
+  pub place : p ≡ forecastPlace a p₀
+
+-- .. for a configuration whose counts may not fit; the entry leaves l in the slacks
+pub record ForecastGiven (fits : Bool) (a : BrakeOut) (l : List Float) (r : ℕ) (m₀ m : List ℕ) (x₀ x : List Float) (p₀ p : ℕ) (s₀ s : List Float) : Type 0 where
+  pub number : r ≡ fitting fits (forecastNumber a)
+  pub marks : m ≡ (if fits then forecastMarks a m₀ else m₀)
+  pub reach : x ≡ (if fits then forecastReach a x₀ else x₀)
+  pub place : p ≡ (if fits then forecastPlace a p₀ else p₀)
+  pub slacks : s ≡ (if fits then l else s₀)
+
+-- a row that brakes or holds
+unfoldable pub sentNumber : Sent → ℕ
+sentNumber S.Done = 0
+sentNumber (S.Refused r) = r .number
+
+pub record SentGiven (fits : Bool) (a : Sent) (l : List Float) (r : ℕ) (o₀ o : List Float) : Type 0 where
+  pub number : r ≡ fitting fits (sentNumber a)
   pub output : o ≡ (if fits then l else o₀)
 
 -- ---- module 8: scores, a verdict, a time bin

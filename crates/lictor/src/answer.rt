@@ -1,6 +1,8 @@
 // Answers, put where C reads them: the number is returned, and a refusal leaves every place as it was.
 ghost use mathlib.Core.Path.{_≡_};
-ghost use Rattle.lictor.specs.Answer.{fitting, NumberGiven, FilledGiven, MaskGiven, RecordedGiven, TrailNumberGiven, DerivedGiven, CheckPut, ScoredGiven, VerdictGiven, BinGiven};
+ghost use Rattle.lictor.specs.Answer.{fitting, NumberGiven, FilledGiven, MaskGiven, RecordedGiven, TrailNumberGiven, DerivedGiven, CheckPut, ForecastPut, sentNumber, ScoredGiven, VerdictGiven, BinGiven};
+use brake::BrakeOut;
+use brake::Sent;
 use chunk::Filled;
 use conformal::Scored;
 use conformal::TimeBin;
@@ -104,6 +106,37 @@ pub fn put_check(a: Check, marks: &mut [u64; 2], speed: &mut f64) -> u64
             0
         }
         Check::Refused(r) => r.number as u64,
+    }
+}
+
+pub fn put_forecast(a: BrakeOut, marks: &mut [u64; 2], reach: &mut [f64; 2], place: &mut u64) -> u64
+    ensures { λ r. ⌜ ForecastPut a r (now (marks .entry)) (now (marks .exit)) (now (reach .entry)) (now (reach .exit)) (now (place .entry)) (now (place .exit)) ⌝ }
+{
+    match a {
+        BrakeOut::Accepted {
+            count,
+            margin,
+            feasible,
+            stop_dist,
+        } => {
+            *marks = [count as u64, feasible as u64];
+            *reach = [margin, stop_dist];
+            0
+        }
+        BrakeOut::Refused(r) => {
+            *place = r.place as u64;
+            r.number as u64
+        }
+    }
+}
+
+// A row is written by its entry; C is given the number.
+pub fn sent(a: Sent) -> u64
+    ensures { λ r. ⌜ r ≡ sentNumber a ⌝ }
+{
+    match a {
+        Sent::Done => 0,
+        Sent::Refused(r) => r.number as u64,
     }
 }
 

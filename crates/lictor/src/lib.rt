@@ -26,6 +26,7 @@ use conformal::GateSpec;
 use window::Window;
 
 mod answer;
+mod braking;
 mod checks;
 
 // ---- module 1

@@ -1,0 +1,44 @@
+-- `lictor::braking::lictor_brake_action` meets its contract: it hands on the answer of its entry, where the counts fit.
+use borrow.Author.Tests.{not-true, not-false}
+use denote.Ref.{now}
+use Rattle.lictor.proofs.Alike.{sent-misfit, sent-fits, brake-alike}
+use borrow.Author.Needs.{needs}
+use Rattle.lictor.proofs.braking.lictor_brake_action.Statement.{statement}
+use Rattle.lictor.proofs.braking.lictor_brake_action.Tie as tie
+
+counts-fit-requires : tie.Need-counts-fit-requires
+counts-fit-requires c κs = search needs
+
+returns : tie.Need-returns
+returns c = sent-misfit (not-true _ (c .if1 .taken)) (c .before .counts-fit .ensures)
+
+config-of-requires : tie.Need-config-of-requires
+config-of-requires c κs = search needs
+
+brake-action-requires : tie.Need-brake-action-requires
+brake-action-requires c κs = search needs
+
+sent-requires : tie.Need-sent-requires
+sent-requires c κs = search needs
+
+same-length : tie.Need-same-length
+same-length c = search needs
+
+returns-2 : tie.Need-returns-2
+returns-2 c =
+    let s = c .before .before .before .before .before .before .before .before .before .before .before .args in
+    sent-fits (not-false _ (c .before .before .before .before .before .before .if1 .left)) (c .before .before .before .before .before .before .before .counts-fit .ensures)
+    (brake-alike (now (s .pos)) (now (s .vel)) (now (s .out)) (c .before .before .before .brake-action .ensures) (c .before .before .before .before .before .config-of .ensures))
+    (c .sent .ensures)
+
+pub lictor-brake-action-spec : {M : Type 1} → statement M
+lictor-brake-action-spec =
+    tie.close
+    (tie.spec
+    counts-fit-requires
+    returns
+    config-of-requires
+    brake-action-requires
+    sent-requires
+    same-length
+    returns-2)

@@ -1,0 +1,76 @@
+// Module 7 for C: the stopping forecast, and the rows that brake and hold.
+ghost use mathlib.Core.Path.{_≡_};
+ghost use lib.ListN.{length};
+ghost use Rattle.layout.specs.Config.{configOf, countsFit};
+ghost use Rattle.brake.specs.Answer.{forecastAnswer, forecastSlacks, brakeAnswer, brakeOutput, holdAnswer, holdOutput};
+ghost use Rattle.lictor.specs.Answer.{ForecastGiven, SentGiven};
+
+#[no_mangle]
+pub extern "C" fn lictor_brake_feasible(
+    numbers: &[f64; 44],
+    counts: &[u64; 26],
+    center: &[f64; 192],
+    scale: &[f64; 192],
+    pos: &[f64],
+    vel: &[f64],
+    rows: &[f64],
+    horizon: u16,
+    dim: u16,
+    exec_steps: u16,
+    from: usize,
+    slack: &mut [f64],
+    marks: &mut [u64; 2],
+    reach: &mut [f64; 2],
+    place: &mut u64,
+) -> u64
+    ensures { λ r. ⌜ ForecastGiven (countsFit (now (counts .entry))) (forecastAnswer (configOf (now (numbers .entry)) (now (counts .entry)) (now (center .entry)) (now (scale .entry))) (now (pos .entry)) (now (vel .entry)) (now (rows .entry)) horizon dim «exec_steps» from (length (now (slack .entry)))) (forecastSlacks (configOf (now (numbers .entry)) (now (counts .entry)) (now (center .entry)) (now (scale .entry))) (now (pos .entry)) (now (vel .entry)) (now (rows .entry)) horizon dim «exec_steps» from (now (slack .entry))) r (now (marks .entry)) (now (marks .exit)) (now (reach .entry)) (now (reach .exit)) (now (place .entry)) (now (place .exit)) (now (slack .entry)) (now (slack .exit)) ⌝ }
+{
+    let fits = layout::config::counts_fit(counts);
+    if !fits {
+        return 255;
+    }
+    let c = layout::config::config_of(numbers, counts, center, scale);
+    let a = brake::brake_feasible(c, pos, vel, rows, horizon, dim, exec_steps, from, slack);
+    crate::answer::put_forecast(a, marks, reach, place)
+}
+
+#[no_mangle]
+pub extern "C" fn lictor_brake_action(
+    numbers: &[f64; 44],
+    counts: &[u64; 26],
+    center: &[f64; 192],
+    scale: &[f64; 192],
+    pos: &[f64],
+    vel: &[f64],
+    out: &mut [f64],
+) -> u64
+    ensures { λ r. ⌜ SentGiven (countsFit (now (counts .entry))) (brakeAnswer (configOf (now (numbers .entry)) (now (counts .entry)) (now (center .entry)) (now (scale .entry))) (now (pos .entry)) (now (vel .entry)) (length (now (out .entry)))) (brakeOutput (configOf (now (numbers .entry)) (now (counts .entry)) (now (center .entry)) (now (scale .entry))) (now (pos .entry)) (now (vel .entry)) (now (out .entry))) r (now (out .entry)) (now (out .exit)) ⌝ }
+{
+    let fits = layout::config::counts_fit(counts);
+    if !fits {
+        return 255;
+    }
+    let c = layout::config::config_of(numbers, counts, center, scale);
+    let a = brake::brake_action(c, pos, vel, out);
+    crate::answer::sent(a)
+}
+
+#[no_mangle]
+pub extern "C" fn lictor_hold_action(
+    numbers: &[f64; 44],
+    counts: &[u64; 26],
+    center: &[f64; 192],
+    scale: &[f64; 192],
+    pos: &[f64],
+    out: &mut [f64],
+) -> u64
+    ensures { λ r. ⌜ SentGiven (countsFit (now (counts .entry))) (holdAnswer (configOf (now (numbers .entry)) (now (counts .entry)) (now (center .entry)) (now (scale .entry))) (now (pos .entry)) (length (now (out .entry)))) (holdOutput (configOf (now (numbers .entry)) (now (counts .entry)) (now (center .entry)) (now (scale .entry))) (now (pos .entry)) (now (out .entry))) r (now (out .entry)) (now (out .exit)) ⌝ }
+{
+    let fits = layout::config::counts_fit(counts);
+    if !fits {
+        return 255;
+    }
+    let c = layout::config::config_of(numbers, counts, center, scale);
+    let a = brake::hold_action(c, pos, out);
+    crate::answer::sent(a)
+}
