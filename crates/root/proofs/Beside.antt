@@ -5,7 +5,7 @@ use Prim.Native.Nat.{ℕ, _+_, _-_, _*_, _%_, _^_, _≤_, _<_}
 use native.Mathlib.Nat.{mul-le-mul, mul-add, add-mul, mul-assoc, mul-comm, mul-right-comm}
 use native.Mathlib.Omega.{arith}
 
-pub square-parts : (a b : ℕ) → (a * 2 ^ 21 + b) * (a * 2 ^ 21 + b) ≡ a * a * 2 ^ 42 + a * b * 2 ^ 22 + b * b
+square-parts : (a b : ℕ) → (a * 2 ^ 21 + b) * (a * 2 ^ 21 + b) ≡ a * a * 2 ^ 42 + a * b * 2 ^ 22 + b * b
 square-parts a b =
     let h = a * 2 ^ 21 in
     let p : (h + b) * (h + b) ≡ h * (h + b) + b * (h + b) = add-mul h b (h + b) in

@@ -79,7 +79,7 @@ struct Estimate {
     inverse: u32,
 }
 
-// The root as a * 2^21 + b, both as whole numbers.
+// A number in two parts, a * 2^21 + b.
 struct Split {
     a: u32,
     b: u32,
@@ -106,7 +106,7 @@ fn better_estimate(e: Estimate, three_halves: u64) -> Estimate {
     }
 }
 
-// About the root of w * 2^42, seldom above it and seldom by more than 1 below it: an estimate that is a little low, and what is left of w over twice it.
+// About the root of w * 2^42, a little below it: an estimate that is a little low, and what is left of w over twice the estimate. Any answer would do.
 fn guess(w: u64) -> Split
     ensures { λ r. ⌜ r .b < 2 ^ 29 ⌝ }
 {

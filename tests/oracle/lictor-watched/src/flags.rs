@@ -29,16 +29,49 @@ mod x86 {
     }
 }
 
+#[cfg(target_arch = "aarch64")]
+mod arm {
+    use std::arch::asm;
+
+    /// Invalid, divide by zero and overflow.
+    const NOT_FINITE: u64 = 1 | 2 | 4;
+    /// All six flags.
+    const ALL: u64 = 31 | 128;
+
+    fn read() -> u64 {
+        let word: u64;
+        // SAFETY: reads the status register alone.
+        unsafe { asm!("mrs {}, fpsr", out(reg) word, options(nostack)) };
+        word
+    }
+
+    pub fn clear() {
+        let word = read() & !ALL;
+        // SAFETY: writes the status register as it was, without its flags; rounding stands in another.
+        unsafe { asm!("msr fpsr, {}", in(reg) word, options(nostack)) };
+    }
+
+    pub fn raised() -> bool {
+        read() & NOT_FINITE != 0
+    }
+}
+
+#[cfg(target_arch = "aarch64")]
+pub use arm::{clear, raised};
 #[cfg(target_arch = "x86_64")]
 pub use x86::{clear, raised};
 
 /// Whether this processor's flags are read here; where not, nothing is ever raised.
-pub const READ: bool = cfg!(target_arch = "x86_64");
+pub const READ: bool = cfg!(any(target_arch = "x86_64", target_arch = "aarch64"));
 
-#[cfg(not(target_arch = "x86_64"))]
+/// Whether a flag that optimised code has raised shows a number that its source evaluates. On Arm the compiler has both
+/// sides of some choices computed, and one of them dropped.
+pub const EXACT: bool = cfg!(target_arch = "x86_64");
+
+#[cfg(not(any(target_arch = "x86_64", target_arch = "aarch64")))]
 pub fn clear() {}
 
-#[cfg(not(target_arch = "x86_64"))]
+#[cfg(not(any(target_arch = "x86_64", target_arch = "aarch64")))]
 pub fn raised() -> bool {
     false
 }

@@ -33,6 +33,9 @@ thread_local! {
 /// Whether the processor's flags can be read, so that `take_raised` means something.
 pub const FLAGS_READ: bool = flags::READ;
 
+/// Whether it then means that the source evaluates a number that is not finite, and not only that the code computes one.
+pub const FLAGS_EXACT: bool = flags::EXACT;
+
 /// Whether a published function called here since the last look has computed a number that is not finite, also one
 /// that dropped out of its answer.
 pub fn take_raised() -> bool {
