@@ -16,6 +16,7 @@ use Rattle.envelope.specs.declared.Derived.{Derived}
 use Rattle.envelope.specs.declared.FuseConfig.{FuseConfig}
 use Rattle.tier1.specs.declared.Manifest.{Manifest}
 use Rattle.tier1.specs.declared.Kept.{Kept}
+use Rattle.tier1.specs.declared.Feature.{Feature}
 use Rattle.tier1.specs.declared.Head.{Head}
 use Rattle.tier1.specs.declared.Tier1Rt.{Tier1Rt}
 use Rattle.tier1.specs.declared.Featured.{Featured}
@@ -45,6 +46,11 @@ keptOf rt = record {
   horizon = rt .prev .horizon;
   dim = rt .prev .dim;
 }
+
+-- ---- what a private function answers: the rule's value, and whether all that was computed is finite
+
+abbrev pub featureFrom : Checked Float → Feature
+featureFrom x = record { at = x .value; sound = x .sound }
 
 -- ---- the state
 

@@ -1,0 +1,30 @@
+-- How many rows two chunks share, by the tests that lead to each answer.
+use Prim.Native.Nat.{ℕ, _-_, _≤_, _<_, min}
+use mathlib.Core.Path.{_≡_, _∙_}
+use mathlib.Core.Bool.{Bool, true, false, _&&_}
+use native.Mathlib.Omega.{arith}
+use borrow.Author.Tests.{leb-true}
+use lib.Dec.{eqb, leb}
+use Rattle.fmath.proofs.Each.{and-right}
+use Rattle.tier1.specs.declared.Kept.{Kept}
+use Rattle.tier1.specs.Rule.{overlap}
+
+module _ (k : Kept) (t h d : ℕ) where
+  -- there is a chunk before, as wide and not emitted later
+  abbrev meets : Bool
+  meets = k .there && eqb (k .dim) d && leb (k .«t_emit») t
+
+  pub apart : meets ≡ false → 0 ≡ overlap k t h d
+  unfolding overlap
+  apart e = rw e
+
+  pub not-earlier : meets ≡ true → k .«t_emit» ≤ t
+  not-earlier e = leb-true (k .«t_emit») t (and-right (k .there && eqb (k .dim) d) (leb (k .«t_emit») t) e)
+
+  pub all-past : meets ≡ true → k .horizon < t - k .«t_emit» → 0 ≡ overlap k t h d
+  unfolding overlap
+  all-past e l = let z : 0 ≡ min (k .horizon - (t - k .«t_emit»)) h = omega arith in rw e z
+
+  pub shares : meets ≡ true → {r : ℕ} → r ≡ min (k .horizon - (t - k .«t_emit»)) h → r ≡ overlap k t h d
+  unfolding overlap
+  shares e g = rw e g
