@@ -1,3 +1,3 @@
 pub mod Tells
 pub mod Rows
-pub mod Shared
+pub mod Meeting

@@ -153,16 +153,16 @@ module _ (f : Format) where
   startRow m p b = over (at p) (over (at b) (replicate 8 +0) (m .dim)) (shared m p)
 
   -- the raw step to row i, where q stands before row 0
-  unfoldable pub stride : Manifest → List Float → List Float → ℕ → Checked Float
-  stride m q b zero = dist f b q (m .dim)
-  stride m q b (suc i) = dist f (row b (m .dim) (suc i)) (row b (m .dim) i) (m .dim)
+  unfoldable pub stride : ℕ → List Float → List Float → ℕ → Checked Float
+  stride d q b zero = dist f b q d
+  stride d q b (suc i) = dist f (row b d (suc i)) (row b d i) d
 
   -- the greatest of the first h, from 0.0; each is computed
-  unfoldable pub peak : Manifest → List Float → List Float → ℕ → Checked Float
-  peak m q b h = record { value = greatest +0 (λ (i : ℕ). stride m q b i .value) h; sound = all (λ (i : ℕ). stride m q b i .sound) h }
+  unfoldable pub peak : ℕ → List Float → List Float → ℕ → Checked Float
+  peak d q b h = record { value = greatest +0 (λ (i : ℕ). stride d q b i .value) h; sound = all (λ (i : ℕ). stride d q b i .sound) h }
 
   unfoldable pub speedPeak : Manifest → List Float → List Float → ℕ → Checked Float
-  speedPeak m p b h = peak m (startRow m p b) b h ⊘ pure (m .iso)
+  speedPeak m p b h = peak (m .dim) (startRow m p b) b h ⊘ pure (m .iso)
 
   -- ---- the features of the trail, over its last 20 samples
 

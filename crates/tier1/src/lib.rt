@@ -131,7 +131,7 @@ fn row_gaps(m: Manifest, from: f64, a: &[f64], b: &[f64]) -> f64
 
 // The same for the first n rows of b and as many of a, from row k on.
 fn squared_gaps(m: Manifest, a: &[f64], k: usize, b: &[f64], n: usize) -> f64
-    requires { ⌜ (m .dim ≤ 8) × ((k + n) * m .dim ≤ length (now a)) × (n * m .dim ≤ length (now b)) ⌝ }
+    requires { ⌜ (m .dim ≤ 8) × (k + n ≤ 64) × ((k + n) * m .dim ≤ length (now a)) × (n * m .dim ≤ length (now b)) ⌝ }
     ensures { λ r. ⌜ r ≡ sumRows binary64 (gaps binary64 m (now (a .entry)) k (now (b .entry))) (m .dim) n .value ⌝ }
 {
     let mut s = 0.0;
@@ -172,7 +172,7 @@ fn row_jolts(
 
 // The same for the first n rows, each with the three after it.
 fn squared_jolts(m: Manifest, b: &[f64], n: usize) -> f64
-    requires { ⌜ (m .dim ≤ 8) × ((n + 3) * m .dim ≤ length (now b)) ⌝ }
+    requires { ⌜ (m .dim ≤ 8) × (n + 3 ≤ 64) × ((n + 3) * m .dim ≤ length (now b)) ⌝ }
     ensures { λ r. ⌜ r ≡ sumRows binary64 (jolts binary64 m (now (b .entry))) (m .dim) n .value ⌝ }
 {
     let d = m.dim;
@@ -194,7 +194,7 @@ fn squared_jolts(m: Manifest, b: &[f64], n: usize) -> f64
 
 // The lengths of the steps from each of the first n rows, summed.
 fn step_lengths(m: Manifest, b: &[f64], n: usize) -> f64
-    requires { ⌜ (m .dim ≤ 8) × ((1 + n) * m .dim ≤ length (now b)) ⌝ }
+    requires { ⌜ (m .dim ≤ 8) × (1 + n ≤ 64) × ((1 + n) * m .dim ≤ length (now b)) ⌝ }
     ensures { λ r. ⌜ r ≡ sumFrom binary64 +0 (stepLength binary64 m (now (b .entry))) n .value ⌝ }
 {
     let d = m.dim;
@@ -222,10 +222,11 @@ fn start_row(m: Manifest, pos: &[f64], b: &[f64]) -> [f64; 8]
     requires { ⌜ (m .dim ≤ 8) × (m .dim ≤ length (now b)) ⌝ }
     ensures { λ r. ⌜ r ≡ startRow binary64 m (now (pos .entry)) (now (b .entry)) ⌝ }
 {
+    let d = m.dim;
     let n = shared(m, pos.len());
     let mut q = [0.0; 8];
     let mut i = 0;
-    while i < m.dim {
+    while i < d {
         q[i] = b[i];
         i += 1;
     }
@@ -237,12 +238,12 @@ fn start_row(m: Manifest, pos: &[f64], b: &[f64]) -> [f64; 8]
     q
 }
 
-// The greatest step of the first h rows, where q stands before row 0. Each is tested, since a NaN drops out of the greatest.
-fn peak(m: Manifest, q: [f64; 8], b: &[f64], h: usize) -> Feature
-    requires { ⌜ (m .dim ≤ 8) × (0 < h) × (h * m .dim ≤ length (now b)) ⌝ }
-    ensures { λ r. ⌜ r ≡ featureFrom (peak binary64 m q (now (b .entry)) h) ⌝ }
+// The greatest step of the first h rows of d numbers, where q stands before row 0. Each is tested, since a NaN drops out of
+// the greatest.
+fn peak(d: usize, q: [f64; 8], b: &[f64], h: usize) -> Feature
+    requires { ⌜ (0 < h) × (h ≤ 64) × (h * d ≤ length (now b)) ⌝ }
+    ensures { λ r. ⌜ r ≡ featureFrom (peak binary64 d q (now (b .entry)) h) ⌝ }
 {
-    let d = m.dim;
     let n = fmath::distance(b, &q, d);
     let mut most = fmath::max(0.0, n);
     let mut sound = fmath::finite(n);

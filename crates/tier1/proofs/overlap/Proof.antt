@@ -1,7 +1,7 @@
 -- `tier1::overlap` meets its contract, by the tests that led to each answer.
 use native.Mathlib.Omega.{arith}
 use borrow.Author.Tests.{not-true, not-false}
-use Rattle.tier1.proofs.Shared.{apart, not-earlier, all-past, shares}
+use Rattle.tier1.proofs.Meeting.{apart, not-earlier, all-past, shares}
 use borrow.Author.Needs.{needs}
 use Rattle.tier1.proofs.overlap.Statement.{statement}
 use Rattle.tier1.proofs.overlap.Tie as tie
