@@ -1,3 +1,4 @@
 pub mod Tells
 pub mod Rows
 pub mod Meeting
+pub mod Found

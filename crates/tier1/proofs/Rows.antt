@@ -57,9 +57,10 @@ module _ (f : Format) (d : ℕ) (q b : List Float) where
 
   pub next-stride : (i : ℕ) {m m' x : Float} {k t : Bool} → Peaks (i + 1) m k → x ≡ dist f (row b d (i + 1)) (row b d i) d .value → m' ≡ greater m x → t ≡ finite x → Peaks (i + 1 + 1) m' (k && t)
   unfolding peak
-  next-stride i {m} {m'} {x} {k} {t} w e g h =
-      (g ∙ greatest-more +0 (λ (j : ℕ). stride f d q b j .value) (i + 1) m x (w .0) (e ∙ later i .0),
-      all-more (λ (j : ℕ). stride f d q b j .sound) (i + 1) k t (w .1) (h ∙ ap finite e ∙ sym (dist-tells f (row b d (i + 1)) (row b d i) d) ∙ later i .1))
+  next-stride i {m} {m'} {x} {k} {t} w e g h = (
+    g ∙ greatest-more +0 (λ (j : ℕ). stride f d q b j .value) (i + 1) m x (w .0) (e ∙ later i .0),
+    all-more (λ (j : ℕ). stride f d q b j .sound) (i + 1) k t (w .1) (h ∙ ap finite e ∙ sym (dist-tells f (row b d (i + 1)) (row b d i) d) ∙ later i .1),
+  )
 
   pub peak-is : (i h : ℕ) {m : Float} {k : Bool} → i ≡ h → Peaks i m k → _≡_ {A = Feature} (record { at = m; sound = k }) (featureFrom (peak f d q b h))
   peak-is i h e w = rw (← e, w .0, w .1)

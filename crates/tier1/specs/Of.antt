@@ -17,6 +17,7 @@ use Rattle.envelope.specs.declared.FuseConfig.{FuseConfig}
 use Rattle.tier1.specs.declared.Manifest.{Manifest}
 use Rattle.tier1.specs.declared.Kept.{Kept}
 use Rattle.tier1.specs.declared.Feature.{Feature}
+use Rattle.tier1.specs.declared.Pair.{Pair}
 use Rattle.tier1.specs.declared.Head.{Head}
 use Rattle.tier1.specs.declared.Tier1Rt.{Tier1Rt}
 use Rattle.tier1.specs.declared.Featured.{Featured}
@@ -51,6 +52,9 @@ keptOf rt = record {
 
 abbrev pub featureFrom : Checked Float → Feature
 featureFrom x = record { at = x .value; sound = x .sound }
+
+abbrev pub pairFrom : Checked Float → Checked Float → Pair
+pairFrom x y = record { first = x .value; second = y .value; sound = x .sound && y .sound }
 
 -- ---- the state
 

@@ -1,13 +1,14 @@
 // Tier 1: the scores that the gate decides on, each larger where the action is less like those of the calibration.
 ghost use mathlib.Core.Path.{_≡_};
 ghost use Prim.Native.Nat.{_+_, _-_, _*_, _≤_, _<_, min};
+ghost use lib.Dec.{leb, ltb};
 ghost use lib.IntN.{pos};
 ghost use lib.ListN.{length};
 ghost use lib.Ieee.{binary64, ofInt};
-ghost use Rattle.fmath.specs.Checked.{sumFrom};
+ghost use Rattle.fmath.specs.Checked.{pure, sumFrom};
 ghost use Rattle.fmath.specs.Finite.{+0};
-ghost use Rattle.tier1.specs.Rule.{row, shared, sumRows, gap, gaps, jolt, jolts, stepLength, startRow, peak, overlap};
-ghost use Rattle.tier1.specs.Of.{featureFrom};
+ghost use Rattle.tier1.specs.Rule.{row, shared, sumRows, gap, gaps, jolt, jolts, stepLength, tce, acc, acmNeg, njr, reach, startRow, peak, speedPeak, pathIneff, stall, overlap, ifThere};
+ghost use Rattle.tier1.specs.Of.{featureFrom, pairFrom};
 use chunk::ChunkBuf;
 use conformal::Scores;
 use refusal::Refusal;
@@ -44,6 +45,13 @@ pub struct Manifest {
 // A feature; `sound` says that each number computed on the way is finite.
 pub struct Feature {
     pub at: f64,
+    pub sound: bool,
+}
+
+// Two features, likewise.
+pub struct Pair {
+    pub first: f64,
+    pub second: f64,
     pub sound: bool,
 }
 
@@ -255,4 +263,140 @@ fn peak(d: usize, q: [f64; 8], b: &[f64], h: usize) -> Feature
         i += 1;
     }
     Feature { at: most, sound }
+}
+
+// ---- the features of a chunk
+
+const EPS: f64 = 0.000000001;
+
+// A feature that is not there.
+fn absent() -> Feature
+    ensures { λ r. ⌜ r ≡ featureFrom (pure +0) ⌝ }
+{
+    Feature {
+        at: 0.0,
+        sound: true,
+    }
+}
+
+// Two that are not there.
+fn absent_pair() -> Pair
+    ensures { λ r. ⌜ r ≡ pairFrom (pure +0) (pure +0) ⌝ }
+{
+    Pair {
+        first: 0.0,
+        second: 0.0,
+        sound: true,
+    }
+}
+
+// Tce and Acc of l rows of b and as many of the chunk before, a, from row k on. The divisor is tested, since a quotient hides it.
+fn matched(m: Manifest, a: &[f64], k: usize, b: &[f64], l: usize) -> Pair
+    requires { ⌜ (m .dim ≤ 8) × (k + l ≤ 64) × ((k + l) * m .dim ≤ length (now a)) × (l * m .dim ≤ length (now b)) ⌝ }
+    ensures { λ r. ⌜ r ≡ pairFrom (ifThere (leb 2 l) (tce binary64 m (now (a .entry)) k (now (b .entry)) l)) (ifThere (leb 2 l) (acc binary64 m (now (a .entry)) k (now (b .entry)) l)) ⌝ }
+{
+    if l < 2 {
+        return absent_pair();
+    }
+    let num = squared_gaps(m, a, k, b, l);
+    let den = squared_gaps(m, b, 1, b, l - 1) + EPS;
+    let n = count(l * m.dim);
+    let first = root::sqrt(num / n);
+    let second = root::sqrt(num / den);
+    let p = fmath::finite(first);
+    let q = fmath::finite(den);
+    let r = fmath::finite(second);
+    Pair {
+        first,
+        second,
+        sound: p & (q & r),
+    }
+}
+
+// AcmNeg of h rows: the mean step, negated.
+fn acm_neg(m: Manifest, b: &[f64], h: usize) -> Feature
+    requires { ⌜ (m .dim ≤ 8) × (h ≤ 64) × (h * m .dim ≤ length (now b)) ⌝ }
+    ensures { λ r. ⌜ r ≡ featureFrom (ifThere (leb 2 h) (acmNeg binary64 m (now (b .entry)) h)) ⌝ }
+{
+    if h < 2 {
+        return absent();
+    }
+    let n = h - 1;
+    let s = step_lengths(m, b, n);
+    let at = -(s / count(n));
+    let sound = fmath::finite(at);
+    Feature { at, sound }
+}
+
+// Njr of h rows: the mean squared third difference over the mean squared first one.
+fn njr(m: Manifest, b: &[f64], h: usize) -> Feature
+    requires { ⌜ (m .dim ≤ 8) × (h ≤ 64) × (h * m .dim ≤ length (now b)) ⌝ }
+    ensures { λ r. ⌜ r ≡ featureFrom (ifThere (leb 4 h) (njr binary64 m (now (b .entry)) h)) ⌝ }
+{
+    if h < 4 {
+        return absent();
+    }
+    let num = squared_jolts(m, b, h - 3);
+    let den = squared_gaps(m, b, 1, b, h - 1);
+    let under = EPS + den / count(h - 1);
+    let at = num / count(h - 3) / under;
+    let p = fmath::finite(under);
+    let q = fmath::finite(at);
+    Feature { at, sound: p & q }
+}
+
+// Reach: the distance of row 0 from the position, where they share a coordinate.
+fn reach(m: Manifest, pos: &[f64], b: &[f64]) -> Feature
+    ensures { λ r. ⌜ r ≡ featureFrom (ifThere (ltb 0 (shared m (now (pos .entry)))) (reach binary64 m (now (pos .entry)) (now (b .entry)))) ⌝ }
+{
+    let n = shared(m, pos.len());
+    if 0 < n {
+        let far = fmath::distance(b, pos, n);
+        let at = far / m.iso;
+        let sound = fmath::finite(at);
+        return Feature { at, sound };
+    }
+    absent()
+}
+
+// SpeedPeak: the greatest step of h rows.
+fn speed_peak(m: Manifest, pos: &[f64], b: &[f64], h: usize) -> Feature
+    requires { ⌜ (m .dim ≤ 8) × (0 < h) × (h ≤ 64) × (h * m .dim ≤ length (now b)) ⌝ }
+    ensures { λ r. ⌜ r ≡ featureFrom (speedPeak binary64 m (now (pos .entry)) (now (b .entry)) h) ⌝ }
+{
+    let q = start_row(m, pos, b);
+    let p = peak(m.dim, q, b, h);
+    let at = p.at / m.iso;
+    let fine = fmath::finite(at);
+    Feature {
+        at,
+        sound: p.sound & fine,
+    }
+}
+
+// ---- the features of the trail
+
+// PathIneff and Stall of the last 20 samples. The way and the quotient are tested, since greatest and least hide them.
+fn moving(m: Manifest, t: Trail) -> Pair
+    ensures { λ r. ⌜ r ≡ pairFrom (ifThere (leb 20 (t .len)) (pathIneff binary64 m t)) (ifThere (leb 20 (t .len)) (stall binary64 m t)) ⌝ }
+{
+    if t.len < 20 {
+        return absent_pair();
+    }
+    let n = t.displacement(m.pos_dim, 20);
+    let p = t.travelled(m.pos_dim, 20);
+    let first = 1.0 - n / fmath::max(p, EPS);
+    let away = 0.05 * m.iso / m.dt * 20.0 * m.dt;
+    let part = n / away;
+    let second = 1.0 - fmath::min(1.0, part);
+    let u = fmath::finite(p);
+    let v = fmath::finite(first);
+    let w = fmath::finite(away);
+    let x = fmath::finite(part);
+    let y = fmath::finite(second);
+    Pair {
+        first,
+        second,
+        sound: (u & v) & ((w & x) & y),
+    }
 }

@@ -49,12 +49,13 @@ row-jolts-requires c κs =
     let b = now (c .before .before .before .before .before .before .before .args .b) in
     let d = c .before .before .before .before .before .before .before .args .m .dim in
     let n = c .before .before .before .before .before .before .before .args .n in
-    let i = c .before .before .before .before .before .loop .i in
-    (w .0,
-    row-long (i + 3) d b (row-fits (i + 3) (n + 3) d (length b) (omega arith) (w .2)) (c .before .before .before .row .ensures),
-    row-long (i + 2) d b (row-fits (i + 2) (n + 3) d (length b) (omega arith) (w .2)) (c .before .before .row2 .ensures),
-    row-long (i + 1) d b (row-fits (i + 1) (n + 3) d (length b) (omega arith) (w .2)) (c .before .row3 .ensures),
-    row-long i d b (row-fits i (n + 3) d (length b) (omega arith) (w .2)) (c .row4 .ensures))
+    let i = c .before .before .before .before .before .loop .i in (
+      w .0,
+      row-long (i + 3) d b (row-fits (i + 3) (n + 3) d (length b) (omega arith) (w .2)) (c .before .before .before .row .ensures),
+      row-long (i + 2) d b (row-fits (i + 2) (n + 3) d (length b) (omega arith) (w .2)) (c .before .before .row2 .ensures),
+      row-long (i + 1) d b (row-fits (i + 1) (n + 3) d (length b) (omega arith) (w .2)) (c .before .row3 .ensures),
+      row-long i d b (row-fits i (n + 3) d (length b) (omega arith) (w .2)) (c .row4 .ensures),
+    )
 
 add-i : tie.Need-add-i Inv-loop μ-loop
 add-i c = search needs
