@@ -2,3 +2,4 @@ pub mod Tells
 pub mod Rows
 pub mod Meeting
 pub mod Found
+pub mod Masks

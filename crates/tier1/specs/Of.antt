@@ -1,16 +1,19 @@
 -- The rules at the declared structs.
-use Prim.Native.Nat.{ℕ, zero, suc}
+use Prim.Native.Nat.{ℕ, zero, suc, _-_}
 use mathlib.Core.Bool.{Bool, true, false, not, _&&_}
-use mathlib.Core.List.{List, [], _∷_, _++_}
+use mathlib.Core.List.{List, [], _∷_}
+use lib.Dec.{leb}
 use lib.ListN.{length, replicate}
 use lib.Ieee.{Float, Format, binary64}
-use Rattle.refusal.specs.Order.{Judged, computed, _when_, refusedFor, if_then_else_}
+use Rattle.refusal.specs.Order.{Reason, computed, _when_, among, given, refusedFor, if_then_else_}
+use Rattle.fmath.specs.Each.{table}
 use Rattle.fmath.specs.Finite.{+0}
 use Rattle.fmath.specs.Checked.{Checked, _>>=_, pure}
 use Rattle.chunk.specs.Of as chunk
 use Rattle.window.specs.Of as window
+use Rattle.conformal.specs.Bits.{bitsWhere}
 use Rattle.conformal.specs.declared.Scores.{Scores}
-use Rattle.envelope.specs.Derive.{derived}
+use Rattle.envelope.specs.Derive.{kept, derived}
 use Rattle.envelope.specs.Refusals.{configJudged}
 use Rattle.envelope.specs.declared.Derived.{Derived}
 use Rattle.envelope.specs.declared.FuseConfig.{FuseConfig}
@@ -18,12 +21,15 @@ use Rattle.tier1.specs.declared.Manifest.{Manifest}
 use Rattle.tier1.specs.declared.Kept.{Kept}
 use Rattle.tier1.specs.declared.Feature.{Feature}
 use Rattle.tier1.specs.declared.Pair.{Pair}
+use Rattle.tier1.specs.declared.SixFeatures.{SixFeatures}
+use Rattle.tier1.specs.declared.AllFeatures.{AllFeatures}
 use Rattle.tier1.specs.declared.Head.{Head}
 use Rattle.tier1.specs.declared.Tier1Rt.{Tier1Rt}
+use Rattle.tier1.specs.declared.Stepped.{Stepped}
 use Rattle.tier1.specs.declared.Featured.{Featured}
 use Rattle.tier1.specs.declared.Cleared.{Cleared}
-use Rattle.tier1.specs.Rule.{overlap, boundary, boundaryBits, Twelve, twelve}
-use Rattle.tier1.specs.Refusals.{joint, newReasons, stateReasons, lentReason}
+use Rattle.tier1.specs.Rule.{overlap, tce, acc, ifThere, boundary, boundaryBits, validAt, valueAt, Twelve, twelve}
+use Rattle.tier1.specs.Refusals.{_or_, newJudged, stateJudged, lentJudged}
 
 -- what the features read of a configuration and of the numbers derived from it
 abbrev pub manifestFrom : FuseConfig → Derived → Manifest
@@ -55,6 +61,29 @@ featureFrom x = record { at = x .value; sound = x .sound }
 
 abbrev pub pairFrom : Checked Float → Checked Float → Pair
 pairFrom x y = record { first = x .value; second = y .value; sound = x .sound && y .sound }
+
+-- Tce and Acc, where two rows or more overlap
+abbrev pub metFrom : Manifest → Kept → List Float → ℕ → List Float → ℕ → Pair
+metFrom m k a t b h =
+    pairFrom
+    (ifThere (leb 2 (overlap k t h (m .dim))) (tce binary64 m a (t - k .«t_emit») b (overlap k t h (m .dim))))
+    (ifThere (leb 2 (overlap k t h (m .dim))) (acc binary64 m a (t - k .«t_emit») b (overlap k t h (m .dim))))
+
+abbrev pub boundaryFrom : Checked (List Float) → ℕ → SixFeatures
+boundaryFrom x bits = record { held = x .value; valid = bits; sound = x .sound }
+
+abbrev pub gatheredFrom : List Float → ℕ → ℕ → List Float → Bool → List Float → AllFeatures
+gatheredFrom held heldValid len trail sound ext = record {
+  f = table (λ (j : ℕ). kept (validAt heldValid len (length ext) j) (valueAt held trail ext j)) 12;
+  valid = bitsWhere (validAt heldValid len (length ext)) 12;
+  sound = sound;
+}
+
+abbrev pub twelveFrom : Checked Twelve → AllFeatures
+twelveFrom x = record { f = x .value .f; valid = x .value .valid; sound = x .sound }
+
+abbrev pub steppedFrom : Checked Tier1Rt → Stepped
+steppedFrom x = record { rt = x .value; sound = x .sound }
 
 -- ---- the state
 
@@ -111,15 +140,15 @@ featuredAt (suc n) x rt sc = record { refusal = refusedFor (suc n); rt = rt; sco
 
 module _ (c : FuseConfig) (p ext : List Float) (there : Bool) (k : Head) (rows : List Float) (rt : Tier1Rt) (sc : Scores) where
   -- 1 to 12
-  abbrev pub judged : List (List Judged)
-  judged = configJudged c ∷ newReasons there k rows (c .dim) ∷ lentReason p ext sc ∷ stateReasons rt
+  abbrev pub judged : Reason → Bool
+  judged = among (configJudged c) or (newJudged there k (length rows) (c .dim) or (stateJudged rt or lentJudged p ext there rows sc))
 
   unfoldable pub ticked : Checked Tick
   ticked = tick binary64 (manifestOf c) p ext there k rows rt
 
   -- .. and 13
   unfoldable pub featuresRefusal : ℕ
-  featuresRefusal = joint (((computed when not (ticked .sound)) ∷ []) ∷ judged)
+  featuresRefusal = given (judged or among ((computed when not (ticked .sound)) ∷ []))
 
   unfoldable pub featuresOf : Featured
   featuresOf = featuredAt featuresRefusal (ticked .value) rt sc
@@ -130,4 +159,4 @@ clearedAt zero rt = record { refusal = refusedFor 0; rt = clearedRt rt }
 clearedAt (suc n) rt = record { refusal = refusedFor (suc n); rt = rt }
 
 unfoldable pub resetOf : Tier1Rt → Cleared
-resetOf rt = clearedAt (joint (stateReasons rt)) rt
+resetOf rt = clearedAt (given (stateJudged rt)) rt

@@ -2,22 +2,14 @@
 use Prim.Native.Nat.{_+_, _-_}
 use mathlib.Core.Path.{_≡_}
 use native.Mathlib.Omega.{arith}
-use borrow.Author.Tests.{lt-leb, le-leb}
 use denote.Ref.{now}
 use lib.Ieee.{binary64, ofBits}
 use lib.ListN.{length}
-use Rattle.tier1.specs.Rule.{tce, acc}
 use Rattle.tier1.proofs.Rows.{row-fits}
-use Rattle.tier1.proofs.Found.{neither-there, both-there, few, matched-is}
+use Rattle.tier1.proofs.Found.{few, matched-is}
 use borrow.Author.Needs.{needs}
 use Rattle.tier1.proofs.matched.Statement.{statement}
 use Rattle.tier1.proofs.matched.Tie as tie
-
-absent-pair-requires : tie.Need-absent-pair-requires
-absent-pair-requires c κs = search needs
-
-returns : tie.Need-returns
-returns c = let g = c .before .before .before .before .args in neither-there _ _ (lt-leb 2 (g .l) (c .before .if1 .taken)) (c .absent-pair .ensures)
 
 squared-gaps-requires : tie.Need-squared-gaps-requires
 squared-gaps-requires c κs = search needs
@@ -27,17 +19,17 @@ sub-squared-gaps c = search needs
 
 squared-gaps-requires-2 : tie.Need-squared-gaps-requires-2
 squared-gaps-requires-2 c κs =
-    let w = c .before .before .before .before .pre in
-    let g = c .before .before .before .before .args in
-    let e : 1 + (g .l - 1) ≡ g .l = omega (arith, c .before .if1 .left) in
-    let h = row-fits (g .l - 1) (g .l) (g .m .dim) (length (now (g .b))) (omega (arith, c .before .if1 .left)) (w .3) in
-    (w .0, omega arith, rw e (w .3), omega arith)
+    let w = c .before .before .before .pre in
+    let g = c .before .before .before .args in
+    let e : 1 + (g .l - 1) ≡ g .l = omega (arith, w .1) in
+    let h = row-fits (g .l - 1) (g .l) (g .m .dim) (length (now (g .b))) (omega (arith, w .1)) (w .4) in
+    (w .0, omega (arith, w .2, w .1), rw e (w .4), omega arith)
 
 mul-count : tie.Need-mul-count
 mul-count c = search needs
 
 count-requires : tie.Need-count-requires
-count-requires c κs = let w = c .before .before .before .before .before .before .pre in let g = c .before .before .before .before .before .before .args in let h = few (g .l) (g .m .dim) (omega (arith, w .1)) (w .0) in omega arith
+count-requires c κs = let w = c .before .before .before .before .before .pre in let g = c .before .before .before .before .before .args in let h = few (g .l) (g .m .dim) (omega (arith, w .2)) (w .0) in omega arith
 
 sqrt-requires : tie.Need-sqrt-requires
 sqrt-requires c κs = search needs
@@ -54,19 +46,16 @@ finite-requires-2 c κs = search needs
 finite-requires-3 : tie.Need-finite-requires-3
 finite-requires-3 c κs = search needs
 
-returns-2 : tie.Need-returns-2
+returns : tie.Need-returns
 unfolding ofBits
-returns-2 c =
-    let g = c .before .before .before .before .before .before .before .before .before .before .before .before .args in
-    both-there _ _ (le-leb 2 (g .l) (c .before .before .before .before .before .before .before .before .before .if1 .left))
-    (matched-is binary64 (g .m) (now (g .a)) (g .k) (now (g .b)) (g .l) (c .before .before .before .before .before .before .before .before .squared-gaps .ensures) (c .before .before .before .before .before .before .before .squared-gaps2 .ensures) (c .before .before .before .before .before .count .ensures) (c .before .before .before .before .sqrt .ensures) (c .before .before .before .sqrt2 .ensures) (c .before .before .finite .ensures) (c .before .finite2 .ensures) (c .finite3 .ensures))
+returns c =
+    let g = c .before .before .before .before .before .before .before .before .before .before .before .args in
+    matched-is binary64 (g .m) (now (g .a)) (g .k) (now (g .b)) (g .l) (c .before .before .before .before .before .before .before .before .squared-gaps .ensures) (c .before .before .before .before .before .before .before .squared-gaps2 .ensures) (c .before .before .before .before .before .count .ensures) (c .before .before .before .before .sqrt .ensures) (c .before .before .before .sqrt2 .ensures) (c .before .before .finite .ensures) (c .before .finite2 .ensures) (c .finite3 .ensures)
 
 pub matched-spec : {M : Type 1} → statement M
 matched-spec =
     tie.close
     (tie.spec
-    absent-pair-requires
-    returns
     squared-gaps-requires
     sub-squared-gaps
     squared-gaps-requires-2
@@ -77,4 +66,4 @@ matched-spec =
     finite-requires
     finite-requires-2
     finite-requires-3
-    returns-2)
+    returns)
