@@ -108,7 +108,7 @@ clearedRt rt = record {
 }
 
 -- a new chunk replaces all held features, invalid ones too, and the chunk before
-abbrev pub afterChunk : Format → Manifest → List Float → Bool → Head → List Float → Tier1Rt → Checked Tier1Rt
+unfoldable pub afterChunk : Format → Manifest → List Float → Bool → Head → List Float → Tier1Rt → Checked Tier1Rt
 afterChunk f m p there k rows rt =
     if there
     then (do

@@ -490,6 +490,23 @@ fn boundary(
     }
 }
 
+// The same, with the chunk before in its buffer.
+fn boundary_after(
+    m: Manifest,
+    k: Kept,
+    prev: ChunkBuf,
+    pos: &[f64],
+    t: u32,
+    h: usize,
+    b: &[f64],
+) -> SixFeatures
+    requires { ⌜ (m .dim ≤ 8) × (0 < h) × (h ≤ 64) × (h * m .dim ≤ length (now b)) × (k .there ≡ true → (k .horizon ≤ 64) × (k .horizon * k .dim ≤ 512)) ⌝ }
+    ensures { λ r. ⌜ r ≡ boundaryFrom (boundary binary64 m k (prev .«data») (now (pos .entry)) t h (now (b .entry))) (boundaryBits m k (now (pos .entry)) t h) ⌝ }
+{
+    let a = prev.data;
+    boundary(m, k, &a, pos, t, h, b)
+}
+
 // ---- the features of the trail
 
 // PathIneff and Stall of the last 20 samples. The way and the quotient are tested, since greatest and least hide them.
@@ -724,9 +741,8 @@ fn after_chunk(m: Manifest, rt: Tier1Rt, pos: &[f64], there: bool, k: Head, rows
     }
     let kept = kept_of(rt);
     let prev = rt.prev;
-    let data = prev.data;
     let h = k.horizon as usize;
-    let b = boundary(m, kept, &data, pos, k.t_emit, h, rows);
+    let b = boundary_after(m, kept, prev, pos, k.t_emit, h, rows);
     let filled = prev.fill(k.seq, k.t_emit, k.horizon, k.dim, k.exec_steps, rows);
     let buf = filled.buf;
     let trail = rt.trail;
