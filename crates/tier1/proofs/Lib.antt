@@ -6,3 +6,4 @@ pub mod Masks
 pub mod Joint
 pub mod Ready
 pub mod Ticks
+pub mod Promises

@@ -114,10 +114,10 @@ prev-fits b e t =
     let w = sizes.sizes-accepted (b .horizon) (b .dim) (b .«exec_steps») n s in
     (w .not-long, sizes.accepted-fits w)
 
-module _ (c : FuseConfig) (p ext : List Float) (there : Bool) (k : Head) (rows : List Float) (rt : Tier1Rt) (sc : Scores) (e : given (judged c p ext there k rows rt sc) ≡ 0) where
+module _ (c : FuseConfig) (p ext : List Float) (there : Bool) (k : Head) (rows : List Float) (rt : Tier1Rt) (sc : Scores) {r : ℕ} (er : r ≡ given (judged c p ext there k rows rt sc)) (ez : r ≡ 0) where
   parts : (refusal (configJudged c) ≡ 0) × ((given (newJudged there k (length rows) (c .dim)) ≡ 0) × ((given (stateJudged rt) ≡ 0) × (given (lentJudged p ext there rows sc) ≡ 0)))
   parts =
-      let u = neither-applies (among (configJudged c)) (newJudged there k (length rows) (c .dim) or (stateJudged rt or lentJudged p ext there rows sc)) e in
+      let u = neither-applies (among (configJudged c)) (newJudged there k (length rows) (c .dim) or (stateJudged rt or lentJudged p ext there rows sc)) (sym er ∙ ez) in
       let v = neither-applies (newJudged there k (length rows) (c .dim)) (stateJudged rt or lentJudged p ext there rows sc) (u .1) in
       let w = neither-applies (stateJudged rt) (lentJudged p ext there rows sc) (v .1) in
       (u .0, (v .0, (w .0, w .1)))

@@ -93,7 +93,7 @@ module _ (c : FuseConfig) (p ext : List Float) (there : Bool) (k : Head) (rows :
   unfolding featuresRefusal
   lent-refused n e f = numbered n (e ∙ sym (refused-first (judged c p ext there k rows rt sc) (not (ticked c p ext there k rows rt sc .sound)) (no-leftover c p ext there k rows rt sc) (λ z. f (e ∙ z)))) f
 
-  module _ (z : number ≡ 0) {m : Manifest} {x : Stepped} {y : AllFeatures} (em : m ≡ manifestOf c) (ex : x ≡ steppedFrom (afterChunk binary64 m p there k rows rt))
+  module _ {n : ℕ} (en : n ≡ number) (ez : n ≡ 0) {m : Manifest} {x : Stepped} {y : AllFeatures} (em : m ≡ manifestOf c) (ex : x ≡ steppedFrom (afterChunk binary64 m p there k rows rt))
       (ey : y ≡ twelveFrom (twelve binary64 m (x .rt .trail) (x .rt .held) (x .rt .«held_valid») ext)) where
     tick-sound : x .sound && y .sound ≡ ticked c p ext there k rows rt sc .sound
     unfolding ticked tick
@@ -102,7 +102,7 @@ module _ (c : FuseConfig) (p ext : List Float) (there : Bool) (k : Head) (rows :
     known : (b : Bool) → x .sound && y .sound ≡ b → featuresRefusal c p ext there k rows rt sc ≡ (if not b then 13 else 0)
     unfolding featuresRefusal
     known b e =
-        only-computed (judged c p ext there k rows rt sc) (not (ticked c p ext there k rows rt sc .sound)) z
+        only-computed (judged c p ext there k rows rt sc) (not (ticked c p ext there k rows rt sc .sound)) (sym en ∙ ez)
         ∙ ap (λ (t : Bool). if not t then 13 else 0) (sym tick-sound ∙ e)
 
     pub not-sound : x .sound && y .sound ≡ false → {r : Refusal} → r ≡ refusedFor 13 → _≡_ {A = Featured} (record { refusal = r; rt = rt; scores = sc }) answer

@@ -1,5 +1,4 @@
 -- `tier1::features` meets its contract: refused by what is lent, refused by a computed number, or passed.
-use mathlib.Core.Path.{sym, ap, _∙_}
 use borrow.Author.Tests.{not-true, not-false}
 use denote.Ref.{now}
 use Rattle.tier1.specs.Of.{manifestOf}
@@ -25,11 +24,12 @@ after-chunk-requires : tie.Need-after-chunk-requires
 unfolding manifestOf
 after-chunk-requires c κs =
     let g = c .before .before .before .before .before .before .args in
-    let z = sym (c .before .before .features-refusal .ensures) ∙ c .before .if1 .left in
+    let e = c .before .before .features-refusal .ensures in
+    let z = c .before .if1 .left in
     rw (c .manifest-of .ensures) (
-      narrow (g .c) (now (g .pos)) (now (g .ext)) (g .there) (g .k) (now (g .rows)) (g .rt) (g .sc) z,
-      new-fits (g .c) (now (g .pos)) (now (g .ext)) (g .there) (g .k) (now (g .rows)) (g .rt) (g .sc) z,
-      before-fits (g .c) (now (g .pos)) (now (g .ext)) (g .there) (g .k) (now (g .rows)) (g .rt) (g .sc) z,
+      narrow (g .c) (now (g .pos)) (now (g .ext)) (g .there) (g .k) (now (g .rows)) (g .rt) (g .sc) e z,
+      new-fits (g .c) (now (g .pos)) (now (g .ext)) (g .there) (g .k) (now (g .rows)) (g .rt) (g .sc) e z,
+      before-fits (g .c) (now (g .pos)) (now (g .ext)) (g .there) (g .k) (now (g .rows)) (g .rt) (g .sc) e z,
     )
 
 twelve-requires : tie.Need-twelve-requires
@@ -41,7 +41,7 @@ of-requires-2 c κs = search needs
 returns-2 : tie.Need-returns-2
 returns-2 c =
     let g = c .before .before .before .before .before .before .before .before .before .before .before .before .before .before .before .args in
-    not-sound (g .c) (now (g .pos)) (now (g .ext)) (g .there) (g .k) (now (g .rows)) (g .rt) (g .sc) (sym (c .before .before .before .before .before .before .before .before .before .before .before .features-refusal .ensures) ∙ c .before .before .before .before .before .before .before .before .before .before .if1 .left) (c .before .before .before .before .before .before .before .before .before .manifest-of .ensures) (c .before .before .before .before .before .before .before .before .after-chunk .ensures) (c .before .before .before .before .twelve .ensures) (not-true _ (c .before .if2 .taken)) (c .of2 .ensures)
+    not-sound (g .c) (now (g .pos)) (now (g .ext)) (g .there) (g .k) (now (g .rows)) (g .rt) (g .sc) (c .before .before .before .before .before .before .before .before .before .before .before .features-refusal .ensures) (c .before .before .before .before .before .before .before .before .before .before .if1 .left) (c .before .before .before .before .before .before .before .before .before .manifest-of .ensures) (c .before .before .before .before .before .before .before .before .after-chunk .ensures) (c .before .before .before .before .twelve .ensures) (not-true _ (c .before .if2 .taken)) (c .of2 .ensures)
 
 of-requires-3 : tie.Need-of-requires-3
 of-requires-3 c κs = search needs
@@ -49,7 +49,7 @@ of-requires-3 c κs = search needs
 returns-3 : tie.Need-returns-3
 returns-3 c =
     let g = c .before .before .before .before .before .before .before .before .before .before .before .before .before .before .before .before .before .args in
-    passes (g .c) (now (g .pos)) (now (g .ext)) (g .there) (g .k) (now (g .rows)) (g .rt) (g .sc) (sym (c .before .before .before .before .before .before .before .before .before .before .before .before .before .features-refusal .ensures) ∙ c .before .before .before .before .before .before .before .before .before .before .before .before .if1 .left) (c .before .before .before .before .before .before .before .before .before .before .before .manifest-of .ensures) (c .before .before .before .before .before .before .before .before .before .before .after-chunk .ensures) (c .before .before .before .before .before .before .twelve .ensures) (not-false _ (c .before .before .before .if2 .left)) (c .of3 .ensures)
+    passes (g .c) (now (g .pos)) (now (g .ext)) (g .there) (g .k) (now (g .rows)) (g .rt) (g .sc) (c .before .before .before .before .before .before .before .before .before .before .before .before .before .features-refusal .ensures) (c .before .before .before .before .before .before .before .before .before .before .before .before .if1 .left) (c .before .before .before .before .before .before .before .before .before .before .before .manifest-of .ensures) (c .before .before .before .before .before .before .before .before .before .before .after-chunk .ensures) (c .before .before .before .before .before .before .twelve .ensures) (not-false _ (c .before .before .before .if2 .left)) (c .of3 .ensures)
 
 pub features-spec : {M : Type 1} → statement M
 features-spec =
