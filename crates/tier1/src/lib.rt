@@ -693,11 +693,12 @@ impl Tier1Rt {
     {
         let prev = ChunkBuf::new();
         let trail = Trail::new();
+        let held = [0.0; 6];
         Tier1Rt {
             prev,
             have_prev: false,
             trail,
-            held: [0.0; 6],
+            held,
             held_valid: 0,
         }
     }
@@ -720,9 +721,10 @@ impl Tier1Rt {
             head: 0,
             len: 0,
         };
+        let have_prev = false;
         let rt = Tier1Rt {
             prev,
-            have_prev: false,
+            have_prev,
             trail,
             held: [0.0; 6],
             held_valid: 0,
