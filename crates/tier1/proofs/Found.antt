@@ -1,13 +1,12 @@
 -- What each function of a feature answers, from its parts: the rule's value, and that its few tests are a test of every number on the way.
-use Prim.Native.Nat.{ℕ, _+_, _-_, _*_, _≤_}
+use Prim.Native.Nat.{ℕ, _-_, _*_, _≤_}
 use mathlib.Core.Path.{_≡_, refl, sym, ap, _∙_}
 use mathlib.Core.Bool.{Bool, true, false, _&&_, and-true}
 use mathlib.Core.List.{List}
 use native.Mathlib.Nat.{le-trans, mul-le-mul-right}
 use native.Mathlib.Omega.{arith}
 use lib.IntN.{pos}
-use lib.Dec.{leb, ltb}
-use lib.Ieee.{Float, Format, add, sub, mul, div, neg, ofInt}
+use lib.Ieee.{Float, Format, add, sub, div, neg, ofInt}
 use Rattle.root.specs.Root.{rootOf}
 use Rattle.fmath.specs.Finite.{finite, +0}
 use Rattle.fmath.specs.Checked.{Checked, pure, sumFrom}
@@ -21,7 +20,7 @@ use Rattle.window.proofs.TrailTold.{net-tells, path-tells}
 use Rattle.tier1.specs.declared.Manifest.{Manifest}
 use Rattle.tier1.specs.declared.Feature.{Feature}
 use Rattle.tier1.specs.declared.Pair.{Pair}
-use Rattle.tier1.specs.Rule.{1!, 20!, eps, stallPart, shared, _⊕_, _⊘_, sumRows, gaps, steps, jolts, stepLength, tce, acc, acmNeg, njr, reach, startRow, peak, speedPeak, netLength, pathLength, pathIneff, stallReach, stall, ifThere}
+use Rattle.tier1.specs.Rule.{1!, eps, shared, _⊕_, _⊘_, sumRows, gaps, steps, jolts, stepLength, tce, acc, acmNeg, njr, reach, startRow, peak, speedPeak, netLength, pathLength, pathIneff, stallReach, stall, ifThere}
 use Rattle.tier1.specs.Of.{featureFrom, pairFrom}
 use Rattle.tier1.proofs.Tells.{Shows, Tell, shown, pure-shows, finite-neg, plus-tells, rooted-tells, over-tells, over-given-tells, gaps-tell, jolts-tell, lengths-tell, stall-reach-tells}
 

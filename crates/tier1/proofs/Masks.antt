@@ -1,6 +1,6 @@
 -- Which features are valid, feature by feature; their masks; and the features of a chunk and of a tick from their parts.
 use Prim.Native.Nat.{ℕ, _+_, _-_, _*_, _/_, _%_, _^_, _≤_, _<_}
-use mathlib.Core.Path.{_≡_, refl, sym, ap, _∙_}
+use mathlib.Core.Path.{_≡_, refl, _∙_}
 use mathlib.Core.Bool.{Bool, true, false, _&&_, and-true}
 use mathlib.Core.List.{List, [], _∷_}
 use native.Mathlib.Nat.{zero-add, pow-suc}
@@ -9,12 +9,10 @@ use native.Mathlib.Omega.{arith}
 use borrow.Author.Tests.{lt-ltb, le-ltb}
 use lib.Dec.{leb, ltb, eqb}
 use lib.Pow.{pow-mono}
-use lib.ListN.{length}
 use lib.Ieee.{Float, binary64}
 use Rattle.refusal.specs.Order.{if_then_else_}
-use Rattle.fmath.specs.Each.{at, table}
+use Rattle.fmath.specs.Each.{at}
 use Rattle.fmath.specs.Finite.{+0}
-use Rattle.fmath.specs.Checked.{Checked}
 use Rattle.conformal.specs.Bits.{bit, bitsWhere}
 use Rattle.conformal.proofs.Bits.{bits-more, bits-below}
 use Rattle.envelope.specs.Derive.{kept}

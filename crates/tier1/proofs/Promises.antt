@@ -10,7 +10,7 @@ use lib.Dec.{leb, ltb}
 use lib.ListN.{length, length-append, List·getD-append}
 use lib.Seq.{getD-append-seam}
 use lib.Ieee.{Float, binary64, nan}
-use Rattle.refusal.specs.Order.{refusedFor, if_then_else_}
+use Rattle.refusal.specs.Order.{refusedFor}
 use Rattle.fmath.specs.Each.{at, table}
 use Rattle.fmath.specs.Finite.{+0}
 use Rattle.conformal.specs.Bits.{bit, bitsWhere}

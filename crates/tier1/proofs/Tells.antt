@@ -1,16 +1,15 @@
 -- A number that tells is finite exactly where each number on the way to it is. Sums over rows tell, so one test at the end of a chain is enough;
 -- a divisor does not, and has a test of its own.
 use Prim.Native.Nat.{ℕ, zero, suc, _+_, _-_}
-use mathlib.Core.Path.{_≡_, refl, sym, ap, _∙_}
-use mathlib.Core.Bool.{Bool, true, false, _&&_, and-true}
+use mathlib.Core.Path.{_≡_, refl, sym, _∙_}
+use mathlib.Core.Bool.{Bool, true, false, _&&_}
 use mathlib.Core.List.{List}
-use lib.Ieee.{Float, Format, nan, inf, fin, add, sub, mul, div, neg}
-use Rattle.root.specs.Root.{rootOf}
+use lib.Ieee.{Float, Format, nan, inf, fin, neg}
 use Rattle.fmath.specs.Each.{at}
 use Rattle.fmath.specs.Finite.{finite, +0}
 use Rattle.fmath.specs.Checked.{Checked, pure, sumFrom}
 use Rattle.fmath.proofs.Absorbing.{Fine, fine-add-left, fine-add-right, fine-sub-left, fine-sub-right, fine-mul-left, fine-mul-right, fine-div-left, fine-root}
-use Rattle.fmath.proofs.Each.{_&&≡_, and-left, and-right}
+use Rattle.fmath.proofs.Each.{and-left, and-right}
 use Rattle.fmath.proofs.Told.{Tells, implied, sum-tells}
 use Rattle.tier1.specs.declared.Manifest.{Manifest}
 use Rattle.tier1.specs.Rule.{3!, 20!, stallPart, row, _⊕_, _⊖_, _⊗_, _⊘_, squared, rooted, sumRows, normal, gap, jolt, gaps, steps, jolts, stepLength, stallReach}

@@ -2,19 +2,18 @@
 use Prim.Native.Nat.{ℕ, zero, suc, _*_, _≤_, _<_}
 use mathlib.Core.Path.{_≡_, refl, sym, ap, _∙_}
 use mathlib.Core.Bool.{Bool, true, false, not, _&&_, and-true}
-use mathlib.Core.List.{List, [], _∷_}
+use mathlib.Core.List.{List}
 use native.Mathlib.Omega.{arith}
 use borrow.Author.Tests.{eq-eqb}
 use lib.ListN.{length}
 use lib.Ieee.{Float, binary64}
 use Rattle.refusal.specs.Order.{given, refusal, refusedFor, if_then_else_}
 use Rattle.refusal.specs.declared.Refusal.{Refusal}
-use Rattle.fmath.proofs.Each.{and-right}
 use Rattle.chunk.specs.Refusals.{lentReasons}
 use Rattle.chunk.specs.Of.{heldOf, fillOf}
 use Rattle.chunk.specs.declared.ChunkBuf.{ChunkBuf}
 use Rattle.chunk.specs.declared.Filled.{Filled}
-use Rattle.chunk.proofs.Judged.{Accepted, lent-accepted}
+use Rattle.chunk.proofs.Judged.{lent-accepted}
 use Rattle.conformal.specs.declared.Scores.{Scores}
 use Rattle.envelope.specs.declared.FuseConfig.{FuseConfig}
 use Rattle.tier1.specs.declared.Manifest.{Manifest}

@@ -1,9 +1,8 @@
 -- What `features` and `reset` judge, argument by argument; a reason applies to a call where it does to one of its arguments.
 use Prim.Native.Nat.{ℕ, min}
-use mathlib.Core.Bool.{Bool, true, false, not, _&&_, _||_}
+use mathlib.Core.Bool.{Bool, false, not, _&&_, _||_}
 use mathlib.Core.List.{List, [], _∷_}
 use lib.Dec.{eqb}
-use lib.ListN.{length}
 use lib.Ieee.{Float}
 use Rattle.refusal.specs.Order.{Reason, width, notFinite, _when_, among, if_then_else_}
 use Rattle.fmath.specs.Answer.{someNotFinite}

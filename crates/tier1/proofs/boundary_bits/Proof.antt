@@ -1,5 +1,4 @@
 -- `tier1::boundary_bits` meets its contract: six weights, none of which is large.
-use native.Mathlib.Omega.{arith}
 use Rattle.tier1.proofs.Masks.{weights-are}
 use borrow.Author.Needs.{needs}
 use Rattle.tier1.proofs.boundary_bits.Statement.{statement}

@@ -1,5 +1,5 @@
 -- `tier1::gathered` meets its contract: the loop takes one feature more a turn.
-use Prim.Native.Nat.{ℕ, _+_, _^_, _≤_, _-_}
+use Prim.Native.Nat.{ℕ, _^_, _≤_, _-_}
 use mathlib.Core.Path.{_≡_, refl, _∙_}
 use native.Mathlib.Omega.{arith}
 use denote.Ref.{now}
@@ -12,8 +12,6 @@ use Rattle.envelope.specs.Derive.{kept}
 use Rattle.tier1.specs.Rule.{validAt, valueAt}
 use Rattle.tier1.proofs.Masks.{Turned, turn}
 use borrow.Author.Needs.{needs}
-use mathlib.Core.Bool.{Bool}
-use lib.Ieee.{Float, ofBits}
 use Rattle.tier1.proofs.gathered.Statement.{statement}
 use Rattle.tier1.proofs.gathered.Tie as tie
 

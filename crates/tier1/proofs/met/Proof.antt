@@ -1,14 +1,12 @@
 -- `tier1::met` meets its contract: rows that overlap lie in both chunks.
-use Prim.Native.Nat.{ℕ, _+_, _-_, _*_, _≤_}
-use mathlib.Core.Path.{_≡_, sym, ap, _∙_}
+use Prim.Native.Nat.{_+_, _-_, _≤_}
+use mathlib.Core.Path.{sym, ap, _∙_}
 use native.Mathlib.Nat.{le-trans, mul-le-mul-right}
 use native.Mathlib.Omega.{arith}
 use borrow.Author.Tests.{lt-leb, le-leb}
-use denote.Ref.{now}
 use lib.Dec.{leb}
-use lib.ListN.{length}
 use Rattle.tier1.proofs.Found.{neither-there, both-there}
-use Rattle.tier1.proofs.Meeting.{Overlaps, overlapping}
+use Rattle.tier1.proofs.Meeting.{overlapping}
 use borrow.Author.Needs.{needs}
 use Rattle.tier1.proofs.met.Statement.{statement}
 use Rattle.tier1.proofs.met.Tie as tie

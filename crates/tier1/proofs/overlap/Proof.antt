@@ -1,5 +1,4 @@
 -- `tier1::overlap` meets its contract, by the tests that led to each answer.
-use native.Mathlib.Omega.{arith}
 use borrow.Author.Tests.{not-true, not-false}
 use Rattle.tier1.proofs.Meeting.{apart, not-earlier, all-past, shares}
 use borrow.Author.Needs.{needs}

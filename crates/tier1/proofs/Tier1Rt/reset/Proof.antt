@@ -1,5 +1,4 @@
 -- `Tier1Rt::reset` meets its contract: a damaged state stays, another is cleared.
-use mathlib.Core.Path.{_∙_}
 use lib.Ieee.{ofBits}
 use Rattle.tier1.proofs.Ticks.{cleared-refused, cleared-passed}
 use borrow.Author.Needs.{needs}
