@@ -1,4 +1,4 @@
-// Tier 1: the scores that the gate decides on, each larger where the action is less like those of the calibration.
+// Tier 1: the scores that the gate decides on, each larger the less ordinary the motion is.
 ghost use mathlib.Core.Path.{_≡_};
 ghost use mathlib.Core.Bool.{true};
 ghost use Prim.Native.Nat.{_+_, _-_, _*_, _^_, _≤_, _<_, min};
