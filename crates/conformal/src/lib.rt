@@ -143,7 +143,7 @@ fn not_nan(x: f64) -> bool
 }
 
 // Refusal 12 of scores.
-fn scores_ok(scores: Scores) -> bool
+pub fn scores_ok(scores: Scores) -> bool
     ensures { λ r. ⌜ r ≡ scoresOk scores ⌝ }
 {
     let a = fmath::all_finite(&scores.f, 12);

@@ -1,0 +1,112 @@
+-- Which features are valid, feature by feature; their masks; and the features of a chunk and of a tick from their parts.
+use Prim.Native.Nat.{ℕ, _+_, _-_, _*_, _/_, _%_, _^_, _≤_, _<_}
+use mathlib.Core.Path.{_≡_, refl, _∙_}
+use mathlib.Core.Bool.{Bool, true, false, _&&_, and-true}
+use mathlib.Core.List.{List, [], _∷_}
+use native.Mathlib.Nat.{zero-add, pow-suc}
+use native.Mathlib.Numerals.{add-one}
+use native.Mathlib.Omega.{arith}
+use borrow.Author.Tests.{lt-ltb, le-ltb}
+use lib.Dec.{leb, ltb, eqb}
+use lib.Pow.{pow-mono}
+use lib.Ieee.{Float, binary64}
+use Rattle.refusal.specs.Order.{if_then_else_}
+use Rattle.fmath.specs.Each.{at}
+use Rattle.fmath.specs.Finite.{+0}
+use Rattle.conformal.specs.Bits.{bit, bitsWhere}
+use Rattle.conformal.proofs.Bits.{bits-more, bits-below}
+use Rattle.envelope.specs.Derive.{kept}
+use Rattle.window.specs.declared.Trail.{Trail}
+use Rattle.tier1.specs.declared.Manifest.{Manifest}
+use Rattle.tier1.specs.declared.Kept.{Kept}
+use Rattle.tier1.specs.declared.Feature.{Feature}
+use Rattle.tier1.specs.declared.Pair.{Pair}
+use Rattle.tier1.specs.declared.SixFeatures.{SixFeatures}
+use Rattle.tier1.specs.declared.AllFeatures.{AllFeatures}
+use Rattle.tier1.specs.Rule.{shared, acmNeg, njr, reach, speedPeak, pathIneff, stall, overlap, boundaryAt, ifThere, boundary, boundaryBits, moving, validAt, valueAt, twelve}
+use Rattle.tier1.specs.Of.{featureFrom, pairFrom, metFrom, boundaryFrom, gatheredFrom, twelveFrom}
+
+-- ---- of a chunk
+
+pub weights-are : (l h n : ℕ) {a b c d e : ℕ} → a ≡ (if leb 2 l then 1 else 0) → b ≡ (if leb 2 l then 2 else 0) → c ≡ (if leb 2 h then 4 else 0) → d ≡ (if leb 4 h then 8 else 0) → e ≡ (if ltb 0 n then 16 else 0)
+    → a + b + c + d + e + 32 ≡ bitsWhere (boundaryAt l h n) 6
+unfolding bitsWhere
+weights-are l h n p q r s t = rw (p, q, r, s, t) (rw zero-add)
+
+both-first : (a b c : Bool) → (a && b) && c ≡ a && (b && c)
+both-first true b c = refl
+both-first false b c = refl
+
+module _ (m : Manifest) (k : Kept) (a p : List Float) (t h : ℕ) (b : List Float) where
+  pub bits-are : {l n v : ℕ} → l ≡ overlap k t h (m .dim) → n ≡ shared m p → v ≡ bitsWhere (boundaryAt l h n) 6 → v ≡ boundaryBits m k p t h
+  unfolding boundaryBits
+  bits-are e g i = i ∙ rw (e, g)
+
+  pub boundary-is : {v : ℕ} {u : Pair} {w x y z : Feature} → v ≡ boundaryBits m k p t h
+      → u ≡ metFrom m k a t b h
+      → w ≡ featureFrom (ifThere (leb 2 h) (acmNeg binary64 m b h))
+      → x ≡ featureFrom (ifThere (leb 4 h) (njr binary64 m b h))
+      → y ≡ featureFrom (ifThere (ltb 0 (shared m p)) (reach binary64 m p b))
+      → z ≡ featureFrom (speedPeak binary64 m p b h)
+      → _≡_ {A = SixFeatures} (record { held = u .first ∷ u .second ∷ w .at ∷ x .at ∷ y .at ∷ z .at ∷ []; valid = v; sound = u .sound && (w .sound && (x .sound && (y .sound && z .sound))) })
+      (boundaryFrom (boundary binary64 m k a p t h b) (boundaryBits m k p t h))
+  unfolding boundary
+  boundary-is ev eu ew ex ey ez = rw (ev, eu, ew, ex, ey, ez, and-true, both-first)
+
+-- ---- of a tick
+
+module _ (held len ext j : ℕ) where
+  pub valid-held : (w : ℕ) → j < 6 → w ≡ 2 ^ j → eqb (held / w % 2) 1 ≡ validAt held len ext j
+  unfolding validAt bit
+  valid-held w h e = rw (lt-ltb j 6 h, e)
+
+  pub valid-trail : 6 ≤ j → j < 8 → leb 20 len ≡ validAt held len ext j
+  unfolding validAt
+  valid-trail g h = rw (le-ltb j 6 g, lt-ltb j 8 h)
+
+  pub valid-lent : 6 ≤ j → 8 ≤ j → ltb (j - 8) ext ≡ validAt held len ext j
+  unfolding validAt
+  valid-lent g h = rw (le-ltb j 6 g, le-ltb j 8 h)
+
+module _ (held trail ext : List Float) (j : ℕ) (on : Bool) where
+  pub not-valid : on ≡ false → +0 ≡ kept on (valueAt held trail ext j)
+  not-valid e = rw e
+
+  module _ (e : on ≡ true) where
+    pub value-held : j < 6 → at held j ≡ kept on (valueAt held trail ext j)
+    unfolding valueAt
+    value-held h = rw (e, lt-ltb j 6 h)
+
+    pub value-trail : 6 ≤ j → j < 8 → at trail (j - 6) ≡ kept on (valueAt held trail ext j)
+    unfolding valueAt
+    value-trail g h = rw (e, le-ltb j 6 g, lt-ltb j 8 h)
+
+    pub value-lent : 6 ≤ j → 8 ≤ j → {x : Float} → x ≡ at ext (j - 8) → x ≡ kept on (valueAt held trail ext j)
+    unfolding valueAt
+    value-lent g h i = rw (e, le-ltb j 6 g, le-ltb j 8 h) i
+
+-- one turn of a loop that adds the weights of the first twelve bits up
+pub record Turned (p : ℕ → Bool) (j v w x : ℕ) : Type 0 where
+  pub so-far : v + x ≡ bitsWhere p (j + 1)
+  pub next : w * 2 ≡ 2 ^ (j + 1)
+  pub small : v + x < 4096
+  pub low : w ≤ 2048
+
+pub turn : (p : ℕ → Bool) (j v w x : ℕ) {t : Bool} → j < 12 → v ≡ bitsWhere p j → w ≡ 2 ^ j → t ≡ p j → x ≡ (if t then w else 0) → Turned p j v w x
+turn p j v w x l ev ew et ex =
+    let s : v + x ≡ bitsWhere p (j + 1) = bits-more p j v w x ev ew (rw et at ex) in
+    let b = bits-below p (j + 1) in
+    let m : 2 ^ (j + 1) ≤ 2 ^ 12 = pow-mono {j = 12} (omega arith) in
+    let n : 2 ^ j ≤ 2 ^ 11 = pow-mono {j = 11} (omega arith) in
+    record {
+      so-far = s;
+      next = rw (add-one, pow-suc, ew);
+      small = omega arith;
+      low = omega arith;
+    }
+
+module _ (m : Manifest) (t : Trail) (held : List Float) (hv : ℕ) (ext : List Float) where
+  pub twelve-is : {x : Pair} {r : AllFeatures} → x ≡ pairFrom (ifThere (leb 20 (t .len)) (pathIneff binary64 m t)) (ifThere (leb 20 (t .len)) (stall binary64 m t))
+      → r ≡ gatheredFrom held hv (t .len) (x .first ∷ x .second ∷ []) (x .sound) ext → r ≡ twelveFrom (twelve binary64 m t held hv ext)
+  unfolding twelve moving
+  twelve-is e g = g ∙ rw (e, and-true, and-true)

@@ -1,0 +1,47 @@
+-- `tier1::features_refusal` meets its contract: the lowest number of all arguments.
+use denote.Ref.{now}
+use Rattle.tier1.proofs.Ready.{judged-is}
+use borrow.Author.Needs.{needs}
+use Rattle.tier1.proofs.features_refusal.Statement.{statement}
+use Rattle.tier1.proofs.features_refusal.Tie as tie
+
+config-refusal-requires : tie.Need-config-refusal-requires
+config-refusal-requires c κs = search needs
+
+new-refusal-requires : tie.Need-new-refusal-requires
+new-refusal-requires c κs = search needs
+
+state-refusal-requires : tie.Need-state-refusal-requires
+state-refusal-requires c κs = search needs
+
+not-finite-requires : tie.Need-not-finite-requires
+not-finite-requires c κs = search needs
+
+number-if-requires : tie.Need-number-if-requires
+number-if-requires c κs = search needs
+
+lower-requires : tie.Need-lower-requires
+lower-requires c κs = search needs
+
+lower-requires-2 : tie.Need-lower-requires-2
+lower-requires-2 c κs = search needs
+
+lower-requires-3 : tie.Need-lower-requires-3
+lower-requires-3 c κs = search needs
+
+returns : tie.Need-returns
+returns c = let g = c .before .before .before .before .before .before .before .before .before .before .before .args in judged-is (g .c) (now (g .pos)) (now (g .ext)) (g .there) (g .k) (now (g .rows)) (g .rt) (g .sc) (c .before .before .before .before .before .before .before .config-refusal .ensures) (c .before .before .before .before .before .before .new-refusal .ensures) (c .before .before .before .before .before .state-refusal .ensures) (c .before .before .before .before .not-finite .ensures) (c .before .before .before .number-if .ensures) (c .before .before .lower .ensures) (c .before .lower2 .ensures) (c .lower3 .ensures)
+
+pub features-refusal-spec : {M : Type 1} → statement M
+features-refusal-spec =
+    tie.close
+    (tie.spec
+    config-refusal-requires
+    new-refusal-requires
+    state-refusal-requires
+    not-finite-requires
+    number-if-requires
+    lower-requires
+    lower-requires-2
+    lower-requires-3
+    returns)

@@ -1,0 +1,4 @@
+pub mod Rule
+pub mod Refusals
+pub mod Of
+pub mod Worked
