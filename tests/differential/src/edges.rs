@@ -128,7 +128,7 @@ fn sizes() -> Vec<Condition> {
 }
 
 fn above_zero() -> Vec<Condition> {
-    const ALONE: [(&str, Number); 10] = [
+    const ALONE: [(&str, Number); 9] = [
         ("brake dt", |c| &mut c.brake.dt),
         ("k_v", |c| &mut c.brake.k_v),
         ("v_max", |c| &mut c.v_max),
@@ -137,7 +137,6 @@ fn above_zero() -> Vec<Condition> {
         ("reach_max", |c| &mut c.reach_max),
         ("contact v_max", |c| &mut zone(c).v_max),
         ("calibration scale[0]", |c| &mut c.cal.scale[0]),
-        ("calibration scale[95]", |c| &mut c.cal.scale[95]),
         ("calibration scale[191]", |c| &mut c.cal.scale[191]),
     ];
     const INVERTED: [(&str, Number); 3] = [
@@ -150,7 +149,8 @@ fn above_zero() -> Vec<Condition> {
     let alone = [&BAD[..], &[(TINY, 0), (1.0, 0), (NEARLY_MAX, 0), (MAX, 0)]].concat();
     // one step above 0 the inverse is infinite
     let inverted = [&BAD[..], &[(TINY, 2), (1.0, 0), (NEARLY_MAX, 0), (MAX, 0)]].concat();
-    [each("isn't finite and above 0", &ALONE, &alone), each("isn't finite and above 0", &INVERTED, &inverted)].concat()
+    let words = "isn't finite and above 0";
+    [each(words, &ALONE, &alone), each(words, &INVERTED, &inverted)].concat()
 }
 
 fn not_below_zero() -> Vec<Condition> {
@@ -161,15 +161,15 @@ fn not_below_zero() -> Vec<Condition> {
     let alone = [&NEAR[..], &[(1.0, 0), (NEARLY_MAX, 0), (MAX, 0)]].concat();
     // the box of -1..1 is turned over by a margin above 1
     let margin = [&NEAR[..], &[(1.0, 0), (NEARLY_MAX, 2), (MAX, 2)]].concat();
-    [each("isn't finite or is below 0", &ALONE, &alone), each("isn't finite or is below 0", &MARGIN, &margin)].concat()
+    let words = "isn't finite or is below 0";
+    [each(words, &ALONE, &alone), each(words, &MARGIN, &margin)].concat()
 }
 
 fn finite() -> Vec<Condition> {
-    const FREE: [(&str, Number); 6] = [
+    const FREE: [(&str, Number); 5] = [
         ("norm_center[0]", |c| &mut c.norm_center[0]),
         ("norm_center[1]", |c| &mut c.norm_center[1]),
         ("calibration center[0]", |c| &mut c.cal.center[0]),
-        ("calibration center[95]", |c| &mut c.cal.center[95]),
         ("calibration center[191]", |c| &mut c.cal.center[191]),
         ("tau", |c| &mut c.cal.tau),
     ];
@@ -290,6 +290,27 @@ fn unread() -> Vec<Condition> {
         with("(dim, pos_dim) without an inverse of norm_scale[2]", |c| &mut c.norm_scale[2], NO_INVERSE[1], DIMS),
     ]);
     all
+}
+
+/// Each entry of an array broken alone, all of them counted.
+fn every_entry() -> Vec<Condition> {
+    type Entry = fn(&mut FuseConfig, usize);
+    let broken = |words: &'static str, field: &'static str, n: usize, due: u8, entry: Entry| {
+        let set = |c: &mut FuseConfig, i: usize| ((c.dim, c.pos_dim) = (8, 8), entry(c, i)).1;
+        at(words, field, set, &(0..n).map(|i| (i, due)).collect::<Vec<_>>())
+    };
+    vec![
+        broken("every counted term is judged", "terms with bit 12", 8, 1, |c, i| c.cal.terms[i] = 1 << 12),
+        broken("every entry to pos_dim is judged", "box_lo as NaN", 8, 2, |c, i| c.box_lo[i] = NAN),
+        broken("every entry to pos_dim is judged", "box_hi as NaN", 8, 2, |c, i| c.box_hi[i] = NAN),
+        broken("every entry to pos_dim is judged", "box_lo above box_hi", 8, 2, |c, i| c.box_lo[i] = OVER_1),
+        broken("every entry to dim is judged", "norm_center as NaN", 8, 2, |c, i| c.norm_center[i] = NAN),
+        broken("every entry to dim is judged", "norm_scale as 0", 8, 2, |c, i| c.norm_scale[i] = 0.0),
+        broken("every entry to dim is judged", "norm_scale as 2^-1024", 8, 2, |c, i| c.norm_scale[i] = NO_INVERSE[1]),
+        broken("every calibration entry is judged", "center as infinite", 192, 2, |c, i| c.cal.center[i] = INF),
+        broken("every calibration entry is judged", "scale as 0", 192, 2, |c, i| c.cal.scale[i] = 0.0),
+        broken("every calibration entry is judged", "scale as NaN", 192, 2, |c, i| c.cal.scale[i] = NAN),
+    ]
 }
 
 fn steps() -> Vec<Condition> {
@@ -460,6 +481,7 @@ fn table() -> Vec<Condition> {
         derived(),
         turned_over(),
         unread(),
+        every_entry(),
         steps(),
         channels(),
         unarmed(),

@@ -1,5 +1,6 @@
 //! Runs the table of edges and every entry, or those that are named, and says what was compared. DIFF_SEED, DIFF_CALLS
-//! and DIFF_SECONDS (for each entry) change the run. `sample FILE` writes the fixed sample of the Rust's answers instead.
+//! and DIFF_SECONDS (for each entry) change the run. `sample FILE` writes the fixed sample of the Rust's answers
+//! instead.
 
 use std::{
     env, fs,
