@@ -83,7 +83,7 @@ static void configuration(void) {
     c.dim = c.pos_dim = c.substeps = 1;
     EXPECT(lictor_derive(&n, &c, center, scale, &d) == LICTOR_ACCEPTED);
     EXPECT(d.inv_dt3 == 8.0 && d.step_max == 0.5 && d.box_lo[0] == -0.75 && d.box_hi[0] == 1.75 && d.norm_scale_iso == 1.0);
-    c.mask = 4096, c.terms[0] = UINT64_MAX;
+    c.mask = 4096, c.n_terms = 9, c.terms[0] = UINT64_MAX, n.tau = NAN;
     EXPECT(lictor_derive(&n, &c, center, scale, &d) == LICTOR_ACCEPTED);
     c.calibrated = 1;
     EXPECT(lictor_derive(&n, &c, center, scale, &d) == LICTOR_BAD_CODE);

@@ -1,5 +1,6 @@
 //! The port, the published Rust and the model of document 01 on the same generated inputs.
 
+pub mod edges;
 pub mod entries;
 pub mod input;
 pub mod linked;

@@ -1,5 +1,6 @@
-//! Runs every entry, or those that are named, and says what was compared. DIFF_SEED, DIFF_CALLS and DIFF_SECONDS (for
-//! each entry) change the run. `sample FILE` writes the fixed sample of the Rust's answers instead.
+//! Runs the table of edges and every entry, or those that are named, and says what was compared. DIFF_SEED, DIFF_CALLS
+//! and DIFF_SECONDS (for each entry) change the run. `sample FILE` writes the fixed sample of the Rust's answers
+//! instead.
 
 use std::{
     env, fs,
@@ -11,7 +12,7 @@ use std::{
 };
 
 use differential::{
-    entries, linked,
+    edges, entries, linked,
     run::{Budget, Report, Task},
     sample,
 };
@@ -37,15 +38,21 @@ fn main() -> ExitCode {
         calls: variable("DIFF_CALLS", 1_000_000),
         time: Duration::from_secs(variable("DIFF_SECONDS", 60)),
     };
-    let mut tasks = entries::all(&linked::port());
-    tasks.retain(|t| named.is_empty() || named.iter().any(|n| n == t.name));
+    let asked = |name: &str| named.is_empty() || named.iter().any(|n| n == name);
+    let port = linked::port();
+    let mut tasks = entries::all(&port);
+    tasks.retain(|t| asked(t.name));
     let (calls, seconds) = (budget.calls, budget.time.as_secs());
     println!("differential: seed {}, for each entry {calls} calls or {seconds} s, whichever is less", budget.seed);
     say_linked(&tasks);
+    let mut failures = Vec::new();
+    if asked("edges") {
+        edges::check(&port).map_or_else(|wrong| failures.push(wrong), |said| println!("{said}"));
+    }
     let start = Instant::now();
     let reports = run_all(tasks, &budget);
     println!("{} s in all on {THREADS} threads", start.elapsed().as_secs());
-    let failures: Vec<&String> = reports.iter().filter_map(|r| r.failure.as_ref()).collect();
+    failures.extend(reports.into_iter().filter_map(|r| r.failure));
     for text in &failures {
         println!("FAILED: {text}");
     }

@@ -2,7 +2,7 @@
 
 use std::time::Duration;
 
-use differential::{entries, port::Port, run::Budget};
+use differential::{edges, entries, port::Port, run::Budget};
 use model::{
     brake, chunk::action, fmath::min, BrakeKind, BrakeOut, Calibration, ChunkView, FuseConfig, Refusal, Scores,
 };
@@ -137,5 +137,46 @@ fn limits_that_trip_when_touched() {
     ];
     for check in ports {
         failure(Port { check_chunk: Some(check), ..Port::default() }, "check_chunk");
+    }
+}
+
+/// A judging of another configuration than the one that is given.
+macro_rules! judged {
+    ($change:expr) => {
+        |cfg: &FuseConfig| {
+            let change: fn(&mut FuseConfig) = $change;
+            let mut other = *cfg;
+            change(&mut other);
+            model::envelope::derive(&other)
+        }
+    };
+}
+
+fn steps_first(cfg: &FuseConfig) -> Result<model::Derived, Refusal> {
+    match cfg.brake.substeps {
+        0 => Err(Refusal { number: 3, place: 0 }),
+        _ => model::envelope::derive(cfg),
+    }
+}
+
+#[test]
+fn edges_that_are_moved() {
+    let ports: [(differential::port::Derive, &str); 12] = [
+        (judged!(|c| c.brake.k_p = c.brake.k_p.next_down()), "is below 0: k_p as 0.0: 0 is due"),
+        (judged!(|c| c.brake.k_v = c.brake.k_v.next_up()), "above 0: k_v as 0.0: 2 is due"),
+        (judged!(|c| c.cal.tau = 0.0), "isn't finite: tau as NaN: 2 is due"),
+        (judged!(|c| c.calibrated = true), "flag, with horizon_ticks 0 as false: 0 is due"),
+        (judged!(|c| c.dim = c.dim.max(3)), "are unread: norm_scale[2] as NaN: 0 is due"),
+        (judged!(|c| c.cal.n_terms += (c.cal.n_terms == 7) as u8), "bit 12 in terms[7] as 7: 0 is due"),
+        (judged!(|c| c.box_hi = c.box_hi.map(|x| x + c.margin + c.margin)), "margin in -1..1 as 1.0000000000000002: 2"),
+        (judged!(|c| c.box_lo = c.box_lo.map(f64::next_up)), "exceeds its box_hi: box_lo[0] below 1 as 1.0: 0 is due"),
+        (judged!(|c| c.brake.brake_steps |= 1), "over 4,096: (commit, brake_steps, substeps) as (64, 0, 64): 0 is due"),
+        (judged!(|c| c.brake.brake_steps &= 4095), "substeps) as (0, 32768, 2): 3 is due"),
+        (judged!(|c| c.contact = c.contact.filter(|_| c.armed & model::CONTACT != 0)), "equal channels as 0: 4 is due"),
+        (steps_first, "[dim, dt, substeps, a1] as [false, true, true, false]: 2 is due"),
+    ];
+    for (derive, row) in ports {
+        let text = edges::check(&Port { derive: Some(derive), ..Port::default() }).expect_err(row);
+        assert!(text.contains(row) && !text.contains("the model's"), "{row} is not among {text}");
     }
 }
