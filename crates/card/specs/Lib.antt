@@ -1,0 +1,4 @@
+pub mod Record
+pub mod Desk
+pub mod Text
+pub mod Block
