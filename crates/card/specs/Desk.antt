@@ -6,7 +6,6 @@ use lib.Dec.{eqb}
 use lib.ListN.{length, replicate}
 use lib.Ieee.{Float, binary64, ofBits, toBits}
 use Rattle.refusal.specs.Order.{if_then_else_}
-use Rattle.refusal.specs.declared.Refusal.{Refusal}
 use Rattle.fmath.specs.Finite.{+0}
 use Rattle.conformal.specs.declared.Calibration.{Calibration}
 use Rattle.envelope.specs.Derive.{one}
@@ -92,10 +91,10 @@ slacksOf c l = forecastSlacks (configOf c) (num (c .p) ∷ []) (num (c .v) ∷ [
 -- ---- the answer
 
 -- a refusal's count: place minus 1 for 13, else 0
-unfoldable pub countOf : Refusal → ℕ
-countOf r = if eqb (r .number) 13 then r .place - 1 else 0
+unfoldable pub countOf : ℕ → ℕ → ℕ
+countOf number place = if eqb number 13 then place - 1 else 0
 
 -- the numbers of a line, with the bits of the margin and of the stop distance
 unfoldable pub answerFor : BrakeOut → Answer
 answerFor (Accepted n margin feasible stop) = record { number = 0; count = n; margin = toBits binary64 margin; stop = toBits binary64 stop }
-answerFor (Refused r) = record { number = r .number; count = countOf r; margin = 0; stop = 0 }
+answerFor (Refused r) = record { number = r .number; count = countOf (r .number) (r .place); margin = 0; stop = 0 }

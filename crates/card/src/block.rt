@@ -85,10 +85,11 @@ fn fits(room: usize, bytes: usize, first: u64) -> bool
 pub fn answer_block(input: &[u8], first: u64, out: &mut [u8]) -> Answered
     ensures { λ r. ⌜ (r ≡ answeredFor first (now (input .entry)) (length (now (out .entry)))) × (now (out .exit) ≡ outFor first (now (input .entry)) (now (out .entry))) × (r .bytes ≤ length (now (out .exit))) ⌝ }
 {
-    if !fits(out.len(), input.len(), first) {
-        return Answered { bytes: 0, next: 0 };
+    if fits(out.len(), input.len(), first) {
+        let bytes = put_text(out, input, first);
+        let next = first + (input.len() / 96) as u64;
+        Answered { bytes, next }
+    } else {
+        Answered { bytes: 0, next: 0 }
     }
-    let bytes = put_text(out, input, first);
-    let next = first + (input.len() / 96) as u64;
-    Answered { bytes, next }
 }

@@ -1,5 +1,6 @@
 // A card as a configuration, its forecast, and what the desk is answered.
 ghost use mathlib.Core.Path.{_≡_};
+ghost use Prim.Native.Nat.{_-_};
 ghost use lib.ListN.{length, replicate};
 ghost use Rattle.envelope.specs.Derive.{one};
 ghost use Rattle.card.specs.Desk.{calibrationOf, brakeOf, wallsOf, limitsOf, normOf, configOf, outcomeOf, slacksOf, countOf, answerFor};
@@ -150,15 +151,17 @@ pub fn run(c: Card, slack: &mut [f64]) -> BrakeOut
 
 // ---- the answer
 
-// How many entries a refusal leaves written: those before the place of a computed number, else none.
-fn written(r: Refusal) -> u64
-    ensures { λ k. ⌜ k ≡ countOf r ⌝ }
+fn before(place: usize) -> u64
+    ensures { λ r. ⌜ r ≡ place - 1 ⌝ }
 {
-    if (r.number == Refusal::COMPUTED) & (0 < r.place) {
-        (r.place - 1) as u64
-    } else {
-        0
-    }
+    if 0 < place { (place - 1) as u64 } else { 0 }
+}
+
+// How many entries a refusal leaves written: those before the place of a computed number, else none.
+fn written(number: u8, place: usize) -> u64
+    ensures { λ r. ⌜ r ≡ countOf number place ⌝ }
+{
+    if number == Refusal::COMPUTED { before(place) } else { 0 }
 }
 
 // What the desk is answered.
@@ -179,7 +182,7 @@ pub fn answer_of(o: BrakeOut) -> Answer
         },
         BrakeOut::Refused(r) => Answer {
             number: r.number as u64,
-            count: written(r),
+            count: written(r.number, r.place),
             margin: 0,
             stop: 0,
         },

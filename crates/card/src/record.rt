@@ -24,11 +24,17 @@ pub struct Card {
     pub from: u16,
 }
 
+fn wide(b: u8) -> u64
+    ensures { λ r. ⌜ (r ≡ b) × (r < 256) ⌝ }
+{
+    b as u64
+}
+
 // Byte i, 0 where there is none.
 fn byte(b: &[u8], i: usize) -> u64
     ensures { λ r. ⌜ (r ≡ getD (now (b .entry)) i 0) × (r < 256) ⌝ }
 {
-    if i < b.len() { b[i] as u64 } else { 0 }
+    if i < b.len() { wide(b[i]) } else { 0 }
 }
 
 // The number that two bytes from at on spell, the least first.
