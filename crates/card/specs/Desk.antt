@@ -24,7 +24,6 @@ use Rattle.brake.specs.declared.BrakeOut.the-variants.{Accepted, Refused}
 use Rattle.card.specs.declared.record.Card.{Card}
 use Rattle.card.specs.declared.desk.Answer.{Answer}
 
-
 -- a card's number, whose pattern it keeps
 abbrev pub num : ℕ → Float
 num b = ofBits binary64 b

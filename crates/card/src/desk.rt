@@ -4,12 +4,12 @@ ghost use Prim.Native.Nat.{_-_};
 ghost use lib.ListN.{length, replicate};
 ghost use Rattle.envelope.specs.Derive.{one};
 ghost use Rattle.card.specs.Desk.{calibrationOf, brakeOf, wallsOf, limitsOf, normOf, configOf, outcomeOf, slacksOf, countOf, answerFor};
-use brake::BrakeOut;
-use conformal::Calibration;
-use conformal::GateSpec;
 use crate::record::Card;
 use crate::record::number;
 use crate::record::pattern;
+use brake::BrakeOut;
+use conformal::Calibration;
+use conformal::GateSpec;
 use envelope::ActionKind;
 use envelope::Box;
 use envelope::BrakeKind;
@@ -161,7 +161,11 @@ fn before(place: usize) -> u64
 fn written(number: u8, place: usize) -> u64
     ensures { λ r. ⌜ r ≡ countOf number place ⌝ }
 {
-    if number == Refusal::COMPUTED { before(place) } else { 0 }
+    if number == Refusal::COMPUTED {
+        before(place)
+    } else {
+        0
+    }
 }
 
 // What the desk is answered.

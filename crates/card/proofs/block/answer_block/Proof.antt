@@ -1,3 +1,4 @@
+-- `card::block::answer_block` meets its contract: by whether the lines fit.
 use Rattle.card.proofs.Room.{roomy, fit, unfit}
 use Rattle.card.specs.Block.{fits}
 use denote.Ref.{now}
@@ -9,16 +10,10 @@ use mathlib.Core.Bool.{true}
 use borrow.Author.Needs.{needs}
 use Rattle.card.proofs.block.answer_block.Statement.{statement}
 use Rattle.card.proofs.block.answer_block.Tie as tie
-use Rattle.card.proofs.block.answer_block.Reads as reads
-use Rattle.card.proofs.block.answer_block.Lts as lts
-use Rattle.card.proofs.block.fits.Reads as fits-reads
-use Rattle.card.proofs.block.put_text.Reads as put-text-reads
 
--- src/block.rt:88:8
 fits-requires : tie.Need-fits-requires
 fits-requires c κs = search needs
 
--- src/block.rt:89:13
 put-text-requires : tie.Need-put-text-requires
 put-text-requires c κs =
     let s = c .before .before .before .before .before in
@@ -26,7 +21,6 @@ put-text-requires c κs =
     let h : fits (length (now (s .args .out))) (length (now (s .args .input))) (s .args .first) ≡ true = sym (c .before .before .fits2 .ensures) ∙ c .before .if1 .taken in
     roomy (length (now (s .args .out))) (length (now (s .args .input))) (s .args .first) small h
 
--- src/block.rt:90:20
 add-next : tie.Need-add-next
 add-next c =
     let s = c .before .before .before .before .before .before .before .before in
@@ -34,11 +28,9 @@ add-next c =
     let h : fits (length (now (s .args .out))) (length (now (s .args .input))) (s .args .first) ≡ true = sym (c .before .before .before .before .before .fits2 .ensures) ∙ c .before .before .before .before .if1 .taken in
     omega (arith, roomy (length (now (s .args .out))) (length (now (s .args .input))) (s .args .first) small h .1)
 
--- src/block.rt:85:1
 same-length : tie.Need-same-length
 same-length c = search needs
 
--- src/block.rt:85:1
 returns : tie.Need-returns
 returns c =
     let s = c .before .before .before .before .before .before .before .before in
@@ -46,7 +38,6 @@ returns c =
     let h : fits (length (now (s .args .out))) (length (now (s .args .input))) (s .args .first) ≡ true = sym (c .before .before .before .before .before .fits2 .ensures) ∙ c .before .before .before .before .if1 .taken in
     fit (s .args .first) (now (s .args .input)) small h (c .before .before .put-text .ensures)
 
--- src/block.rt:85:1
 returns-2 : tie.Need-returns-2
 returns-2 c =
     let s = c .before .before .before .before in unfit (s .args .first) (now (s .args .input)) (now (s .args .out)) (sym (c .before .fits2 .ensures) ∙ c .if1 .left)

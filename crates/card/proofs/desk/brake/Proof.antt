@@ -1,24 +1,18 @@
+-- `card::desk::brake` meets its contract: each number is its pattern's.
 use Rattle.card.specs.Desk.{brakeOf}
 use borrow.Author.Needs.{needs}
 use Rattle.card.proofs.desk.brake.Statement.{statement}
 use Rattle.card.proofs.desk.brake.Tie as tie
-use Rattle.card.proofs.desk.brake.Reads as reads
-use Rattle.card.proofs.desk.brake.Lts as lts
-use Rattle.card.proofs.record.number.Reads as number-reads
 
--- src/desk.rt:95:9
 number-requires : tie.Need-number-requires
 number-requires c κs = search needs
 
--- src/desk.rt:96:9
 number-requires-2 : tie.Need-number-requires-2
 number-requires-2 c κs = search needs
 
--- src/desk.rt:97:9
 number-requires-3 : tie.Need-number-requires-3
 number-requires-3 c κs = search needs
 
--- src/desk.rt:92:1
 returns : tie.Need-returns
 unfolding brakeOf
 returns c = rw (c .number3 .ensures, c .before .number2 .ensures, c .before .before .number .ensures)

@@ -1,12 +1,10 @@
-use mathlib.Core.Path.{_≡_, refl, sym}
+-- `card::desk::limits` meets its contract: the numbers as they stand.
+use mathlib.Core.Path.{refl}
 use Rattle.card.specs.Desk.{limitsOf}
 use lib.Ieee.{ofBits}
 use Rattle.card.proofs.desk.limits.Statement.{statement}
 use Rattle.card.proofs.desk.limits.Tie as tie
-use Rattle.card.proofs.desk.limits.Reads as reads
-use Rattle.card.proofs.desk.limits.Lts as lts
 
--- src/desk.rt:57:1
 returns : tie.Need-returns
 unfolding limitsOf ofBits
 returns c = refl

@@ -1,12 +1,10 @@
-use mathlib.Core.Path.{_≡_, refl, sym}
+-- `card::desk::norm` meets its contract: the numbers as they stand.
+use mathlib.Core.Path.{refl}
 use Rattle.card.specs.Desk.{normOf}
 use lib.Ieee.{ofBits}
 use Rattle.card.proofs.desk.norm.Statement.{statement}
 use Rattle.card.proofs.desk.norm.Tie as tie
-use Rattle.card.proofs.desk.norm.Reads as reads
-use Rattle.card.proofs.desk.norm.Lts as lts
 
--- src/desk.rt:70:1
 returns : tie.Need-returns
 unfolding normOf ofBits
 returns c = refl

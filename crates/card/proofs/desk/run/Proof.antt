@@ -1,67 +1,49 @@
+-- `card::desk::run` meets its contract: the forecast is asked what the rule asks.
 use denote.Ref.{now}
 use Rattle.card.proofs.Asked.{ran}
 use borrow.Author.Needs.{needs}
 use Rattle.card.proofs.desk.run.Statement.{statement}
 use Rattle.card.proofs.desk.run.Tie as tie
-use Rattle.card.proofs.desk.run.Reads as reads
-use Rattle.card.proofs.desk.run.Lts as lts
-use Rattle.brake.proofs.brake_feasible.Reads as brake-feasible-reads
-use Rattle.card.proofs.desk.configure.Reads as configure-reads
-use Rattle.card.proofs.record.number.Reads as number-reads
 
--- src/desk.rt:140:9
 configure-requires : tie.Need-configure-requires
 configure-requires c κs = search needs
 
--- src/desk.rt:141:14
 number-requires : tie.Need-number-requires
 number-requires c κs = search needs
 
--- src/desk.rt:142:14
 number-requires-2 : tie.Need-number-requires-2
 number-requires-2 c κs = search needs
 
--- src/desk.rt:143:9
 number-requires-3 : tie.Need-number-requires-3
 number-requires-3 c κs = search needs
 
--- src/desk.rt:144:9
 number-requires-4 : tie.Need-number-requires-4
 number-requires-4 c κs = search needs
 
--- src/desk.rt:145:9
 number-requires-5 : tie.Need-number-requires-5
 number-requires-5 c κs = search needs
 
--- src/desk.rt:146:9
 number-requires-6 : tie.Need-number-requires-6
 number-requires-6 c κs = search needs
 
--- src/desk.rt:148:35
 slice-aggregate-brake-feasible : tie.Need-slice-aggregate-brake-feasible
 slice-aggregate-brake-feasible c = search needs
 
--- src/desk.rt:148:39
 slice-aggregate-brake-feasible-2 : tie.Need-slice-aggregate-brake-feasible-2
 slice-aggregate-brake-feasible-2 c = search needs
 
--- src/desk.rt:148:43
 slice-aggregate-brake-feasible-3 : tie.Need-slice-aggregate-brake-feasible-3
 slice-aggregate-brake-feasible-3 c = search needs
 
--- src/desk.rt:148:59
 cast-brake-feasible : tie.Need-cast-brake-feasible
 cast-brake-feasible c = search needs
 
--- src/desk.rt:148:5
 brake-feasible-requires : tie.Need-brake-feasible-requires
 brake-feasible-requires c κs = search needs
 
--- src/desk.rt:137:1
 same-length : tie.Need-same-length
 same-length c = search needs
 
--- src/desk.rt:137:1
 returns : tie.Need-returns
 returns c = ran (c .before .before .before .before .before .before .before .before .before .before .before .before .before .before .before .before .args .c) (now (c .before .before .before .before .before .before .before .before .before .before .before .before .before .before .before .before .args .slack)) (c .before .before .before .before .before .before .before .before .before .before .before .before .before .before .configure .ensures) (c .before .before .before .before .before .before .before .before .before .before .before .before .before .number .ensures) (c .before .before .before .before .before .before .before .before .before .before .before .before .number2 .ensures) (c .before .before .before .before .before .before .before .before .before .before .before .number3 .ensures) (c .before .before .before .before .before .before .before .before .before .before .number4 .ensures) (c .before .before .before .before .before .before .before .before .before .number5 .ensures) (c .before .before .before .before .before .before .before .before .number6 .ensures) (c .before .before .brake-feasible .ensures)
 

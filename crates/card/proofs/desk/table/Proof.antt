@@ -1,11 +1,9 @@
-use mathlib.Core.Path.{_≡_, refl, sym}
+-- `card::desk::table` meets its contract: the numbers as they stand.
+use mathlib.Core.Path.{refl}
 use lib.Ieee.{ofBits}
 use Rattle.card.proofs.desk.table.Statement.{statement}
 use Rattle.card.proofs.desk.table.Tie as tie
-use Rattle.card.proofs.desk.table.Reads as reads
-use Rattle.card.proofs.desk.table.Lts as lts
 
--- src/desk.rt:35:1
 returns : tie.Need-returns
 unfolding ofBits
 returns c = refl

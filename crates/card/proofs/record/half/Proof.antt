@@ -1,34 +1,26 @@
+-- `card::record::half` meets its contract: two pairs side by side.
 use Rattle.card.proofs.Little.{four}
 use denote.Ref.{now}
 use native.Mathlib.Omega.{arith}
 use borrow.Author.Needs.{needs}
 use Rattle.card.proofs.record.half.Statement.{statement}
 use Rattle.card.proofs.record.half.Tie as tie
-use Rattle.card.proofs.record.half.Reads as reads
-use Rattle.card.proofs.record.half.Lts as lts
-use Rattle.card.proofs.record.pair.Reads as pair-reads
 
--- src/record.rt:49:9
 pair-requires : tie.Need-pair-requires
 pair-requires c κs = search needs
 
--- src/record.rt:50:24
 add-pair : tie.Need-add-pair
 add-pair c = search needs
 
--- src/record.rt:50:9
 pair-requires-2 : tie.Need-pair-requires-2
 pair-requires-2 c κs = search needs
 
--- src/record.rt:51:11
 mul-result : tie.Need-mul-result
 mul-result c = search needs
 
--- src/record.rt:51:5
 add-result : tie.Need-add-result
 add-result c = search needs
 
--- src/record.rt:45:1
 returns : tie.Need-returns
 returns c = let s = c .before .before .before in (omega (arith, four (now (s .args .b)) (s .args .at)), search needs)
 

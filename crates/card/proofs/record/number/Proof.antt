@@ -1,6 +1,7 @@
+-- `card::record::number` meets its contract: a pattern is a NaN's, or `from_bits` is defined there.
 use Prim.Native.Nat.{ℕ}
 use native.Mathlib.Omega.{arith}
-use mathlib.Core.Path.{_≡_, refl, sym, ap, _∙_}
+use mathlib.Core.Path.{_≡_, refl, sym, _∙_}
 use mathlib.Core.Bool.{Bool, true, false, not}
 use lib.Dec.{T}
 use lib.Ieee.{Float, nan, inf, fin, isNan, ofBits, nanBits, div, binary64}
@@ -8,8 +9,6 @@ use lib.Ieee.Bits.{nanBits-is}
 use borrow.Author.Needs.{needs}
 use Rattle.card.proofs.record.number.Statement.{statement}
 use Rattle.card.proofs.record.number.Tie as tie
-use Rattle.card.proofs.record.number.Reads as reads
-use Rattle.card.proofs.record.number.Lts as lts
 
 nan-of : (x : Float) → isNan x ≡ true → nan ≡ x
 unfolding isNan
@@ -21,17 +20,14 @@ none : (b : Bool) → b ≡ false → T (not b)
 none true h = let z : _≡_ {A = ℕ} 0 1 = cc in omega arith
 none false h = tt
 
--- src/record.rt:102:9
 returns : tie.Need-returns
 unfolding nanBits div ofBits
 returns c = nan-of (ofBits binary64 (c .before .args .bits)) (sym (nanBits-is binary64 (c .before .args .bits)) ∙ c .if1 .taken)
 
--- src/record.rt:104:5
 float-from-bits-result : tie.Need-float-from-bits-result
 unfolding nanBits
 float-from-bits-result c = none _ (c .if1 .left)
 
--- src/record.rt:96:1
 returns-2 : tie.Need-returns-2
 returns-2 c = search needs
 

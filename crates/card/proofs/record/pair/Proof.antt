@@ -1,34 +1,26 @@
+-- `card::record::pair` meets its contract: two bytes side by side.
 use Rattle.card.proofs.Little.{two}
 use denote.Ref.{now}
 use native.Mathlib.Omega.{arith}
 use borrow.Author.Needs.{needs}
 use Rattle.card.proofs.record.pair.Statement.{statement}
 use Rattle.card.proofs.record.pair.Tie as tie
-use Rattle.card.proofs.record.pair.Reads as reads
-use Rattle.card.proofs.record.pair.Lts as lts
-use Rattle.card.proofs.record.byte.Reads as byte-reads
 
--- src/record.rt:39:9
 byte-requires : tie.Need-byte-requires
 byte-requires c κs = search needs
 
--- src/record.rt:40:24
 add-byte : tie.Need-add-byte
 add-byte c = search needs
 
--- src/record.rt:40:9
 byte-requires-2 : tie.Need-byte-requires-2
 byte-requires-2 c κs = search needs
 
--- src/record.rt:41:11
 mul-result : tie.Need-mul-result
 mul-result c = search needs
 
--- src/record.rt:41:5
 add-result : tie.Need-add-result
 add-result c = search needs
 
--- src/record.rt:35:1
 returns : tie.Need-returns
 returns c = let s = c .before .before .before in (omega (arith, two (now (s .args .b)) (s .args .at)), search needs)
 

@@ -1,14 +1,12 @@
-use mathlib.Core.Path.{subst}
+-- `card::record::pattern` meets its contract: a float differs from itself and is a NaN, or `to_bits` is defined there.
+use mathlib.Core.Path.{subst, _≡_, sym, _∙_}
 use lib.Ieee.Compare.{differs-from-itself, nan-differs}
-use mathlib.Core.Path.{_≡_, refl, sym, ap, _∙_}
-use mathlib.Core.Bool.{Bool, true, false, not, true≢false}
+use mathlib.Core.Bool.{true, false, not, true≢false}
 use lib.Dec.{T}
-use lib.Ieee.{Float, nan, inf, fin, isNan, ne, eq, toBits, binary64}
+use lib.Ieee.{Float, nan, inf, fin, isNan, ne, toBits, binary64}
 use borrow.Author.Needs.{needs}
 use Rattle.card.proofs.record.pattern.Statement.{statement}
 use Rattle.card.proofs.record.pattern.Tie as tie
-use Rattle.card.proofs.record.pattern.Reads as reads
-use Rattle.card.proofs.record.pattern.Lts as lts
 
 -- a float that does not differ from itself is no NaN
 not-nan : (x : Float) → ne x x ≡ false → T (not (isNan x))
@@ -21,15 +19,12 @@ at-nan : (x : Float) → ne x x ≡ true → 9221120237041090560 ≡ toBits bina
 unfolding toBits
 at-nan x h = rw (differs-from-itself x (subst T (sym h) tt))
 
--- src/record.rt:112:9
 returns : tie.Need-returns
 returns c = at-nan (c .before .args .x) (c .if1 .taken)
 
--- src/record.rt:114:5
 float-to-bits-result : tie.Need-float-to-bits-result
 float-to-bits-result c = not-nan (c .before .args .x) (c .if1 .left)
 
--- src/record.rt:108:1
 returns-2 : tie.Need-returns-2
 returns-2 c = search needs
 

@@ -1,34 +1,26 @@
+-- `card::record::word` meets its contract: two halves side by side.
 use Rattle.card.proofs.Little.{eight}
 use denote.Ref.{now}
 use native.Mathlib.Omega.{arith}
 use borrow.Author.Needs.{needs}
 use Rattle.card.proofs.record.word.Statement.{statement}
 use Rattle.card.proofs.record.word.Tie as tie
-use Rattle.card.proofs.record.word.Reads as reads
-use Rattle.card.proofs.record.word.Lts as lts
-use Rattle.card.proofs.record.half.Reads as half-reads
 
--- src/record.rt:59:9
 half-requires : tie.Need-half-requires
 half-requires c κs = search needs
 
--- src/record.rt:60:24
 add-half : tie.Need-add-half
 add-half c = search needs
 
--- src/record.rt:60:9
 half-requires-2 : tie.Need-half-requires-2
 half-requires-2 c κs = search needs
 
--- src/record.rt:61:11
 mul-result : tie.Need-mul-result
 mul-result c = search needs
 
--- src/record.rt:61:5
 add-result : tie.Need-add-result
 add-result c = search needs
 
--- src/record.rt:55:1
 returns : tie.Need-returns
 returns c = let s = c .before .before .before in omega (arith, eight (now (s .args .b)) (s .args .at))
 
