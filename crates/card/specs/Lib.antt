@@ -2,3 +2,4 @@ pub mod Record
 pub mod Desk
 pub mod Text
 pub mod Block
+pub mod Worked
