@@ -1,0 +1,99 @@
+-- What the contracts of `card::desk` cite: document 01's configuration of a card, its forecast by module 7's rule, and what the desk is answered.
+use Prim.Native.Nat.{ℕ, _-_}
+use mathlib.Core.Bool.{false}
+use mathlib.Core.List.{List, [], _∷_}
+use lib.Dec.{eqb}
+use lib.ListN.{length, replicate}
+use lib.Ieee.{Float, binary64, ofBits, toBits}
+use Rattle.refusal.specs.Order.{if_then_else_}
+use Rattle.fmath.specs.Finite.{+0}
+use Rattle.conformal.specs.declared.Calibration.{Calibration}
+use Rattle.envelope.specs.Derive.{one}
+use Rattle.envelope.specs.declared.ActionKind.the-variants.{EePosition}
+use Rattle.envelope.specs.declared.ClampMode.the-variants.{Off}
+use Rattle.envelope.specs.declared.BrakeKind.the-variants.{PdSecondOrder}
+use Rattle.envelope.specs.declared.Contact.the-variants.{None}
+use Rattle.envelope.specs.declared.Limits.{Limits}
+use Rattle.envelope.specs.declared.Norm.{Norm}
+use Rattle.envelope.specs.declared.Box.{Box}
+use Rattle.envelope.specs.declared.BrakeModel.{BrakeModel}
+use Rattle.envelope.specs.declared.FuseConfig.{FuseConfig}
+use Rattle.brake.specs.Answer.{forecastAnswer, forecastSlacks}
+use Rattle.brake.specs.declared.BrakeOut.{BrakeOut}
+use Rattle.brake.specs.declared.BrakeOut.the-variants.{Accepted, Refused}
+use Rattle.card.specs.declared.record.Card.{Card}
+use Rattle.card.specs.declared.desk.Answer.{Answer}
+
+-- a card's number, whose pattern it keeps
+abbrev pub num : ℕ → Float
+num b = ofBits binary64 b
+
+-- ---- the configuration: what the card does not give is 1.0, the margin 0
+
+unfoldable pub calibrationOf : Calibration
+calibrationOf = record {
+  center = replicate 192 one;
+  scale = replicate 192 one;
+  mask = 0;
+  gate = record { «n_terms» = 0; terms = replicate 8 0 };
+  tau = one;
+}
+
+unfoldable pub limitsOf : Limits
+limitsOf = record { dt = one; «v_max» = one; «a_max» = one; «j_max» = one; «reach_max» = one; margin = +0 }
+
+unfoldable pub normOf : Norm
+normOf = record { center = replicate 8 one; scale = replicate 8 one }
+
+unfoldable pub wallsOf : Card → Box
+wallsOf c = record { lo = replicate 8 (num (c .lo)); hi = replicate 8 (num (c .hi)) }
+
+unfoldable pub brakeOf : Card → BrakeModel
+brakeOf c = record {
+  kind = PdSecondOrder (num (c .«k_p»)) (num (c .«k_v»)) (num (c .dt));
+  substeps = record { 0 = c .substeps };
+  commit = record { 0 = c .commit };
+  «brake_steps» = record { 0 = c .«brake_steps» };
+  «react_ticks» = 1;
+}
+
+-- one axis, the PD brake, no contact, no calibration, nothing armed
+unfoldable pub configOf : Card → FuseConfig
+configOf c = record {
+  kind = EePosition;
+  dim = 1;
+  «pos_dim» = 1;
+  limits = limitsOf;
+  norm = normOf;
+  walls = wallsOf c;
+  contact = None;
+  brake = brakeOf c;
+  clamp = Off;
+  armed = 0;
+  «aux_count» = 0;
+  calibrated = false;
+  calib = calibrationOf;
+  «horizon_ticks» = 1;
+}
+
+-- ---- the forecast, on a horizon of 4
+
+abbrev pub rowsOf : Card → List Float
+rowsOf c = num (c .row0) ∷ num (c .row1) ∷ num (c .row2) ∷ num (c .row3) ∷ []
+
+unfoldable pub outcomeOf : Card → ℕ → BrakeOut
+outcomeOf c room = forecastAnswer (configOf c) (num (c .p) ∷ []) (num (c .v) ∷ []) (rowsOf c) 4 1 1 (c .from) room
+
+unfoldable pub slacksOf : Card → List Float → List Float
+slacksOf c l = forecastSlacks (configOf c) (num (c .p) ∷ []) (num (c .v) ∷ []) (rowsOf c) 4 1 1 (c .from) l
+
+-- ---- the answer
+
+-- a refusal's count: place minus 1 for 13, else 0
+unfoldable pub countOf : ℕ → ℕ → ℕ
+countOf number place = if eqb number 13 then place - 1 else 0
+
+-- the numbers of a line, with the bits of the margin and of the stop distance
+unfoldable pub answerFor : BrakeOut → Answer
+answerFor (Accepted n margin feasible stop) = record { number = 0; count = n; margin = toBits binary64 margin; stop = toBits binary64 stop }
+answerFor (Refused r) = record { number = r .number; count = countOf (r .number) (r .place); margin = 0; stop = 0 }

@@ -1,0 +1,5 @@
+pub mod Record
+pub mod Desk
+pub mod Text
+pub mod Block
+pub mod Worked
