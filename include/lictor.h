@@ -263,6 +263,43 @@ uint64_t lictor_trip(const double center[192], const double scale[192], double t
 /* The time bin of tick t, of 16 over the horizon. LICTOR_STEPS for a horizon of 0 ticks. */
 uint64_t lictor_time_bin(uint32_t t, uint32_t horizon_ticks, uint64_t *bin);
 
+/* ---- the brake: whether the arm can still stop inside its box, and the rows that brake and hold */
+
+struct lictor_forecast_marks {
+    uint64_t count;    /* how many slacks are written */
+    uint64_t feasible; /* 1 where none of them is negative, else 0 */
+};
+
+struct lictor_forecast_reach {
+    double margin;    /* the least slack; infinity where there is none */
+    double stop_dist; /* how far the arm comes */
+};
+
+/* Forecasts from row `from` of a chunk through the committed rows and the braking after them. Writes the slacks in order, the
+   marks and the reach; the rest of the slacks stays. A refusal sets place: for LICTOR_COMPUTED it is the place of the first
+   number that isn't finite, counted from 1, and the slacks before it are written; for any other number it is 0.
+   LICTOR_BAD_CODE leaves place as it was. LICTOR_BAD_CODE, LICTOR_SIZE to LICTOR_COMPUTED. */
+uint64_t lictor_brake_feasible(const struct lictor_numbers *numbers, const struct lictor_counts *counts,
+                               const double center[192], const double scale[192], const double *position,
+                               size_t position_count, const double *velocity, size_t velocity_count, const double *rows,
+                               size_t rows_count, uint16_t horizon, uint16_t dim, uint16_t exec_steps, size_t from,
+                               double *slacks, size_t slacks_count, struct lictor_forecast_marks *marks,
+                               struct lictor_forecast_reach *reach, uint64_t *place);
+
+/* The row that brakes, over the first dim numbers of out: the position inside its box, or the velocity ramped down. A position
+   or velocity may be short: what is missing counts as 0. LICTOR_BAD_CODE, LICTOR_SIZE to LICTOR_CHANNELS, LICTOR_SHORT to
+   LICTOR_COMPUTED. */
+uint64_t lictor_brake_action(const struct lictor_numbers *numbers, const struct lictor_counts *counts,
+                             const double center[192], const double scale[192], const double *position,
+                             size_t position_count, const double *velocity, size_t velocity_count, double *out,
+                             size_t out_count);
+
+/* The row that holds, over the first dim numbers of out: the latched position inside its box, or no velocity.
+   LICTOR_BAD_CODE, LICTOR_SIZE to LICTOR_CHANNELS, LICTOR_SHORT, LICTOR_NOT_FINITE. */
+uint64_t lictor_hold_action(const struct lictor_numbers *numbers, const struct lictor_counts *counts,
+                            const double center[192], const double scale[192], const double *position,
+                            size_t position_count, double *out, size_t out_count);
+
 /* ---- the structs have nothing between their fields */
 
 #ifdef __cplusplus
@@ -276,6 +313,8 @@ LICTOR_ASSERT(sizeof(struct lictor_numbers) == 44 * sizeof(double), "44 numbers"
 LICTOR_ASSERT(sizeof(struct lictor_counts) == 26 * sizeof(uint64_t), "26 counts");
 LICTOR_ASSERT(sizeof(struct lictor_derived) == 29 * sizeof(double), "29 numbers");
 LICTOR_ASSERT(sizeof(struct lictor_check_marks) == 2 * sizeof(uint64_t), "2 counts");
+LICTOR_ASSERT(sizeof(struct lictor_forecast_marks) == 2 * sizeof(uint64_t), "2 counts");
+LICTOR_ASSERT(sizeof(struct lictor_forecast_reach) == 2 * sizeof(double), "2 numbers");
 LICTOR_ASSERT(sizeof(struct lictor_scores) == 25 * sizeof(double), "25 numbers");
 LICTOR_ASSERT(sizeof(struct lictor_marks) == 2 * sizeof(uint64_t), "2 counts");
 #undef LICTOR_ASSERT

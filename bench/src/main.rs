@@ -166,8 +166,10 @@ fn forecast(port: &Port, dim: usize) {
     let ch = inputs::chunk(dim, &data);
     let rust = calls(10, || brake::brake_feasible(black_box(&raw), &p, &v, oracle::chunk_view(ch), 0));
     let mut slacks = vec![0.0; 4096];
-    let (cfg, p, v) = (&cfg, &p, &v);
-    let ported = port.brake_feasible.map(|f| calls(10, move || f(black_box(cfg), p, v, ch, 0, &mut slacks)));
+    let (cfg, ch, p, v) = (linked::config(&cfg), linked::chunk_view(&ch), &p, &v);
+    let ported = port
+        .brake_feasible
+        .map(|_| calls(10, move || lictor::brake::brake_feasible(black_box(&cfg), p, v, ch, 0, &mut slacks)));
     line(&format!("forecast 4,096 substeps, axes: {dim}"), 10, Some(rust), ported);
 }
 

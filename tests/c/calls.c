@@ -126,6 +126,40 @@ static void checks(void) {
 #undef ACTION
 }
 
+/* document 01's cards F1, F2, F1 with hi 1.25, and F3; a place; and the rows that brake and hold */
+static void brakes(void) {
+    struct lictor_numbers n = {0};
+    struct lictor_counts c = {0};
+    struct lictor_forecast_marks m = {7, 7};
+    struct lictor_forecast_reach r = {7.0, 7.0};
+    const double still[1] = {0.0}, rows[4] = {1.0, 1.0, 1.0, 1.0}, far[1] = {5.0};
+    double slacks[5] = {7.0, 7.0, 7.0, 7.0, 7.0}, out[2] = {7.0, 7.0};
+    uint64_t place = 7;
+    n.dt = n.v_max = n.a_max = n.j_max = n.reach_max = n.norm_scale[0] = 1.0;
+    n.brake_k_p = 2.0, n.brake_k_v = 1.0, n.brake_dt = 0.5, n.box_lo[0] = -1.0, n.box_hi[0] = 2.0;
+    c.dim = c.pos_dim = 1, c.substeps = 2, c.commit = 1, c.brake_steps = 1, c.react_ticks = 1;
+#define FORECAST(from, room) \
+    lictor_brake_feasible(&n, &c, center, scale, still, 1, still, 1, rows, 4, 4, 1, 1, from, slacks, room, &m, &r, &place)
+    EXPECT(FORECAST(0, 5) == LICTOR_ACCEPTED && m.count == 4 && m.feasible == 1 && r.margin == 0.75 && r.stop_dist == 1.25);
+    EXPECT(slacks[0] == 1.5 && slacks[1] == 1.0 && slacks[2] == 0.75 && slacks[3] == 0.75 && slacks[4] == 7.0 && place == 7);
+    n.box_hi[0] = 1.0;
+    EXPECT(FORECAST(0, 5) == LICTOR_ACCEPTED && m.feasible == 0 && r.margin == -0.25 && slacks[1] == 0.0);
+    n.box_hi[0] = 1.25;
+    EXPECT(FORECAST(0, 5) == LICTOR_ACCEPTED && m.feasible == 1 && r.margin == 0.0);
+    c.brake_steps = 0;
+    EXPECT(FORECAST(1, 0) == LICTOR_ACCEPTED && m.count == 0 && m.feasible == 1 && r.margin == INFINITY && r.stop_dist == 0.0);
+    EXPECT(FORECAST(0, 1) == LICTOR_SHORT && place == 0 && m.count == 0 && slacks[0] == 0.75);
+    n.brake_k_p = 1e308;
+    EXPECT(FORECAST(0, 5) == LICTOR_COMPUTED && place == 2 && m.count == 0 && slacks[0] < -1e307 && slacks[1] == 0.25);
+#undef FORECAST
+    EXPECT(lictor_brake_action(&n, &c, center, scale, far, 1, still, 1, out, 2) == LICTOR_ACCEPTED && out[0] == 1.25 && out[1] == 7.0);
+    EXPECT(lictor_hold_action(&n, &c, center, scale, still, 0, out, 2) == LICTOR_ACCEPTED && out[0] == 0.0 && out[1] == 7.0);
+    c.kind = LICTOR_JOINT_VELOCITY;
+    EXPECT(lictor_brake_action(&n, &c, center, scale, still, 1, far, 1, out, 0) == LICTOR_SHORT && out[0] == 0.0);
+    c.kind = 5;
+    EXPECT(lictor_hold_action(&n, &c, center, scale, far, 1, out, 2) == LICTOR_BAD_CODE && out[0] == 0.0);
+}
+
 /* document 01: z (2,1), terms {0,1} and {0}: s = 2; tau 2 doesn't trip */
 static void gate(void) {
     const uint32_t terms[8] = {3, 1, 0, 0, 0, 0, 0, 0};
@@ -151,6 +185,7 @@ int main(void) {
     trails();
     configuration();
     checks();
+    brakes();
     gate();
     puts(failed ? "C calls: failed" : "C calls: as expected");
     return failed;

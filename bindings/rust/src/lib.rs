@@ -2,6 +2,7 @@
 //! gives what include/lictor.h asks of pointers. A refused call changes nothing that was lent, save that a forecast
 //! refused with 13 keeps the entries before its place.
 
+pub mod brake;
 pub mod chunk;
 pub mod config;
 pub mod conformal;

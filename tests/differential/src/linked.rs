@@ -1,9 +1,9 @@
 //! The port as a customer has it, through `bindings/rust`: the model's arguments taken over into the binding's, and its
 //! answer back.
 
-use lictor::{chunk, config, conformal, fmath, tier0, window};
+use lictor::{brake, chunk, config, conformal, fmath, tier0, window};
 use model::{
-    ActionKind, BrakeKind, Calibration, ChunkBuf, ChunkView, ClampMode, Derived, FuseConfig, Scores, Tier0Out, Trail,
+    ActionKind, BrakeKind, BrakeOut, Calibration, ChunkBuf, ChunkView, ClampMode, Derived, FuseConfig, Scores, Tier0Out, Trail,
 };
 
 use crate::port::{Answer, Port};
@@ -34,6 +34,11 @@ pub fn port() -> Port {
         derive: Some(|c| answer(config(c).derive()).map(derived)),
         check_chunk: Some(|c, pos, aux, ch, out| found(tier0::check_chunk(&config(c), pos, aux, chunk_view(&ch), out))),
         check_action: Some(|c, pos, aux, prev, a, out| found(tier0::check_action(&config(c), pos, aux, prev, a, out))),
+        brake_feasible: Some(|c, p, v, ch, from, slacks| {
+            answer(brake::brake_feasible(&config(c), p, v, chunk_view(&ch), from, slacks)).map(forecast)
+        }),
+        brake_action: Some(|c, p, v, out| answer(brake::brake_action(&config(c), p, v, out))),
+        hold_action: Some(|c, p, out| answer(brake::hold_action(&config(c), p, out))),
         standardise: Some(|c, bin, sc| on_scores(sc, |s| conformal::standardise(&calibration(c), bin, s))),
         aggregate: Some(|c, sc| on_scores(sc, |s| conformal::aggregate(&calibration(c), s))),
         trip: Some(|c, sc| answer(conformal::trip(&calibration(c), &scores(sc)))),
@@ -48,6 +53,10 @@ fn answer<T>(a: lictor::Answer<T>) -> Answer<T> {
 
 fn found(a: lictor::Answer<tier0::Tier0Out>) -> Answer<Tier0Out> {
     answer(a).map(|r| Tier0Out { trips: r.trips, clamped_dims: r.clamped_dims, peak_speed: r.peak_speed })
+}
+
+fn forecast(r: brake::BrakeOut) -> BrakeOut {
+    BrakeOut { count: r.count, margin: r.margin, feasible: r.feasible, stop_dist: r.stop_dist }
 }
 
 pub fn chunk_view<'a>(v: &ChunkView<'a>) -> chunk::ChunkView<'a> {
