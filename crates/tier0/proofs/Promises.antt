@@ -1,26 +1,23 @@
 -- What document 01 promises of tier 0, from its rules: when each bit is raised, that a limit which is touched does not trip, when there is no slow zone, that
--- unarmed checks move nothing, and that the box move ends inside the box. A projected row re-passing its check is not promised.
+-- unarmed checks move nothing. (That the box move ends inside the box is workspace's `Inside.inward-inside`.) A projected row re-passing its check is not promised.
 use Prim.Native.Nat.{ℕ, zero, suc, _+_, _-_, _*_, _/_, _%_, _≤_, _<_}
 use mathlib.Core.Path.{_≡_, refl, sym, ap, _∙_}
 use mathlib.Core.Bool.{Bool, true, false, _&&_, false≢true}
 use mathlib.Core.List.{List, [], _∷_}
 use native.Mathlib.Omega.{arith}
-use borrow.Author.Count.{below-more}
 use borrow.Author.Tests.{eq-eqb}
 use lib.Dec.{eqb}
 use lib.ListN.{length, drop, replicate}
-use lib.Seq.{getD-set-same, getD-set-other, getD-drop}
+use lib.Seq.{getD-drop}
 use lib.Ieee.{Float, Format, nan, inf, fin, mul, lt, le, ne, eq, up, down}
 use Rattle.refusal.specs.Order.{if_then_else_}
 use Rattle.fmath.specs.Each.{at, some, over}
 use Rattle.fmath.specs.Finite.{finite, +0}
-use Rattle.fmath.specs.Least.{clamped}
 use Rattle.fmath.specs.Checked.{Checked, pure, each}
 use Rattle.fmath.specs.Norm.{norm, dist}
-use Rattle.fmath.proofs.Clamping.{clamp-above-lo, clamp-below-hi}
-use Rattle.fmath.proofs.Each.{length-over}
+use Rattle.fmath.proofs.Each.{over-at}
 use Rattle.fmath.proofs.Ordered.{lt-irrefl}
-use Rattle.workspace.specs.Rule.{Walls, beyond, inward}
+use Rattle.workspace.specs.Rule.{Walls, beyond}
 use Rattle.envelope.specs.declared.ClampMode.{ClampMode}
 use Rattle.envelope.specs.declared.ClampMode.the-variants.{Off, Project}
 use Rattle.envelope.specs.declared.Contact.{Contact}
@@ -295,25 +292,6 @@ unfolding moved
 unmoved a zero e = refl
 unmoved a (suc n) e = rw (unmoved a n (λ j l. e j (omega arith)), equal-itself (at a n) (e n (omega arith)))
 
--- ---- inside the box
-
-over-at : (g : ℕ → Float) (l : List Float) (n : ℕ) → n ≤ length l → (j : ℕ) → j < n → at (over g l n) j ≡ g j
-unfolding over
-over-at g l zero w j h = absurd (omega arith)
-over-at g l (suc n) w j h =
-    below-more (λ (i : ℕ). at (over g l (suc n)) i ≡ g i) n
-    (λ i k. getD-set-other (over g l n) n i (g n) nan (omega arith) ∙ over-at g l n (omega arith) i k)
-    (getD-set-same (over g l n) n (g n) nan (omega (arith, length-over g l n)))
-    j (omega arith)
-
--- after the box move each shared coordinate lies in its box
-pub box-move-inside : (w : Walls) (a : List Float) (n j : ℕ) → n ≤ length a → j < n → lt (at (w .hi) j) (at (w .lo) j) ≡ false
-    → (lt (at (inward w a n) j) (at (w .lo) j) ≡ false) × (lt (at (w .hi) j) (at (inward w a n) j) ≡ false)
-unfolding inward
-box-move-inside w a n j h k o =
-    rw (over-at (λ (i : ℕ). clamped (at a i) (at (w .lo) i) (at (w .hi) i)) a n h j k)
-    (clamp-above-lo (at a j) (at (w .lo) j) (at (w .hi) j) o, clamp-below-hi (at a j) (at (w .lo) j) (at (w .hi) j) o)
-
 -- a difference of rows whose scaled length touches its limit: ACCEL and JERK
 pub difference-touched : (f : Format) (g : ℕ → Checked Float) (n : ℕ) (inv most : Float) → mul f (norm f (each g (replicate 8 +0) n .value) n .value) inv ≡ most → exceeds f g n inv most .value ≡ false
 unfolding exceeds
@@ -324,7 +302,7 @@ difference-touched f g n inv most e = ap (λ (x : Float). lt most x) e ∙ lt-ir
 -- entry j of a row is that entry of the chunk
 row-at : (rows : List Float) (n i : ℕ) → n ≤ 8 → (j : ℕ) → j < n → at (rawRow rows n i) j ≡ at rows (i * n + j)
 unfolding held
-row-at rows n i w j k = over-at (at (drop (i * n) rows)) (replicate 8 +0) n w j k ∙ getD-drop (i * n) rows j nan
+row-at rows n i w j k = over-at (at (drop (i * n) rows)) (replicate 8 +0) n j k (omega arith) ∙ getD-drop (i * n) rows j nan
 
 below-rows : (i h j n : ℕ) → i < h → j < n → i * n + j < h * n
 below-rows i h j n a b = omega (arith, row-fits i h n (h * n) a (omega arith))
