@@ -1,1 +1,38 @@
--- Worked rows, by computation.
+-- Worked rows, by computation: a position beyond its wall is sent to the wall, one that is missing to 0.0, and an arm that brakes harder than it moves stops.
+use mathlib.Core.Path.{_≡_, refl}
+use mathlib.Core.Bool.{true, false}
+use mathlib.Core.List.{[], _∷_}
+use lib.IntN.{pos}
+use lib.ListN.{replicate}
+use lib.Ieee.{Float, fin, binary64, round, add, sub, mul, div, lt, le, eq}
+use Rattle.root.specs.Root.{floorRoot, nearRoot, half, rootExponent, scaled, number, rootOf}
+use Rattle.fmath.specs.Each.{over}
+use Rattle.fmath.specs.Finite.{finite, +0}
+use Rattle.fmath.specs.Least.{greater, clamped}
+use Rattle.fmath.specs.Checked.{sumFrom, each, pure}
+use Rattle.fmath.specs.Norm.{squareAt, norm}
+use Rattle.envelope.specs.declared.ActionKind.the-variants.{EePosition, EeDelta, JointVelocity}
+use Rattle.workspace.specs.Rule.{Walls, inward}
+use Rattle.brake.specs.Rule.{eight, one, setpoint, ramp, scaledAt, slowed, slower, shorter, brakeRow, holdRow}
+
+abbrev two : Float
+two = fin false 1 (pos 1)
+
+abbrev walls : Walls
+walls = record { lo = fin true 1 (pos 0) ∷ fin true 1 (pos 0) ∷ []; hi = two ∷ two ∷ [] }
+
+sent-to-the-wall : holdRow EePosition walls (fin false 5 (pos 0) ∷ []) 2 ≡ two ∷ replicate 7 +0
+unfolding holdRow setpoint eight inward over clamped lt
+sent-to-the-wall = refl
+
+braked-like-held : brakeRow binary64 EePosition one one walls (fin false 5 (pos 0) ∷ []) [] 2 ≡ pure (two ∷ replicate 7 +0)
+unfolding brakeRow setpoint eight inward over clamped lt
+braked-like-held = refl
+
+stops : brakeRow binary64 JointVelocity two one walls [] (one ∷ []) 2 ≡ pure (replicate 8 +0)
+unfolding brakeRow slower ramp slowed scaledAt each norm squareAt sumFrom rootOf nearRoot floorRoot scaled rootExponent half number greater round lt le eq add sub mul div finite
+stops = refl
+
+stops-in-place : brakeRow binary64 EeDelta two one walls [] (one ∷ []) 2 ≡ pure (replicate 8 +0)
+unfolding brakeRow shorter ramp slowed scaledAt each norm squareAt sumFrom rootOf nearRoot floorRoot scaled rootExponent half number greater round lt le eq add sub mul div finite
+stops-in-place = refl
