@@ -64,9 +64,8 @@ pub fn standardise(cal: &Calibration, bin: usize, sc: &mut Scores) -> Answer<()>
     let (mut numbers, mut marks) = (sc.numbers(), sc.marks());
     let Calibration { center, scale, tau, mask, n_terms, terms } = cal;
     // SAFETY: the tables are live; the numbers and marks are ours alone.
-    let number = unsafe {
-        raw::lictor_standardise(center, scale, *tau, *mask, *n_terms, terms, bin, &mut numbers, &mut marks)
-    };
+    let number =
+        unsafe { raw::lictor_standardise(center, scale, *tau, *mask, *n_terms, terms, bin, &mut numbers, &mut marks) };
     given(number, ())?;
     sc.take(&numbers, marks);
     Ok(())
@@ -89,8 +88,7 @@ pub fn trip(cal: &Calibration, sc: &Scores) -> Answer<bool> {
     let (numbers, marks, mut trips) = (sc.numbers(), sc.marks(), 0);
     let Calibration { center, scale, tau, mask, n_terms, terms } = cal;
     // SAFETY: the tables, numbers and marks are live; the place is ours alone.
-    let number =
-        unsafe { raw::lictor_trip(center, scale, *tau, *mask, *n_terms, terms, &numbers, &marks, &mut trips) };
+    let number = unsafe { raw::lictor_trip(center, scale, *tau, *mask, *n_terms, terms, &numbers, &marks, &mut trips) };
     given(number, trips == 1)
 }
 

@@ -3,7 +3,8 @@
 
 use lictor::{brake, chunk, config, conformal, fmath, tier0, window};
 use model::{
-    ActionKind, BrakeKind, BrakeOut, Calibration, ChunkBuf, ChunkView, ClampMode, Derived, FuseConfig, Scores, Tier0Out, Trail,
+    ActionKind, BrakeKind, BrakeOut, Calibration, ChunkBuf, ChunkView, ClampMode, Derived, FuseConfig, Scores,
+    Tier0Out, Trail,
 };
 
 use crate::port::{Answer, Port};
