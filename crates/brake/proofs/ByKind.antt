@@ -15,7 +15,6 @@ use Rattle.envelope.proofs.BrakeKind as kind
 use Rattle.workspace.specs.declared.Workspace.{Workspace}
 use Rattle.rollout.specs.declared.Course.{Course}
 use Rattle.rollout.specs.declared.Plant.{Plant}
-use Rattle.rollout.specs.Forecast.{Forecast}
 use Rattle.rollout.specs.Rule as rollout
 use Rattle.rollout.specs.Of as rolled
 use Rattle.stopping.specs.declared.Arm.{Arm}

@@ -2,22 +2,18 @@
 use Prim.Native.Nat.{ℕ, suc, _+_, _≤_}
 use mathlib.Core.Path.{_≡_, refl, sym, ap, _∙_}
 use mathlib.Core.Bool.{Bool, true, false, not, _||_, true≢false, false≢true}
-use lib.Dec.{eqb}
 use native.Mathlib.Numerals.{add-one}
 use native.Mathlib.Omega.{arith}
 use borrow.Author.Tests.{ne-eqb}
-use lib.Ieee.{Float, le}
-use Rattle.refusal.specs.Order.{if_then_else_}
+use lib.Ieee.{le}
 use Rattle.fmath.specs.Each.{all}
 use Rattle.fmath.specs.Finite.{+0}
-use Rattle.fmath.specs.Least.{least}
 use Rattle.rollout.specs.Plant.{State}
-use Rattle.rollout.specs.Forecast.{Forecast, fine, slackAt, reached, placeOf, marginOf, feasibleOf}
+use Rattle.rollout.specs.Forecast.{Forecast, fine, reached, placeOf, marginOf}
 use Rattle.rollout.specs.Of.{runOf, reckonedFrom}
 use Rattle.rollout.specs.declared.Reckoned.{Reckoned}
 use Rattle.rollout.specs.declared.Run.{Run}
 use Rattle.rollout.proofs.Reach.{reach-whole, reach-le}
-use Rattle.brake.specs.declared.BrakeOut.{BrakeOut}
 use Rattle.brake.specs.declared.BrakeOut.the-variants as out
 use Rattle.brake.specs.Answer.{outcome}
 

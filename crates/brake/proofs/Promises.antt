@@ -4,32 +4,27 @@ use mathlib.Core.Path.{_≡_, refl, sym, ap, _∙_}
 use mathlib.Core.Bool.{Bool, true, false, not, _&&_}
 use mathlib.Core.List.{List, [], _∷_, _++_}
 use native.Mathlib.Omega.{arith}
-use borrow.Author.Tests.{ne-eqb, eq-eqb}
-use lib.Dec.{eqb}
+use borrow.Author.Tests.{ne-eqb}
 use lib.ListN.{length, getD, replicate}
-use lib.Ieee.{Float, binary64, lt, inf}
-use Rattle.refusal.specs.Order.{computed, _when_, refusal, if_then_else_}
+use lib.Ieee.{Float, binary64, lt}
+use Rattle.refusal.specs.Order.{computed, _when_, refusal}
 use Rattle.refusal.specs.Chain.{both-pass}
 use Rattle.fmath.specs.Each.{at, all, over}
 use Rattle.fmath.specs.Finite.{+0}
-use Rattle.fmath.specs.Checked.{Checked, pure}
 use Rattle.fmath.proofs.Each.{length-over, over-at}
 use Rattle.chunk.specs.Refusals.{chunkReasons}
 use Rattle.envelope.specs.Refusals.{configJudged}
-use Rattle.envelope.specs.declared.ActionKind.{ActionKind}
 use Rattle.envelope.specs.declared.BrakeKind.the-variants.{PdSecondOrder}
 use Rattle.envelope.specs.declared.FuseConfig.{FuseConfig}
 use Rattle.envelope.proofs.Accepted.{accepted, dim-most, walls-ordered}
-use Rattle.workspace.specs.Rule.{Walls, slack}
 use Rattle.workspace.proofs.Inside.{inward-inside}
-use Rattle.rollout.specs.Plant.{Gains, State, substep}
-use Rattle.rollout.specs.Forecast.{Forecast, fine, slackAt, reached, placeOf, marginOf, feasibleOf, writtenOf}
-use Rattle.rollout.specs.Rule.{after, aim, forecast}
-use Rattle.rollout.proofs.Promises.{Whole, whole-reached, written-in-order, others-kept, first-failing-place, failing-at-the-end, accepted-whole}
+use Rattle.rollout.specs.Forecast.{Forecast, fine, slackAt, placeOf, marginOf, feasibleOf, writtenOf}
+use Rattle.rollout.specs.Rule.{after, forecast}
+use Rattle.rollout.proofs.Promises.{Whole, whole-reached, written-in-order, others-kept, first-failing-place, failing-at-the-end}
 use Rattle.brake.specs.declared.BrakeOut.{BrakeOut}
 use Rattle.brake.specs.declared.BrakeOut.the-variants as out
-use Rattle.brake.specs.Rule.{eight, live, wallsAt, setpoint, brakeRow, holdRow, secondOrder, forecastBy}
-use Rattle.brake.specs.Answer.{outcome, plan, lentJudged, forecastAnswer, forecastSlacks, eachFinite, rowLent, rowAt, brakeSent, brakeRefusal, brakeOutput, holdRefusal, holdOutput}
+use Rattle.brake.specs.Rule.{eight, wallsAt, setpoint, secondOrder, forecastBy}
+use Rattle.brake.specs.Answer.{outcome, plan, lentJudged, forecastAnswer, forecastSlacks, eachFinite, rowLent, brakeSent, brakeRefusal, brakeOutput, holdRefusal, holdOutput}
 use Rattle.brake.proofs.Judged.{foreseen}
 use Rattle.brake.proofs.Sending.{Position, position-brakes, position-holds, sized}
 

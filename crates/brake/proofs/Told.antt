@@ -9,7 +9,7 @@ use lib.Ieee.{Float, Format, add, sub, mul, div}
 use Rattle.refusal.specs.Order.{if_then_else_}
 use Rattle.fmath.specs.Each.{at}
 use Rattle.fmath.specs.Finite.{finite, +0}
-use Rattle.fmath.specs.Checked.{Checked, times, pure}
+use Rattle.fmath.specs.Checked.{times, pure}
 use Rattle.fmath.specs.Norm.{norm}
 use Rattle.fmath.proofs.Absorbing.{fine-add-left, fine-sub-right, fine-div-left}
 use Rattle.fmath.proofs.Each.{and-left, and-right}

@@ -7,7 +7,7 @@ ghost use Rattle.tier0.specs.Chunk.{rawRow, startRow, rowBefore};
 use crate::Checks;
 
 // Whether the check of a trip bit is armed.
-pub fn armed(s: Checks, w: u32) -> bool
+pub(crate) fn armed(s: Checks, w: u32) -> bool
     requires { ⌜ 0 < w ⌝ }
     ensures { λ r. ⌜ r ≡ arms s w ⌝ }
 {
@@ -15,14 +15,14 @@ pub fn armed(s: Checks, w: u32) -> bool
 }
 
 // How many coordinates the action and the position share.
-pub fn shared(s: Checks) -> usize
+pub(crate) fn shared(s: Checks) -> usize
     ensures { λ r. ⌜ r ≡ min (s .dim) (s .«pos_dim») ⌝ }
 {
     if s.dim < s.pos_dim { s.dim } else { s.pos_dim }
 }
 
 // The first n numbers of a row, and zeros up to eight.
-pub fn held(a: &[f64], n: usize) -> [f64; 8]
+pub(crate) fn held(a: &[f64], n: usize) -> [f64; 8]
     requires { ⌜ (n ≤ 8) × (n ≤ length (now a)) ⌝ }
     ensures { λ r. ⌜ r ≡ held (now (a .entry)) n ⌝ }
 {
@@ -36,7 +36,7 @@ pub fn held(a: &[f64], n: usize) -> [f64; 8]
 }
 
 // Row i as it came, with zeros up to eight numbers.
-pub fn raw_row(rows: &[f64], n: usize, i: usize) -> [f64; 8]
+pub(crate) fn raw_row(rows: &[f64], n: usize, i: usize) -> [f64; 8]
     requires { ⌜ (n ≤ 8) × (i < 64) × (i * n + n ≤ length (now rows)) ⌝ }
     ensures { λ r. ⌜ r ≡ rawRow (now (rows .entry)) n i ⌝ }
 {
@@ -45,7 +45,7 @@ pub fn raw_row(rows: &[f64], n: usize, i: usize) -> [f64; 8]
 }
 
 // What stands before row 0: the position on the shared coordinates, row 0 itself on the others.
-pub fn start_row(s: Checks, pos: &[f64], rows: &[f64]) -> [f64; 8]
+pub(crate) fn start_row(s: Checks, pos: &[f64], rows: &[f64]) -> [f64; 8]
     requires { ⌜ (s .dim ≤ 8) × (s .dim ≤ length (now rows)) × (s .«pos_dim» ≤ length (now pos)) ⌝ }
     ensures { λ r. ⌜ r ≡ startRow s (now (pos .entry)) (now (rows .entry)) ⌝ }
 {
@@ -60,7 +60,7 @@ pub fn start_row(s: Checks, pos: &[f64], rows: &[f64]) -> [f64; 8]
 }
 
 // The row before row i; q stands before row 0.
-pub fn row_before(q: [f64; 8], rows: &[f64], n: usize, i: usize) -> [f64; 8]
+pub(crate) fn row_before(q: [f64; 8], rows: &[f64], n: usize, i: usize) -> [f64; 8]
     requires { ⌜ (n ≤ 8) × (i < 64) × (i * n + n ≤ length (now rows)) ⌝ }
     ensures { λ r. ⌜ r ≡ rowBefore q (now (rows .entry)) n i ⌝ }
 {

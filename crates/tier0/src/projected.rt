@@ -177,7 +177,7 @@ fn project(s: Checks, z: SlowZone, pos: &[f64], prev: &[f64], a: [f64; 8]) -> Cl
 }
 
 // The projection, or the action as it came under ClampMode Off.
-pub fn projection(s: Checks, z: SlowZone, pos: &[f64], prev: &[f64], a: [f64; 8]) -> Clamped
+pub(crate) fn projection(s: Checks, z: SlowZone, pos: &[f64], prev: &[f64], a: [f64; 8]) -> Clamped
     requires { ⌜ (s .dim ≤ 8) × (s .dim ≤ length (now prev)) × (s .«pos_dim» ≤ length (now pos)) ⌝ }
     ensures { λ r. ⌜ r ≡ clampedFrom (projection binary64 s (s .clamp) (slowOf z) (now (pos .entry)) (now (prev .entry)) a) ⌝ }
 {
@@ -244,7 +244,7 @@ fn run_rows(
 }
 
 // The first n numbers of a slice, written over another; the rest stays.
-pub fn write_rows(rows: &[f64], n: usize, out: &mut [f64])
+pub(crate) fn write_rows(rows: &[f64], n: usize, out: &mut [f64])
     requires { ⌜ (n ≤ 512) × (n ≤ length (now rows)) × (n ≤ length (now out)) ⌝ }
     ensures { λ _. ⌜ now (out .exit) ≡ over (at (now (rows .entry))) (now (out .entry)) n ⌝ }
 {
@@ -256,7 +256,7 @@ pub fn write_rows(rows: &[f64], n: usize, out: &mut [f64])
 }
 
 // The rows projected, or as they came under ClampMode Off, written over out.
-pub fn projected_rows(
+pub(crate) fn projected_rows(
     s: Checks,
     z: SlowZone,
     pos: &[f64],

@@ -31,7 +31,7 @@ fn not_finite(pos: &[f64], aux: &[f64], prev: &[f64], a: &[f64]) -> bool
 }
 
 // The number for what is lent: the configuration's own, then 11, then 12; 0 where there is none.
-pub fn action_refusal<'a>(
+pub(crate) fn action_refusal<'a>(
     c: Settings,
     center: &'a [f64; 192],
     scale: &'a [f64; 192],
@@ -100,7 +100,7 @@ fn rows_refusal(
 }
 
 // The number for a chunk: the configuration's own, then the sizes', then what is lent; 0 where there is none.
-pub fn chunk_refusal<'a>(
+pub(crate) fn chunk_refusal<'a>(
     c: Settings,
     center: &'a [f64; 192],
     scale: &'a [f64; 192],

@@ -19,7 +19,7 @@ use crate::measure::shared;
 use envelope::TripMask;
 
 // WORKSPACE, where it is armed.
-pub fn out_of_box(s: Checks, a: &[f64]) -> bool
+pub(crate) fn out_of_box(s: Checks, a: &[f64]) -> bool
     ensures { λ r. ⌜ r ≡ outOfBox s (now (a .entry)) ⌝ }
 {
     let on = armed(s, TripMask::WORKSPACE);
@@ -30,7 +30,7 @@ pub fn out_of_box(s: Checks, a: &[f64]) -> bool
 }
 
 // REACH, where it is armed.
-pub fn out_of_reach(s: Checks, pos: &[f64], a: &[f64]) -> Test
+pub(crate) fn out_of_reach(s: Checks, pos: &[f64], a: &[f64]) -> Test
     ensures { λ r. ⌜ r ≡ testFrom (outOfReach binary64 s (now (pos .entry)) (now (a .entry))) ⌝ }
 {
     if !armed(s, TripMask::REACH) {
@@ -49,14 +49,21 @@ pub fn out_of_reach(s: Checks, pos: &[f64], a: &[f64]) -> Test
 }
 
 // w where the test holds, else 0.
-pub fn weight(on: bool, w: u32) -> u32
+pub(crate) fn weight(on: bool, w: u32) -> u32
     ensures { λ r. ⌜ r ≡ bit on w ⌝ }
 {
     if on { w } else { 0 }
 }
 
 // The mask of the checks that trip.
-pub fn trip_bits(out: bool, fast: bool, bent: bool, jolted: bool, far: bool, close: bool) -> u32
+pub(crate) fn trip_bits(
+    out: bool,
+    fast: bool,
+    bent: bool,
+    jolted: bool,
+    far: bool,
+    close: bool,
+) -> u32
     ensures { λ r. ⌜ r ≡ tripBits out fast bent jolted far close ⌝ }
 {
     let a = weight(out, TripMask::WORKSPACE);
@@ -69,7 +76,7 @@ pub fn trip_bits(out: bool, fast: bool, bent: bool, jolted: bool, far: bool, clo
 }
 
 // The steps of the first h rows: the greatest, and which limits of a single step they exceed.
-pub fn step_rows(s: Checks, slow: f64, q: [f64; 8], rows: &[f64], h: usize) -> Stride
+pub(crate) fn step_rows(s: Checks, slow: f64, q: [f64; 8], rows: &[f64], h: usize) -> Stride
     requires { ⌜ (s .dim ≤ 8) × (h ≤ 64) × (h * s .dim ≤ length (now rows)) ⌝ }
     ensures { λ r. ⌜ r ≡ stepsFrom s slow q (now (rows .entry)) h ⌝ }
 {
@@ -190,7 +197,7 @@ fn bent_rows(s: Checks, q: [f64; 8], rows: &[f64], h: usize) -> Test
 }
 
 // ACCEL over h rows, where it is armed.
-pub fn too_bent(s: Checks, q: [f64; 8], rows: &[f64], h: usize) -> Test
+pub(crate) fn too_bent(s: Checks, q: [f64; 8], rows: &[f64], h: usize) -> Test
     requires { ⌜ (s .dim ≤ 8) × (h ≤ 64) × (h * s .dim ≤ length (now rows)) ⌝ }
     ensures { λ r. ⌜ r ≡ testFrom (tooBent binary64 s q (now (rows .entry)) h) ⌝ }
 {
@@ -221,7 +228,7 @@ fn jolted_rows(s: Checks, q: [f64; 8], rows: &[f64], h: usize) -> Test
 }
 
 // JERK over h rows, where it is armed.
-pub fn too_jolted(s: Checks, q: [f64; 8], rows: &[f64], h: usize) -> Test
+pub(crate) fn too_jolted(s: Checks, q: [f64; 8], rows: &[f64], h: usize) -> Test
     requires { ⌜ (s .dim ≤ 8) × (h ≤ 64) × (h * s .dim ≤ length (now rows)) ⌝ }
     ensures { λ r. ⌜ r ≡ testFrom (tooJolted binary64 s q (now (rows .entry)) h) ⌝ }
 {

@@ -78,7 +78,7 @@ fn zone_in(dt: f64, contact: Contact, pos: &[f64], aux: &[f64]) -> SlowZone
 }
 
 // The slow zone, where CONTACT is armed.
-pub fn slow_zone(s: Checks, pos: &[f64], aux: &[f64]) -> SlowZone
+pub(crate) fn slow_zone(s: Checks, pos: &[f64], aux: &[f64]) -> SlowZone
     ensures { λ r. ⌜ r ≡ zoneFrom (slowZone binary64 s (now (pos .entry)) (now (aux .entry))) ⌝ }
 {
     if !armed(s, TripMask::CONTACT) {

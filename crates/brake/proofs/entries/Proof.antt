@@ -1,8 +1,6 @@
 -- `brake::entries` meets its contract: by the kind of brake.
-use mathlib.Core.Path.{sym, ap, _∙_}
 use native.Mathlib.Numerals.{add-one}
 use borrow.Author.Needs.{needs}
-use Rattle.brake.specs.Of.{countFor}
 use Rattle.brake.proofs.ByKind.{other-count}
 use Rattle.brake.proofs.entries.Statement.{statement}
 use Rattle.brake.proofs.entries.Tie as tie

@@ -1,16 +1,13 @@
 -- `brake::second_order` meets its contract: the run is the forecast's, and so is the stop distance where the run is sound.
-use Prim.Native.Nat.{ℕ}
 use mathlib.Core.Path.{_≡_, sym, ap, _∙_}
 use mathlib.Core.Bool.{true}
-use mathlib.Core.List.{List}
 use borrow.Author.Needs.{needs}
 use denote.Ref.{now}
-use lib.Ieee.{Float, binary64}
-use Rattle.refusal.specs.Order.{if_then_else_}
+use lib.Ieee.{binary64}
 use Rattle.rollout.specs.declared.Run.{Run}
 use Rattle.rollout.specs.Plant.{State}
-use Rattle.rollout.specs.Forecast.{Forecast, fine, reached, writtenOf}
-use Rattle.rollout.specs.Rule.{Task, rowsLeft, total, after, stopDistance, forecast}
+use Rattle.rollout.specs.Forecast.{fine}
+use Rattle.rollout.specs.Rule.{Task, after, stopDistance, forecast}
 use Rattle.rollout.specs.Of.{stateOf, reckonedFrom, taskOf, runOf}
 use Rattle.rollout.proofs.Reach.{reach-whole}
 use Rattle.brake.proofs.Outcome.{done-few}

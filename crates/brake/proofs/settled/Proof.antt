@@ -1,5 +1,4 @@
 -- `brake::settled` meets its contract: the place after the entries, or the forecast's numbers.
-use native.Mathlib.Omega.{arith}
 use borrow.Author.Needs.{needs}
 use lib.Ieee.{ofBits}
 use Rattle.brake.proofs.Outcome.{fails, passes}
