@@ -1,0 +1,102 @@
+-- Document 01's numbers to keep on the wall that are marked P: one table, and one theorem that the definitions give what the document writes.
+use Prim.Native.Nat.{ℕ}
+use mathlib.Core.Path.{_≡_, refl}
+use mathlib.Core.Bool.{true, false}
+use mathlib.Core.List.{List, [], _∷_, map}
+use Rattle.root.specs.Root as root
+use Rattle.fmath.specs.Checked as checked
+use Rattle.fmath.specs.Each as each
+use Rattle.fmath.specs.Finite as finite
+use Rattle.fmath.specs.Least as least
+use Rattle.fmath.specs.Norm as norm
+use Rattle.chunk.specs.Rule as chunk
+use Rattle.conformal.specs.Answer as answer
+use Rattle.conformal.specs.Bits as bits
+use Rattle.conformal.specs.Refusals as scores
+use Rattle.conformal.specs.Rule as gate
+use Rattle.envelope.specs.Derive as derive
+use Rattle.envelope.specs.Refusals as config
+use Rattle.workspace.specs.Rule as workspace
+use Rattle.tier0.specs.Chunk as rows
+use Rattle.tier0.specs.Of as checks
+use Rattle.tier0.specs.Refusals as lent
+use Rattle.tier0.specs.Rule as row
+use Rattle.rollout.specs.Forecast as forecast
+use Rattle.rollout.specs.Plant as plant
+use Rattle.rollout.specs.Rule as run
+use Rattle.brake.specs.Answer as brake
+use Rattle.brake.specs.Rule as plan
+use Rattle.card.specs.Desk as desk
+use lib.Ieee as ieee
+use lib.Count as count
+use Rattle.wall.specs.Cases.{1!, 2!, card, forecastOf, rootOf, rowOf, windowOf, gateOf}
+
+pub record Case : Type 0 where
+  pub given : List ℕ
+  pub written : List ℕ
+
+-- ---- forecasts: 0, count, margin, feasible, stop distance, and the entries
+
+-- slacks 1.5, 1, 0.75, 0.75
+abbrev F1 : Case
+F1 = record { given = forecastOf (card 2! 0 1) 4; written = 0 ∷ 4 ∷ 0x3fe8_0000_0000_0000 ∷ 1 ∷ 0x3ff4_0000_0000_0000 ∷ 0x3ff8_0000_0000_0000 ∷ 1! ∷ 0x3fe8_0000_0000_0000 ∷ 0x3fe8_0000_0000_0000 ∷ [] }
+
+-- slacks 0.5, 0, -0.25, -0.25
+abbrev F2 : Case
+F2 = record { given = forecastOf (card 1! 0 1) 4; written = 0 ∷ 4 ∷ 0xbfd0_0000_0000_0000 ∷ 0 ∷ 0x3ff4_0000_0000_0000 ∷ 0x3fe0_0000_0000_0000 ∷ 0 ∷ 0xbfd0_0000_0000_0000 ∷ 0xbfd0_0000_0000_0000 ∷ [] }
+
+-- F1 with hi 1.25: margin 0, feasible
+abbrev F1-touching : Case
+F1-touching = record { given = forecastOf (card 0x3ff4_0000_0000_0000 0 1) 4; written = 0 ∷ 4 ∷ 0 ∷ 1 ∷ 0x3ff4_0000_0000_0000 ∷ 0x3fe8_0000_0000_0000 ∷ 0x3fd0_0000_0000_0000 ∷ 0 ∷ 0 ∷ [] }
+
+-- no entry, an infinite margin, stop distance 0
+abbrev F3 : Case
+F3 = record { given = forecastOf (card 2! 1 0) 0; written = 0 ∷ 0 ∷ 0x7ff0_0000_0000_0000 ∷ 1 ∷ 0 ∷ [] }
+
+-- ---- roots: 0 and the root
+
+-- the root of 25 is 5
+abbrev root-25 : Case
+root-25 = record { given = rootOf 0x4039_0000_0000_0000; written = 0 ∷ 0x4014_0000_0000_0000 ∷ [] }
+
+-- the root of 2
+abbrev root-2 : Case
+root-2 = record { given = rootOf 2!; written = 0 ∷ 0x3ff6_a09e_667f_3bcd ∷ [] }
+
+-- the root of 2^-1074 is 2^-537
+abbrev root-least : Case
+root-least = record { given = rootOf 1; written = 0 ∷ 0x1e60_0000_0000_0000 ∷ [] }
+
+-- ---- rows from (0,0): 0, trips, clamped_dims, the greatest speed, and the projected row
+
+-- SPEED, and projected to (3 - 3 x 2^-36, 4 - 4 x 2^-36)
+abbrev row-6-8 : Case
+row-6-8 = record { given = rowOf 0x4018_0000_0000_0000 0x4020_0000_0000_0000; written = 0 ∷ 2 ∷ 3 ∷ 0x4024_0000_0000_0000 ∷ 0x4007_ffff_fffe_8000 ∷ 0x400f_ffff_fffe_0000 ∷ [] }
+
+-- no trip, the same row
+abbrev row-3-4 : Case
+row-3-4 = record { given = rowOf 0x4008_0000_0000_0000 0x4010_0000_0000_0000; written = 0 ∷ 0 ∷ 0 ∷ 0x4014_0000_0000_0000 ∷ 0x4008_0000_0000_0000 ∷ 0x4010_0000_0000_0000 ∷ [] }
+
+-- ---- the window: bits and hits
+
+-- window length 3, pushes true, false, true, true
+abbrev window-3 : Case
+window-3 = record { given = windowOf 3 (true ∷ false ∷ true ∷ true ∷ []); written = 3 ∷ 2 ∷ [] }
+
+-- ---- the gate: 0, s, and then 0 and whether it trips
+
+-- z (2,1), terms {0,1} and {0}: s is 2, and a tau of 2 does not trip
+abbrev gate-2 : Case
+gate-2 = record { given = gateOf 3; written = 0 ∷ 2! ∷ 0 ∷ 0 ∷ [] }
+
+-- no live term: negative infinity
+abbrev gate-none : Case
+gate-none = record { given = gateOf 0; written = 0 ∷ 0xfff0_0000_0000_0000 ∷ 0 ∷ 0 ∷ [] }
+
+abbrev pub cases : List Case
+cases = F1 ∷ F2 ∷ F1-touching ∷ F3 ∷ root-25 ∷ root-2 ∷ root-least ∷ row-6-8 ∷ row-3-4 ∷ window-3 ∷ gate-2 ∷ gate-none ∷ []
+
+-- each case, as the document writes it
+pub wall : map (λ (c : Case). c .given) cases ≡ map (λ (c : Case). c .written) cases
+unfolding root.floorRoot root.nearRoot root.half root.rootExponent root.scaled root.number root.rootOf checked.sumFrom checked.each checked.leastOf each.all each.some each.every-from each.every each.table each.over finite.finite finite.aboveZero finite.notBelowZero finite.allFinite finite.allAboveZero least.lesser least.greater least.clamped least.least least.greatest norm.squaredGap norm.dist chunk.rowOf answer.judged answer.aggregated answer.tripped bits.bit bits.bitsWhere scores.sizesOk scores.numbersOk scores.scoresOk gate.liveTerm gate.joinWhere gate.leastOf gate.aggregate gate.firedBits derive.invDt derive.invDt2 derive.invDt3 derive.stepMax derive.lowWalls derive.highWalls derive.inverses derive.isotropic derive.derivedFrom config.sizesOk config.limitsOk config.gainsOk config.normOk config.boxOk config.ordered config.scalarsOk config.derivedOk config.numbersOk config.countsOk config.stepsOk workspace.inward workspace.between workspace.slack rows.startRow rows.rowBefore rows.stepTo rows.peakStep rows.someLonger rows.someOutOfBox rows.someOf rows.putRow rows.nextRow rows.runRows rows.projectedRows rows.checkChunk rows.tooBent rows.tooJolted checks.checksOf checks.chunkRuling checks.chunkRefusal checks.chunkAnswer checks.chunkOut lent.chunkTooShort lent.someChunkNotFinite row.arms row.slowZone row.outOfBox row.outOfReach row.tripBits row.toward row.shortened row.pulled row.boxed row.leashed row.reached row.moves row.held row.moved forecast.reach forecast.placeOf forecast.marginOf forecast.writtenOf plant.axis plant.substep run.stopDistance run.pushed run.setpoint run.aim run.after run.entry brake.tooShort brake.someLentNotFinite brake.outcome brake.forecastRefusal brake.forecastAnswer brake.forecastSlacks plan.eight plan.forecastBy desk.calibrationOf desk.limitsOf desk.normOf desk.wallsOf desk.brakeOf desk.configOf desk.outcomeOf desk.slacksOf ieee.add ieee.sub ieee.mul ieee.div ieee.lt ieee.eq ieee.le ieee.ne ieee.round ieee.size ieee.odd ieee.isNan ieee.ofBits ieee.toBits count.ones
+wall = refl
