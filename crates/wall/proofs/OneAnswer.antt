@@ -1,0 +1,331 @@
+-- One answer for each input: of every public function of modules 1 to 8 that the prover reads, two answers that meet its contract for the same
+-- arguments are the same, and so are two states of what it is lent to write. `Post` is the contract as the prover reads it.
+use mathlib.Core.Path.{_≡_, sym, _∙_}
+use Rattle.root.proofs.sqrt.Reads as root-sqrt
+use Rattle.fmath.proofs.finite.Reads as finite
+use Rattle.fmath.proofs.above_zero.Reads as above-zero
+use Rattle.fmath.proofs.not_below_zero.Reads as not-below-zero
+use Rattle.fmath.proofs.all_finite.Reads as all-finite
+use Rattle.fmath.proofs.all_above_zero.Reads as all-above-zero
+use Rattle.fmath.proofs.min.Reads as min
+use Rattle.fmath.proofs.max.Reads as max
+use Rattle.fmath.proofs.clamp.Reads as clamp
+use Rattle.fmath.proofs.sqrt.Reads as sqrt
+use Rattle.fmath.proofs.magnitude.Reads as magnitude
+use Rattle.fmath.proofs.distance.Reads as distance
+use Rattle.fmath.proofs.norm.Reads as norm
+use Rattle.fmath.proofs.dist.Reads as dist
+use Rattle.chunk.proofs.chunk_refusal.Reads as chunk-refusal
+use Rattle.chunk.proofs.ChunkBuf.new.Reads as chunk-buf-new
+use Rattle.chunk.proofs.ChunkBuf.fill.Reads as chunk-buf-fill
+use Rattle.chunk.proofs.ChunkBuf.clear.Reads as chunk-buf-clear
+use Rattle.chunk.proofs.ChunkBuf.is_filled.Reads as chunk-buf-is-filled
+use Rattle.chunk.proofs.ChunkBuf.held_refusal.Reads as chunk-buf-held-refusal
+use Rattle.chunk.proofs.row_mut.Reads as row-mut
+use Rattle.chunk.proofs.set_row.Reads as set-row
+use Rattle.chunk.proofs.held_rows.Reads as held-rows
+use Rattle.chunk.proofs.action.Reads as action
+use Rattle.window.proofs.mask.Reads as mask
+use Rattle.window.proofs.Window.new.Reads as window-new
+use Rattle.window.proofs.Window.pushed.Reads as window-pushed
+use Rattle.window.proofs.Window.hits.Reads as window-hits
+use Rattle.window.proofs.Window.clear.Reads as window-clear
+use Rattle.window.proofs.Trail.new.Reads as trail-new
+use Rattle.window.proofs.Trail.out_of_size.Reads as trail-out-of-size
+use Rattle.window.proofs.Trail.unfit.Reads as trail-unfit
+use Rattle.window.proofs.Trail.push.Reads as trail-push
+use Rattle.window.proofs.Trail.displacement.Reads as trail-displacement
+use Rattle.window.proofs.Trail.travelled.Reads as trail-travelled
+use Rattle.window.proofs.Trail.net.Reads as trail-net
+use Rattle.window.proofs.Trail.path.Reads as trail-path
+use Rattle.window.proofs.Trail.clear.Reads as trail-clear
+use Rattle.window.proofs.Trail.len.Reads as trail-len
+use Rattle.window.proofs.Trail.is_empty.Reads as trail-is-empty
+use Rattle.envelope.proofs.settings_of.Reads as settings-of
+use Rattle.envelope.proofs.derive_from.Reads as derive-from
+use Rattle.envelope.proofs.derive.Reads as derive
+use Rattle.envelope.proofs.substeps_in.Reads as substeps-in
+use Rattle.envelope.proofs.settings_refusal.Reads as settings-refusal
+use Rattle.envelope.proofs.config_refusal.Reads as config-refusal
+use Rattle.workspace.proofs.outside.Reads as outside
+use Rattle.workspace.proofs.inward.Reads as inward
+use Rattle.workspace.proofs.slack.Reads as slack
+use Rattle.workspace.proofs.slack_within.Reads as slack-within
+use Rattle.tier0.proofs.check_action_with.Reads as check-action-with
+use Rattle.tier0.proofs.check_action.Reads as check-action
+use Rattle.tier0.proofs.check_chunk_with.Reads as check-chunk-with
+use Rattle.tier0.proofs.check_chunk.Reads as check-chunk
+use Rattle.tier1.proofs.Tier1Rt.new.Reads as tier1-rt-new
+use Rattle.tier1.proofs.Tier1Rt.reset.Reads as tier1-rt-reset
+use Rattle.tier1.proofs.features.Reads as features
+use Rattle.rollout.proofs.rows_left.Reads as rows-left
+use Rattle.rollout.proofs.rollout.Reads as rollout
+use Rattle.rollout.proofs.stop_distance.Reads as rollout-stop-distance
+use Rattle.stopping.proofs.stopping.Reads as stopping
+use Rattle.stopping.proofs.stop_distance.Reads as stopping-stop-distance
+use Rattle.brake.proofs.brake_feasible.Reads as brake-feasible
+use Rattle.brake.proofs.brake_action.Reads as brake-action
+use Rattle.brake.proofs.hold_action.Reads as hold-action
+use Rattle.conformal.proofs.sizes_ok.Reads as sizes-ok
+use Rattle.conformal.proofs.numbers_ok.Reads as numbers-ok
+use Rattle.conformal.proofs.scores_ok.Reads as scores-ok
+use Rattle.conformal.proofs.standardise.Reads as standardise
+use Rattle.conformal.proofs.aggregate.Reads as aggregate
+use Rattle.conformal.proofs.trip.Reads as trip
+use Rattle.conformal.proofs.time_bin.Reads as time-bin
+
+-- an equation admits no second answer
+unique : {A : Type 0} {a b c : A} → a ≡ c → b ≡ c → a ≡ b
+unique p q = p ∙ sym q
+
+-- .. nor do two
+both : {A B : Type 0} {a b c : A} {d e f : B} → (a ≡ c) × (d ≡ f) → (b ≡ c) × (e ≡ f) → (a ≡ b) × (d ≡ e)
+both p q = (unique (p .0) (q .0), unique (p .1) (q .1))
+
+-- what is told of an answer r and of the arguments x as the function returns is the same for any two that meet the contract with arguments a
+abbrev One : {L A R E B : Type 0} → (L → A → R → E → Type 0) → (R → E → B) → Type 0
+One {L} {A} {R} {E} Post told = (l : L) (a : A) (r s : R) (x y : E) → Post l a r x → Post l a s y → told r x ≡ told s y
+
+-- .. and so are the answer, and what was lent to be written
+abbrev OneWithLent : {L A R E B : Type 0} → (L → A → R → E → Type 0) → (E → B) → Type 0
+OneWithLent {L} {A} {R} {E} Post lent = (l : L) (a : A) (r s : R) (x y : E) → Post l a r x → Post l a s y → (r ≡ s) × (lent x ≡ lent y)
+
+-- ---- root (module 1)
+
+pub one-root-sqrt : One root-sqrt.Post (λ r x. r)
+one-root-sqrt l a r s x y = unique
+
+-- ---- fmath (module 1)
+
+pub one-finite : One finite.Post (λ r x. r)
+one-finite l a r s x y = unique
+
+pub one-above-zero : One above-zero.Post (λ r x. r)
+one-above-zero l a r s x y = unique
+
+pub one-not-below-zero : One not-below-zero.Post (λ r x. r)
+one-not-below-zero l a r s x y = unique
+
+pub one-all-finite : One all-finite.Post (λ r x. r)
+one-all-finite l a r s x y = unique
+
+pub one-all-above-zero : One all-above-zero.Post (λ r x. r)
+one-all-above-zero l a r s x y = unique
+
+pub one-min : One min.Post (λ r x. r)
+one-min l a r s x y = unique
+
+pub one-max : One max.Post (λ r x. r)
+one-max l a r s x y = unique
+
+pub one-clamp : One clamp.Post (λ r x. r)
+one-clamp l a r s x y = unique
+
+pub one-sqrt : One sqrt.Post (λ r x. r)
+one-sqrt l a r s x y = unique
+
+pub one-magnitude : One magnitude.Post (λ r x. r)
+one-magnitude l a r s x y = unique
+
+pub one-distance : One distance.Post (λ r x. r)
+one-distance l a r s x y = unique
+
+pub one-norm : One norm.Post (λ r x. r)
+one-norm l a r s x y = unique
+
+pub one-dist : One dist.Post (λ r x. r)
+one-dist l a r s x y = unique
+
+-- ---- chunk (module 2)
+
+pub one-chunk-refusal : One chunk-refusal.Post (λ r x. r)
+one-chunk-refusal l a r s x y = unique
+
+pub one-chunk-buf-new : One chunk-buf-new.Post (λ r x. r)
+one-chunk-buf-new l a r s x y = unique
+
+pub one-chunk-buf-fill : One chunk-buf-fill.Post (λ r x. r)
+one-chunk-buf-fill l a r s x y = unique
+
+pub one-chunk-buf-clear : One chunk-buf-clear.Post (λ r x. r)
+one-chunk-buf-clear l a r s x y = unique
+
+pub one-chunk-buf-is-filled : One chunk-buf-is-filled.Post (λ r x. r)
+one-chunk-buf-is-filled l a r s x y = unique
+
+pub one-chunk-buf-held-refusal : One chunk-buf-held-refusal.Post (λ r x. r)
+one-chunk-buf-held-refusal l a r s x y = unique
+
+pub one-row-mut : One row-mut.Post (λ r x. r .now)
+one-row-mut l a r s x y = unique
+
+pub one-set-row : One set-row.Post (λ r x. x .0 .now)
+one-set-row l a r s x y = unique
+
+pub one-held-rows : One held-rows.Post (λ r x. r .now)
+one-held-rows l a r s x y = unique
+
+pub one-action : One action.Post (λ r x. r .now)
+one-action l a r s x y = unique
+
+-- ---- window (module 3)
+
+pub one-mask : One mask.Post (λ r x. r)
+one-mask l a r s x y = unique
+
+pub one-window-new : One window-new.Post (λ r x. r)
+one-window-new l a r s x y = unique
+
+pub one-window-pushed : One window-pushed.Post (λ r x. r)
+one-window-pushed l a r s x y = unique
+
+pub one-window-hits : One window-hits.Post (λ r x. r)
+one-window-hits l a r s x y = unique
+
+pub one-window-clear : One window-clear.Post (λ r x. r)
+one-window-clear l a r s x y = unique
+
+pub one-trail-new : One trail-new.Post (λ r x. r)
+one-trail-new l a r s x y = unique
+
+pub one-trail-out-of-size : One trail-out-of-size.Post (λ r x. r)
+one-trail-out-of-size l a r s x y = unique
+
+pub one-trail-unfit : One trail-unfit.Post (λ r x. r)
+one-trail-unfit l a r s x y = unique
+
+pub one-trail-push : One trail-push.Post (λ r x. r)
+one-trail-push l a r s x y = unique
+
+pub one-trail-displacement : One trail-displacement.Post (λ r x. r)
+one-trail-displacement l a r s x y = unique
+
+pub one-trail-travelled : One trail-travelled.Post (λ r x. r)
+one-trail-travelled l a r s x y = unique
+
+pub one-trail-net : One trail-net.Post (λ r x. r)
+one-trail-net l a r s x y = unique
+
+pub one-trail-path : One trail-path.Post (λ r x. r)
+one-trail-path l a r s x y = unique
+
+pub one-trail-clear : One trail-clear.Post (λ r x. r)
+one-trail-clear l a r s x y = unique
+
+pub one-trail-len : One trail-len.Post (λ r x. r)
+one-trail-len l a r s x y = unique
+
+pub one-trail-is-empty : One trail-is-empty.Post (λ r x. r)
+one-trail-is-empty l a r s x y = unique
+
+-- ---- envelope (module 4)
+
+pub one-settings-of : One settings-of.Post (λ r x. r)
+one-settings-of l a r s x y = unique
+
+pub one-derive-from : One derive-from.Post (λ r x. r)
+one-derive-from l a r s x y = unique
+
+pub one-derive : One derive.Post (λ r x. r)
+one-derive l a r s x y = unique
+
+pub one-substeps-in : One substeps-in.Post (λ r x. r)
+one-substeps-in l a r s x y = unique
+
+pub one-settings-refusal : One settings-refusal.Post (λ r x. r)
+one-settings-refusal l a r s x y = unique
+
+pub one-config-refusal : One config-refusal.Post (λ r x. r)
+one-config-refusal l a r s x y = unique
+
+-- ---- workspace (modules 5 and 7)
+
+pub one-outside : One outside.Post (λ r x. r)
+one-outside l a r s x y = unique
+
+pub one-inward : One inward.Post (λ r x. r)
+one-inward l a r s x y = unique
+
+pub one-slack : One slack.Post (λ r x. r)
+one-slack l a r s x y = unique
+
+pub one-slack-within : One slack-within.Post (λ r x. r)
+one-slack-within l a r s x y = unique
+
+-- ---- tier0 (module 5)
+
+pub one-check-action-with : OneWithLent check-action-with.Post (λ x. x .1 .1 .1 .1 .1 .1 .1 .0 .now)
+one-check-action-with l a r s x y = both
+
+pub one-check-action : OneWithLent check-action.Post (λ x. x .1 .1 .1 .1 .1 .0 .now)
+one-check-action l a r s x y = both
+
+pub one-check-chunk-with : OneWithLent check-chunk-with.Post (λ x. x .1 .1 .1 .1 .1 .1 .1 .1 .1 .0 .now)
+one-check-chunk-with l a r s x y = both
+
+pub one-check-chunk : OneWithLent check-chunk.Post (λ x. x .1 .1 .1 .1 .1 .1 .1 .0 .now)
+one-check-chunk l a r s x y = both
+
+-- ---- tier1 (module 6)
+
+pub one-tier1-rt-new : One tier1-rt-new.Post (λ r x. r)
+one-tier1-rt-new l a r s x y = unique
+
+pub one-tier1-rt-reset : One tier1-rt-reset.Post (λ r x. r)
+one-tier1-rt-reset l a r s x y = unique
+
+pub one-features : One features.Post (λ r x. r)
+one-features l a r s x y = unique
+
+-- ---- rollout (module 7)
+
+pub one-rows-left : One rows-left.Post (λ r x. r .0)
+one-rows-left l a r s x y = unique
+
+pub one-rollout : OneWithLent rollout.Post (λ x. x .1 .1 .1 .1 .1 .0 .now)
+one-rollout l a r s x y = both
+
+pub one-rollout-stop-distance : One rollout-stop-distance.Post (λ r x. r)
+one-rollout-stop-distance l a r s x y = unique
+
+-- ---- stopping (module 7)
+
+pub one-stopping : OneWithLent stopping.Post (λ x. x .1 .1 .1 .1 .1 .1 .0 .now)
+one-stopping l a r s x y = both
+
+pub one-stopping-stop-distance : One stopping-stop-distance.Post (λ r x. r)
+one-stopping-stop-distance l a r s x y = unique
+
+-- ---- brake (module 7)
+
+pub one-brake-feasible : OneWithLent brake-feasible.Post (λ x. x .1 .1 .1 .1 .1 .1 .1 .1 .0 .now)
+one-brake-feasible l a r s x y = both
+
+pub one-brake-action : OneWithLent brake-action.Post (λ x. x .1 .1 .1 .0 .now)
+one-brake-action l a r s x y = both
+
+pub one-hold-action : OneWithLent hold-action.Post (λ x. x .1 .1 .0 .now)
+one-hold-action l a r s x y = both
+
+-- ---- conformal (module 8)
+
+pub one-sizes-ok : One sizes-ok.Post (λ r x. r)
+one-sizes-ok l a r s x y = unique
+
+pub one-numbers-ok : One numbers-ok.Post (λ r x. r)
+one-numbers-ok l a r s x y = unique
+
+pub one-scores-ok : One scores-ok.Post (λ r x. r)
+one-scores-ok l a r s x y = unique
+
+pub one-standardise : One standardise.Post (λ r x. r)
+one-standardise l a r s x y = unique
+
+pub one-aggregate : One aggregate.Post (λ r x. r)
+one-aggregate l a r s x y = unique
+
+pub one-trip : One trip.Post (λ r x. r)
+one-trip l a r s x y = unique
+
+pub one-time-bin : One time-bin.Post (λ r x. r)
+one-time-bin l a r s x y = unique
