@@ -1,2 +1,3 @@
 pub mod Cases
 pub mod Wall
+pub mod Numbers

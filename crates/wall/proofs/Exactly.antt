@@ -1,0 +1,219 @@
+-- "Given exactly when": an entry's answer has a number if and only if that number's reason applies to the call and none before it in the order of
+-- judging does, and it is accepted if and only if no reason applies. For each entry the reasons and their conditions stand in the theorem.
+use Prim.Native.Nat.{ℕ, zero, suc}
+use mathlib.Core.Path.{_≡_, refl, sym, ap, _∙_}
+use mathlib.Core.Bool.{Bool, true, false, not, _||_, _&&_}
+use mathlib.Core.List.{List, [], _∷_, _++_}
+use native.Mathlib.Omega.{arith}
+use borrow.Author.Tests.{eqb-true, ne-eqb}
+use lib.Dec.{eqb, ltb}
+use lib.Ieee.{Float, Format, binary64}
+use lib.ListN.{length}
+use Rattle.refusal.specs.Order.{Reason, Judged, size, number, steps, short, notFinite, computed, _when_, numberOf, order, among, given, refusal, refusedFor, if_then_else_}
+use Rattle.refusal.specs.Exactly.{First, here, later, exactly-first, exactly-none}
+use Rattle.fmath.specs.Checked.{Checked, root}
+use Rattle.fmath.specs.Norm.{norm, dist}
+use Rattle.fmath.specs.Answer.{someNotFinite, numberOr, sqrtAnswer, normAnswer, distAnswer}
+use Rattle.chunk.specs.Refusals.{chunkReasons, lentReasons, heldReasons}
+use Rattle.chunk.specs.declared.ChunkBuf.{ChunkBuf}
+use Rattle.chunk.specs.declared.Filled.{Filled}
+use Rattle.chunk.specs.Of.{fillOf}
+use Rattle.window.specs.declared.Trail.{Trail}
+use Rattle.window.specs.declared.Recorded.{Recorded}
+use Rattle.window.specs.Rule.{maskRefusal, net, path}
+use Rattle.window.specs.Answer.{maskOf, outOfSize, unfit, trailReasons, pushReasons, netOf, pathOf, countOf, emptinessOf}
+use Rattle.window.specs.Of.{pushOf, clearOf}
+use Rattle.conformal.specs.Refusals as calibration
+use Rattle.conformal.specs.declared.Calibration.{Calibration}
+use Rattle.conformal.specs.declared.Scores.{Scores}
+use Rattle.conformal.specs.Answer.{judged, standardsOf, standardised, aggregated, tripped, timeBinOf}
+use Rattle.envelope.specs.Refusals.{configJudged}
+use Rattle.envelope.specs.declared.FuseConfig.{FuseConfig}
+use Rattle.tier0.specs.Rule.{Judgement}
+use Rattle.tier0.specs.Refusals as checks
+use Rattle.tier0.specs.Of.{lentToAction, lentToChunk, actionRuling, actionRefusal, actionAnswer, chunkRuling, chunkRefusal, chunkAnswer}
+use Rattle.tier1.specs.declared.Head.{Head}
+use Rattle.tier1.specs.declared.Tier1Rt.{Tier1Rt}
+use Rattle.tier1.specs.Refusals.{_or_, stateJudged}
+use Rattle.tier1.specs.Of as tier1
+use Rattle.rollout.specs.Forecast.{Forecast, placeOf}
+use Rattle.brake.specs.declared.BrakeOut.the-variants as out
+use Rattle.brake.specs.Answer.{plan, lentJudged, rowLent, eachFinite, outcome, answerAt, sentAt, forecastRefusal, forecastAnswer, brakeSent, brakeRefusal, brakeAnswer, holdRefusal, holdAnswer}
+use Rattle.wall.specs.Numbers.{numberIn, maskedIn, countIn, emptinessIn, verdictIn, binIn, checkIn, forecastIn, sentIn}
+
+-- n is the number of a call to which these reasons apply
+abbrev pub Exactly : ℕ → (Reason → Bool) → Type 0
+Exactly n applies =
+    ((k : Reason) → (First applies order k → n ≡ numberOf k) × (n ≡ numberOf k → First applies order k))
+    × ((((k : Reason) → applies k ≡ false) → n ≡ 0) × (n ≡ 0 → (k : Reason) → applies k ≡ false))
+
+pub exactly : {n : ℕ} (applies : Reason → Bool) → n ≡ given applies → Exactly n applies
+exactly applies e = rw e (exactly-first applies, exactly-none applies)
+
+-- an answer that is chosen by whether its number is 0
+chosen : {A : Type 0} (told : A → ℕ) (n : ℕ) (a b : A) → told a ≡ 0 → told b ≡ n → told (if eqb n 0 then a else b) ≡ n
+chosen told zero a b p q = p
+chosen told (suc k) a b p q = rw (ne-eqb (suc k) 0 (λ z. omega arith)) q
+
+-- ---- module 1
+
+number-told : (n : ℕ) (x : Float) → numberIn (numberOr n x) ≡ n
+number-told zero x = refl
+number-told (suc k) x = refl
+
+pub sqrt-exactly : (f : Format) (x : Float) → Exactly (numberIn (sqrtAnswer f x)) (among (computed when not (root f x .sound) ∷ []))
+sqrt-exactly f x = exactly _ (number-told _ _)
+
+pub norm-exactly : (f : Format) (v : List Float) (n : ℕ) → Exactly (numberIn (normAnswer f v n)) (among (short when ltb (length v) n ∷ notFinite when someNotFinite v ∷ computed when not (norm f v n .sound) ∷ []))
+norm-exactly f v n = exactly _ (number-told _ _)
+
+pub dist-exactly : (f : Format) (a b : List Float) (n : ℕ) → Exactly (numberIn (distAnswer f a b n)) (among (short when (ltb (length a) n || ltb (length b) n) ∷ notFinite when (someNotFinite a || someNotFinite b) ∷ computed when not (dist f a b n .sound) ∷ []))
+dist-exactly f a b n = exactly _ (number-told _ _)
+
+-- ---- module 2
+
+pub fill-exactly : (b : ChunkBuf) (s t h d e : ℕ) (l : List Float) → Exactly (fillOf b s t h d e l .number) (among (lentReasons l h d e))
+unfolding fillOf
+fill-exactly b s t h d e l = exactly _ (chosen (λ (r : Filled). r .number) (refusal (lentReasons l h d e)) _ _ refl refl)
+
+-- ---- module 3
+
+pub mask-exactly : (n : ℕ) → Exactly (maskedIn (maskOf n)) (among (size when (ltb n 1 || ltb 63 n) ∷ []))
+mask-exactly n = exactly _ (chosen maskedIn (maskRefusal n) _ _ refl refl)
+
+pub push-exactly : (t : Trail) (p : List Float) (d : ℕ) → Exactly (pushOf t p d .number) (among (size when outOfSize t ∷ notFinite when (unfit t || someNotFinite p) ∷ []))
+unfolding pushOf
+push-exactly t p d = exactly _ (chosen (λ (r : Recorded). r .number) (refusal (pushReasons t p)) _ _ refl refl)
+
+pub clear-exactly : (t : Trail) → Exactly (clearOf t .number) (among (trailReasons t))
+unfolding clearOf
+clear-exactly t = exactly _ (chosen (λ (r : Recorded). r .number) (refusal (trailReasons t)) _ _ refl refl)
+
+pub net-exactly : (f : Format) (t : Trail) (d w : ℕ) → Exactly (numberIn (netOf f t d w)) (among (size when outOfSize t ∷ notFinite when unfit t ∷ computed when not (net f (t .buf) (t .head) (t .len) d w .sound) ∷ []))
+unfolding netOf
+net-exactly f t d w = exactly _ (number-told _ _)
+
+pub path-exactly : (f : Format) (t : Trail) (d w : ℕ) → Exactly (numberIn (pathOf f t d w)) (among (size when outOfSize t ∷ notFinite when unfit t ∷ computed when not (path f (t .buf) (t .head) (t .len) d w .sound) ∷ []))
+unfolding pathOf
+path-exactly f t d w = exactly _ (number-told _ _)
+
+pub len-exactly : (t : Trail) → Exactly (countIn (countOf t)) (among (trailReasons t))
+unfolding countOf
+len-exactly t = exactly _ (chosen countIn (refusal (trailReasons t)) _ _ refl refl)
+
+pub is-empty-exactly : (t : Trail) → Exactly (emptinessIn (emptinessOf t)) (among (trailReasons t))
+unfolding emptinessOf
+is-empty-exactly t = exactly _ (chosen emptinessIn (refusal (trailReasons t)) _ _ refl refl)
+
+-- ---- module 4
+
+pub config-exactly : (c : FuseConfig) → Exactly (refusal (configJudged c)) (among (configJudged c))
+config-exactly c = exactly _ refl
+
+-- ---- module 5
+
+check-told : (n : ℕ) (j : Judgement) → checkIn (checks.answerAt n j) ≡ n
+check-told zero j = refl
+check-told (suc k) j = refl
+
+pub check-action-exactly :
+    (c : FuseConfig) (p aux prev a : List Float) (room : ℕ)
+    → Exactly (checkIn (actionAnswer c p aux prev a room)) (among (configJudged c ++ lentToAction c p aux prev a room ((computed when not (actionRuling c p aux prev a .sound)) ∷ [])))
+unfolding actionAnswer actionRefusal
+check-action-exactly c p aux prev a room = exactly _ (check-told _ _)
+
+pub check-chunk-exactly :
+    (c : FuseConfig) (p aux rows : List Float) (h d e room : ℕ)
+    → Exactly (checkIn (chunkAnswer c p aux rows h d e room)) (among (configJudged c ++ (chunkReasons h d e (length rows) ++ lentToChunk c p aux rows h d e room ((computed when not (chunkRuling c p aux rows h d e .sound)) ∷ []))))
+unfolding chunkAnswer chunkRefusal
+check-chunk-exactly c p aux rows h d e room = exactly _ (check-told _ _)
+
+-- ---- module 6
+
+pub features-exactly :
+    (c : FuseConfig) (p ext : List Float) (there : Bool) (k : Head) (rows : List Float) (rt : Tier1Rt) (sc : Scores)
+    → Exactly (tier1.featuresOf c p ext there k rows rt sc .refusal .number) (tier1.judged c p ext there k rows rt sc or among ((computed when not (tier1.ticked c p ext there k rows rt sc .sound)) ∷ []))
+unfolding tier1.featuresOf tier1.featuresRefusal
+features-exactly c p ext there k rows rt sc = exactly _ (told _)
+  where
+    told : (n : ℕ) → tier1.featuredAt n (tier1.ticked c p ext there k rows rt sc .value) rt sc .refusal .number ≡ n
+    told zero = refl
+    told (suc n) = refl
+
+pub reset-exactly : (rt : Tier1Rt) → Exactly (tier1.resetOf rt .refusal .number) (stateJudged rt)
+unfolding tier1.resetOf
+reset-exactly rt = exactly _ (told _)
+  where
+    told : (n : ℕ) → tier1.clearedAt n rt .refusal .number ≡ n
+    told zero = refl
+    told (suc n) = refl
+
+-- ---- module 7
+
+applied : (applies : Reason → Bool) (l : List Reason) (k : Reason) → First applies l k → applies k ≡ true
+applied applies l k (here e) = e
+applied applies l k (later e h) = applied applies _ k h
+
+opposite : (b : Bool) {c : Bool} → not b ≡ c → b ≡ not c
+opposite true e = ap not e
+opposite false e = ap not e
+
+forecast-told : (t : Forecast) (n : ℕ) → (n ≡ 0 → not (eqb (placeOf t) 0) ≡ false) → (n ≡ 13 → not (eqb (placeOf t) 0) ≡ true) → forecastIn (answerAt n t) ≡ n
+unfolding outcome
+forecast-told t n fine fails = go (eqb n 0) (eqb n 13) refl refl
+  where
+    go : (z f : Bool) → eqb n 0 ≡ z → eqb n 13 ≡ f → forecastIn (if z || f then outcome t else out.Refused (refusedFor n)) ≡ n
+    go true f a b = let e = eqb-true n 0 a in rw (opposite (eqb (placeOf t) 0) (fine e)) (sym e)
+    go false true a b = let e = eqb-true n 13 b in rw (opposite (eqb (placeOf t) 0) (fails e)) (sym e)
+    go false false a b = refl
+
+module _ (c : FuseConfig) (p v rows : List Float) (h d e from room : ℕ) where
+  abbrev forecastJudged : List Judged
+  forecastJudged = configJudged c ++ (chunkReasons h d e (length rows) ++ (lentJudged c p v rows h d e from room ++ (computed when not (eqb (placeOf (plan c p v rows h d e from)) 0) ∷ [])))
+
+  pub brake-feasible-exactly : Exactly (forecastIn (forecastAnswer c p v rows h d e from room)) (among forecastJudged)
+  unfolding forecastAnswer forecastRefusal
+  brake-feasible-exactly =
+      let none = exactly-none (among forecastJudged) .1 in
+      let last = exactly-first (among forecastJudged) computed .1 in
+      exactly _ (forecast-told (plan c p v rows h d e from) (refusal forecastJudged) (λ z. none z computed) (λ z. applied _ _ _ (last z)))
+
+sent-told : (n : ℕ) → sentIn (sentAt n) ≡ n
+sent-told zero = refl
+sent-told (suc k) = refl
+
+pub brake-action-exactly :
+    (c : FuseConfig) (p v : List Float) (room : ℕ)
+    → Exactly (sentIn (brakeAnswer c p v room)) (among (configJudged c ++ (rowLent c (eachFinite p && eachFinite v) room ++ (computed when not (brakeSent c p v .sound) ∷ []))))
+unfolding brakeAnswer brakeRefusal
+brake-action-exactly c p v room = exactly _ (sent-told _)
+
+pub hold-action-exactly : (c : FuseConfig) (p : List Float) (room : ℕ) → Exactly (sentIn (holdAnswer c p room)) (among (configJudged c ++ rowLent c (eachFinite p) room))
+unfolding holdAnswer holdRefusal
+hold-action-exactly c p room = exactly _ (sent-told _)
+
+-- ---- module 8
+
+-- what is judged of a calibration and scores, by whether each number that was computed is finite
+abbrev scoresJudged : Calibration → Scores → Bool → List Judged
+scoresJudged cal sc sound =
+    (size when not (calibration.sizesOk (cal .gate) (cal .mask)))
+    ∷ (number when not (calibration.numbersOk (cal .center) (cal .scale) (cal .tau)))
+    ∷ (notFinite when not (calibration.scoresOk sc))
+    ∷ (computed when not sound) ∷ []
+
+pub standardise-exactly : (f : Format) (cal : Calibration) (bin : ℕ) (sc : Scores) → Exactly (standardised f cal bin sc .refusal .number) (among (scoresJudged cal sc (standardsOf f cal bin sc .sound)))
+unfolding standardised judged
+standardise-exactly f cal bin sc = exactly _ refl
+
+pub aggregate-exactly : (cal : Calibration) (sc : Scores) → Exactly (aggregated cal sc .refusal .number) (among (scoresJudged cal sc true))
+unfolding aggregated judged
+aggregate-exactly cal sc = exactly _ refl
+
+pub trip-exactly : (cal : Calibration) (sc : Scores) → Exactly (verdictIn (tripped cal sc)) (among (scoresJudged cal sc true))
+unfolding tripped judged
+trip-exactly cal sc = exactly _ (chosen verdictIn (refusal (scoresJudged cal sc true)) _ _ refl refl)
+
+pub time-bin-exactly : (t horizon : ℕ) → Exactly (binIn (timeBinOf t horizon)) (among (steps when eqb horizon 0 ∷ []))
+unfolding timeBinOf
+time-bin-exactly t horizon = exactly _ (chosen binIn (refusal (steps when eqb horizon 0 ∷ [])) _ _ refl refl)
