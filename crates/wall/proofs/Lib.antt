@@ -1,2 +1,3 @@
+pub mod Wall
 pub mod OneAnswer
 pub mod Exactly

@@ -1,3 +1,3 @@
-pub mod Cases
+pub mod Inputs
 pub mod Wall
 pub mod Numbers
