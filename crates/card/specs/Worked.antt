@@ -1,4 +1,4 @@
--- Document 01's first record, and the lines of its example, by evaluation of the rules. What F1, F2 and F3 come to is worked in `rollout`.
+-- Document 01's first record, and the lines of its example, by evaluation of the rules. What F1, F2 and F3 come to stands on the wall.
 use mathlib.Core.Path.{_≡_, refl}
 use mathlib.Core.Bool.{true, false}
 use mathlib.Core.List.{List, [], _∷_}

@@ -5,14 +5,14 @@ use mathlib.Core.Bool.{Bool, true, false, _&&_, false≢true}
 use mathlib.Core.Logic.{_⊎_, ⊎-elim}
 use mathlib.Core.List.{List, [], _∷_}
 use native.Mathlib.Omega.{arith}
-use lib.Ieee.{Float, binary64, inf, lt, ofBits}
+use lib.Ieee.{Float, inf, lt}
 use Rattle.fmath.specs.Each.{at, some, all}
 use Rattle.fmath.specs.Least.{lesser, greater}
 use Rattle.fmath.proofs.Each.{and-left}
 use Rattle.fmath.proofs.Ordered.{Real}
 use Rattle.fmath.proofs.Extremes.{lesser-left, lesser-right, greater-left, greater-right}
 use Rattle.conformal.specs.Bits.{bit}
-use Rattle.conformal.specs.Rule.{liveTerm, joinWhere, leastOf, termAt, counts, aggregate, fires, firedBits, trips, binAt}
+use Rattle.conformal.specs.Rule.{liveTerm, joinWhere, leastOf, termAt, counts, aggregate, fires, firedBits}
 use Rattle.conformal.specs.declared.GateSpec.{GateSpec}
 use Rattle.conformal.proofs.Bits.{bit-where, no-bit-past}
 use Rattle.conformal.proofs.Picked.{Among, NoneOf, join-number, none-beyond, attained, lesser-either, lesser-start, greater-either, greater-start, real-∞}
@@ -80,30 +80,3 @@ module _ (live : ℕ → Bool) (tau : Float) (z : List Float) where
   pub fired-no-more : (j : ℕ) → 12 ≤ j → bit (firedBits live tau z) j ≡ false
   unfolding firedBits
   fired-no-more = no-bit-past (fires live tau z) 12
-
--- ---- the numbers on the wall
-
-abbrev pub two : Float
-two = ofBits binary64 0x4000_0000_0000_0000
-
-abbrev pub one : Float
-one = ofBits binary64 0x3ff0_0000_0000_0000
-
--- terms {0,1} and {0}
-abbrev pub gate : GateSpec
-gate = record { «n_terms» = 2; terms = 3 ∷ 1 ∷ 0 ∷ 0 ∷ 0 ∷ 0 ∷ 0 ∷ 0 ∷ [] }
-
--- z (2,1), s = 2, and a tau of 2 doesn't trip
-pub two-terms : (aggregate gate (λ (j : ℕ). true) (two ∷ one ∷ []) ≡ two) × (trips two (aggregate gate (λ (j : ℕ). true) (two ∷ one ∷ [])) ≡ false)
-unfolding aggregate joinWhere liveTerm leastOf bit some all lesser greater lt ofBits
-two-terms = (refl, refl)
-
--- no live term
-pub no-live-term : aggregate gate (λ (j : ℕ). false) (two ∷ one ∷ []) ≡ inf true
-unfolding aggregate joinWhere liveTerm leastOf bit some all
-no-live-term = refl
-
--- with 200 ticks, t 12 is bin 0, 13 bin 1 and 200 bin 15
-pub bins-of-200 : (binAt 12 200 ≡ 0) × ((binAt 13 200 ≡ 1) × (binAt 200 200 ≡ 15))
-unfolding binAt
-bins-of-200 = (refl, (refl, refl))

@@ -1,5 +1,4 @@
 pub mod Plant
 pub mod Forecast
 pub mod Rule
-pub mod Worked
 pub mod Of

@@ -5,26 +5,13 @@ use lib.IntN.{pos, negsuc}
 use lib.Ieee.{Float, nan, inf, fin, Format, binary32, binary64, ofBits, toBits, size, odd}
 use Rattle.root.specs.Root.{floorRoot, nearRoot, half, rootExponent, scaled, number, rootOf}
 
-of-25 : rootOf binary64 (fin false 25 (pos 0)) ≡ fin false 5 (pos 0)
-unfolding rootOf nearRoot floorRoot scaled rootExponent half number size odd
-of-25 = refl
-
 of-25-single : rootOf binary32 (fin false 25 (pos 0)) ≡ fin false 5 (pos 0)
 unfolding rootOf nearRoot floorRoot scaled rootExponent half number size odd
 of-25-single = refl
 
-of-2 : toBits binary64 (rootOf binary64 (fin false 1 (pos 1))) ≡ 0x3ff6_a09e_667f_3bcd
-unfolding rootOf nearRoot floorRoot scaled rootExponent half number size odd toBits
-of-2 = refl
-
 of-2-single : toBits binary32 (rootOf binary32 (fin false 1 (pos 1))) ≡ 0x3fb5_04f3
 unfolding rootOf nearRoot floorRoot scaled rootExponent half number size odd toBits
 of-2-single = refl
-
--- the root of 2 ^ -1074 is 2 ^ -537
-of-least : rootOf binary64 (fin false 1 (negsuc 1073)) ≡ fin false 1 (negsuc 536)
-unfolding rootOf nearRoot floorRoot scaled rootExponent half number size odd
-of-least = refl
 
 -- the root of 2 ^ -149, which is no power of two: 0x1a3504f3 = 1.41421354 * 2 ^ -75
 of-least-single : toBits binary32 (rootOf binary32 (fin false 1 (negsuc 148))) ≡ 0x1a35_04f3
