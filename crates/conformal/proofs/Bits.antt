@@ -1,13 +1,12 @@
 -- What `bitsWhere` says of each bit: the word is below 2 ^ n, so each weight that is added stands apart from those before it.
-use Prim.Native.Nat.{ℕ, zero, suc, _+_, _*_, _-_, _/_, _%_, _^_, _≤_, _<_}
-use mathlib.Core.Path.{_≡_, refl, ap, sym, _∙_}
+use Prim.Native.Nat.{ℕ, zero, suc, _+_, _-_, _/_, _^_, _≤_, _<_}
+use mathlib.Core.Path.{_≡_, ap, _∙_}
 use mathlib.Core.Bool.{Bool, true, false}
 use native.Mathlib.Nat.{div-eq-of-lt, add-div-right, add-mul-div-left, add-mul-mod-self-left, pow-succ', lt-of-lt-of-le, add-zero}
 use native.Mathlib.Omega.{arith}
 use native.Mathlib.Numerals.{add-one}
 use borrow.Author.Count.{below-more}
 use lib.Pow.{pow-mono, pow-pos, pow-add}
-use lib.Dec.{eqb}
 use Rattle.refusal.specs.Order.{if_then_else_}
 use Rattle.conformal.specs.Bits.{bit, bitsWhere}
 

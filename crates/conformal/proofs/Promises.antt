@@ -3,16 +3,16 @@ use Prim.Native.Nat.{ℕ, zero, suc, _<_, _≤_}
 use mathlib.Core.Path.{_≡_, refl, sym, _∙_}
 use mathlib.Core.Bool.{Bool, true, false, _&&_, false≢true}
 use mathlib.Core.Logic.{_⊎_, ⊎-elim}
-use mathlib.Core.List.{List, [], _∷_}
+use mathlib.Core.List.{List}
 use native.Mathlib.Omega.{arith}
 use lib.Ieee.{Float, inf, lt}
-use Rattle.fmath.specs.Each.{at, some, all}
+use Rattle.fmath.specs.Each.{at, some}
 use Rattle.fmath.specs.Least.{lesser, greater}
 use Rattle.fmath.proofs.Each.{and-left}
 use Rattle.fmath.proofs.Ordered.{Real}
 use Rattle.fmath.proofs.Extremes.{lesser-left, lesser-right, greater-left, greater-right}
 use Rattle.conformal.specs.Bits.{bit}
-use Rattle.conformal.specs.Rule.{liveTerm, joinWhere, leastOf, termAt, counts, aggregate, fires, firedBits}
+use Rattle.conformal.specs.Rule.{liveTerm, leastOf, termAt, counts, aggregate, fires, firedBits}
 use Rattle.conformal.specs.declared.GateSpec.{GateSpec}
 use Rattle.conformal.proofs.Bits.{bit-where, no-bit-past}
 use Rattle.conformal.proofs.Picked.{Among, NoneOf, join-number, none-beyond, attained, lesser-either, lesser-start, greater-either, greater-start, real-∞}

@@ -6,7 +6,7 @@ use lib.Dec.{eqb}
 use lib.Ieee.{Float, Format}
 use Rattle.refusal.specs.Order.{size, number, steps, notFinite, computed, _when_, refusal, refusedFor, if_then_else_}
 use Rattle.fmath.specs.Checked.{Checked}
-use Rattle.conformal.specs.Rule.{live, standards, liveTerm, leastOf, aggregate, firedBits, trips, binAt}
+use Rattle.conformal.specs.Rule.{live, standards, aggregate, firedBits, trips, binAt}
 use Rattle.conformal.specs.Refusals.{sizesOk, numbersOk, scoresOk}
 use Rattle.conformal.specs.declared.Calibration.{Calibration}
 use Rattle.conformal.specs.declared.Scores.{Scores}

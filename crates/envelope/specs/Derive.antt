@@ -1,6 +1,6 @@
 -- What document 01's module 4 derives from a configuration, over the format, in the source's operation order.
 use Prim.Native.Nat.{ℕ, min}
-use mathlib.Core.Bool.{Bool, true, false}
+use mathlib.Core.Bool.{Bool, false}
 use mathlib.Core.List.{List}
 use lib.Dec.{ltb}
 use lib.IntN.{pos}

@@ -1,7 +1,6 @@
 -- What is not finite stays so under a sum, a difference, a product, a root, and as the numerator of a quotient, at any format; and a NaN stays a NaN.
-use mathlib.Core.Path.{_≡_, refl, sym}
-use mathlib.Core.Bool.{Bool, true, false, _&&_, cond}
-use Prim.Native.Nat.{ℕ, zero, suc}
+use mathlib.Core.Path.{_≡_, refl}
+use mathlib.Core.Bool.{Bool, true, false, cond}
 use lib.Dec.{eqb}
 use lib.Ieee.{Float, Format, nan, inf, fin, add, sub, mul, div, neg}
 use Rattle.root.specs.Root.{rootOf}

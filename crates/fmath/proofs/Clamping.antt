@@ -1,5 +1,5 @@
 -- clamp: its value lies between the walls, is x inside them, and stays where it is.
-use mathlib.Core.Path.{_≡_, refl, sym, ap, _∙_}
+use mathlib.Core.Path.{_≡_, refl}
 use mathlib.Core.Bool.{Bool, true, false, cond}
 use lib.Ieee.{Float, lt}
 use Rattle.fmath.specs.Least.{clamped}

@@ -1,12 +1,11 @@
 -- The least and the greatest of some numbers: one turn of a loop, that they are attained, and that they bound every member.
-use mathlib.Core.Path.{_≡_, refl, sym, ap, _∙_}
+use mathlib.Core.Path.{_≡_, refl}
 use mathlib.Core.Bool.{Bool, true, false, cond}
 use Prim.Native.Nat.{ℕ, zero, suc, _+_, _≤_, _<_}
 use native.Mathlib.Numerals.{add-one}
 use native.Mathlib.Omega.{arith}
 use borrow.Author.Count.{below-more}
 use mathlib.Core.Logic.{_⊎_, inl, inr}
-use lib.Dec.{T}
 use lib.Ieee.{Float, nan, inf, fin, lt, isNan}
 use Rattle.fmath.specs.Least.{lesser, greater, least, greatest}
 use Rattle.fmath.proofs.Ordered.{Real, lt-not-below, lt-asymmetric, lt-irrefl}

@@ -1,6 +1,6 @@
 -- The order of floats of either sign: asymmetric, transitive, and total up to equal numbers. At any format, since a comparison is exact.
 use mathlib.Core.Path.{_≡_, refl, sym, ap, _∙_, subst}
-use mathlib.Core.Bool.{Bool, true, false, not, _&&_, _||_, Bool·beq}
+use mathlib.Core.Bool.{Bool, true, false, not, _&&_, _||_}
 use mathlib.Core.Logic.{_⊎_, inl, inr, ⊎-elim}
 use Prim.Native.Nat.{ℕ, zero, suc, _+_, _*_, _≤_, _<_}
 use native.Mathlib.Nat.{le-of-lt, le-antisymm, lt-of-not-le, suc-mul, zero-mul}
@@ -8,7 +8,7 @@ use native.Mathlib.Decide.{decLe, ℕ-discrete}
 use native.Mathlib.Omega.{arith}
 use borrow.Author.Tests.{ltb-false, ltb-true, le-ltb, lt-ltb, eq-eqb, ne-eqb}
 use lib.Dec.{T, ltb, eqb}
-use lib.Ieee.{Float, nan, inf, fin, lt, le, eq, below, level, up, down, isNan}
+use lib.Ieee.{Float, nan, inf, fin, lt, le, eq, below, up, down, isNan}
 use lib.Ieee.Fits.{down-pos}
 use lib.Ieee.Positive.{through}
 use Rattle.fmath.specs.Finite.{finite}

@@ -3,12 +3,12 @@ use mathlib.Core.Path.{_≡_, refl, sym, ap, _∙_, subst}
 use mathlib.Core.Bool.{Bool, true, false, _&&_, not, cond}
 use mathlib.Core.Logic.{_⊎_, inl, inr, ⊎-elim}
 use Prim.Native.Nat.{ℕ, zero, suc, _+_, _-_, _*_, _/_, _%_, _^_, _≤_, _<_, compare}
-use native.Mathlib.Nat.{le-refl, le-trans, le-of-lt, add-mul, mul-sub, mul-comm, mul-assoc, mul-right-comm, mul-pos, one-mul, mul-one, mul-le-mul-left, mul-le-mul-right, le-mul-of-pos-right, mul-div-le, le-div-iff-mul-le}
+use native.Mathlib.Nat.{le-trans, le-of-lt, add-mul, mul-sub, mul-comm, mul-assoc, mul-pos, one-mul, mul-le-mul-left, mul-le-mul-right, le-mul-of-pos-right, mul-div-le, le-div-iff-mul-le}
 use native.Mathlib.Omega.{arith}
 use borrow.Author.Tests.{ltb-true, lt-ltb, le-ltb, leb-true, leb-false}
 use lib.Dec.{T, ltb, leb, eqb, leb→le, eqb→eq}
 use lib.IntN.{ℤ, pos, negsuc}
-use lib.Pow.{pow-add, pow-pos, pow-mono}
+use lib.Pow.{pow-add, pow-pos}
 use lib.Ieee.{Float, Format, nan, inf, fin, prec, emax, low, up, down, size, nearest, odd, units, round, sum, add, sub, neg, lt, below, fits}
 use lib.Ieee.Digits.{size-lt, size-reaches}
 use lib.Ieee.Exact.{HasValue, odd-sign}

@@ -1,13 +1,13 @@
 -- Sums of checked numbers: one turn of a loop that keeps the sum so far, and that a NaN among them makes the sum a NaN.
-use mathlib.Core.Path.{_≡_, refl, sym, ap, _∙_}
+use mathlib.Core.Path.{_≡_}
 use mathlib.Core.List.{List}
-use Prim.Native.Nat.{ℕ, zero, suc, _+_, _≤_, _<_}
+use Prim.Native.Nat.{ℕ, zero, suc, _+_, _<_}
 use native.Mathlib.Nat.{le-refl}
 use native.Mathlib.Numerals.{add-one}
 use native.Mathlib.Omega.{arith}
 use borrow.Author.Count.{below-more}
 use lib.ListN.{length, List·getD-eq-default}
-use lib.Ieee.{Float, Format, nan, add, sub, mul}
+use lib.Ieee.{Float, Format, nan, add}
 use Rattle.root.specs.Root.{rootOf}
 use Rattle.fmath.specs.Each.{at}
 use Rattle.fmath.specs.Finite.{+0}

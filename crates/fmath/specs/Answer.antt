@@ -9,7 +9,7 @@ use Rattle.refusal.specs.Order.{short, notFinite, computed, _when_, refusal, re
 use Rattle.fmath.specs.declared.Number.{Number}
 use Rattle.fmath.specs.declared.Number.the-variants.{Value, Refused}
 use Rattle.fmath.specs.Finite.{allFinite}
-use Rattle.fmath.specs.Checked.{Checked, root}
+use Rattle.fmath.specs.Checked.{root}
 use Rattle.fmath.specs.Norm.{norm, dist}
 
 -- a number where the refusal is 0

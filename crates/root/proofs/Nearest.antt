@@ -1,24 +1,24 @@
 -- No other number of the format is as near to the exact root: in units of the smallest value, a number below the root y = r * 2 ^ i lies at least 2 ^ i below it,
 -- or the root is at least y and any number below y is farther; and likewise above. At either format.
-use mathlib.Core.Path.{_≡_, refl, sym, ap, _∙_, subst, subst₂}
+use mathlib.Core.Path.{_≡_, sym, ap, _∙_, subst, subst₂}
 use mathlib.Core.Bool.{Bool, true, false, _&&_}
 use Prim.Native.Nat.{ℕ, zero, suc, _+_, _-_, _*_, _/_, _%_, _^_, _≤_, _<_}
-use native.Mathlib.Nat.{le-refl, le-trans, le-of-lt, lt-of-lt-of-le, lt-of-le-of-lt, lt-of-not-le, not-le-of-lt, mul-le-mul, mul-le-mul-right, mul-le-mul-left, mul-lt-mul-of-pos-right, mul-pos, mul-assoc, mul-comm, mul-right-comm, add-mul, suc-mul, one-mul, mul-one}
+use native.Mathlib.Nat.{le-trans, le-of-lt, lt-of-lt-of-le, lt-of-le-of-lt, lt-of-not-le, not-le-of-lt, mul-le-mul, mul-le-mul-right, mul-le-mul-left, mul-lt-mul-of-pos-right, mul-pos, mul-assoc, mul-comm, mul-right-comm, add-mul, suc-mul, one-mul}
 use native.Mathlib.Decide.{decLe}
 use native.Mathlib.Omega.{arith}
 use borrow.Author.Tests.{ltb-true}
 use lib.Dec.{T, ltb, leb, eqb, ltb→lt}
-use lib.IntN.{ℤ, subℕ}
+use lib.IntN.{ℤ}
 use lib.Pow.{pow-add, pow-pos, pow-mono}
 use lib.Ieee.{Float, nan, inf, fin, Format, binary32, binary64, prec, emax, low, up, down, size, odd, fits, lt}
-use lib.Ieee.Digits.{size-le, size-reaches}
+use lib.Ieee.Digits.{size-le}
 use lib.Ieee.Exact.{HasValue, odd-sign}
-use lib.Ieee.Fits.{odd-fits, down-pos, and-r}
+use lib.Ieee.Fits.{odd-fits, and-r}
 use lib.Ieee.Positive.{num, den, den-pos, positive, value→cross, positive-of-value}
 use Rattle.root.specs.Root.{nearRoot, rootOf}
-use Rattle.root.specs.Rule.{Near, notNegative, NearestRoot, sumOver, MidBelow, MidAbove}
+use Rattle.root.specs.Rule.{Near, notNegative, NearestRoot, MidBelow, MidAbove}
 use Rattle.root.proofs.Units.{pairs, pairs-is, size-shift, squares}
-use Rattle.root.proofs.Rule.{prec-pos, wide, whole-of, whole-ge, root-near, root-ge, root-lt, root-is, weighed, InUnits, in-its-units, positive-not-negative, some-units}
+use Rattle.root.proofs.Rule.{prec-pos, whole-of, whole-ge, root-near, root-ge, root-lt, root-is, weighed, InUnits, in-its-units, positive-not-negative, some-units}
 
 -- ---- squares of multiples of 2 ^ i
 

@@ -1,13 +1,13 @@
 -- What `root_parts` computes, on plain values: its exponents are small, its shift is natural, and the digits that it hands to the loop are those of X.
-use Prim.Native.Nat.{ℕ, _+_, _-_, _*_, _/_, _%_, _^_, _≤_, _<_}
-use native.Mathlib.Nat.{lt-of-le-of-lt, lt-of-lt-of-le}
+use Prim.Native.Nat.{ℕ, _+_, _-_, _*_, _/_, _%_, _^_, _≤_}
+use native.Mathlib.Nat.{lt-of-lt-of-le}
 use native.Mathlib.Omega.{arith}
 use mathlib.Core.Path.{_≡_, sym, ap, _∙_, subst}
 use lib.Count.{leadingZeros}
 use lib.Pow.{pow-mono}
 use lib.Ieee.{size}
 use lib.Ieee.Digits.{size-le}
-use lib.IntN.{ℤ, pos, natAbs, subℕ, _-ℤ_, _*ℤ_}
+use lib.IntN.{ℤ, pos, natAbs, _-ℤ_, _*ℤ_}
 use lib.Signed.{mag}
 use Rattle.root.specs.declared.Parts.{Parts}
 use Rattle.root.specs.Root.{rootExponent, scaled}

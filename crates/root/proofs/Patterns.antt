@@ -2,16 +2,16 @@
 use mathlib.Core.Path.{_≡_, refl, sym, ap, _∙_, subst}
 use mathlib.Core.Logic.{_⊎_, inl, inr}
 use Prim.Native.Nat.{ℕ, zero, suc, _+_, _-_, _*_, _/_, _%_, _^_, _≤_, _<_}
-use native.Mathlib.Nat.{le-add-right, lt-of-not-le, le-trans, le-of-eq, lt-of-lt-of-le, lt-of-le-of-lt, mod-eq-of-lt, mul-comm, suc-mul, add-assoc, eq-or-lt-of-le, le-of-suc-le-suc, mul-pos, zero-lt-suc, add-sub-of-le, lt-irrefl, le-of-lt, mod-le, mod-lt, div-lt-iff-lt-mul}
+use native.Mathlib.Nat.{le-add-right, lt-of-not-le, le-trans, lt-of-lt-of-le, mod-eq-of-lt, mul-comm, suc-mul, eq-or-lt-of-le, mul-pos, zero-lt-suc, add-sub-of-le, lt-irrefl, le-of-lt, mod-le}
 use native.Mathlib.Decide.{decLe}
 use native.Mathlib.Omega.{arith}
 use mathlib.Core.Bool.{Bool, true, false, not, cond}
-use lib.Dec.{T, leb, ltb, eqb, lit<, lit≤, le→leb, lt→ltb, eqb→eq, ltb→lt, not-T}
+use lib.Dec.{T, leb, ltb, eqb, le→leb, eqb→eq, ltb→lt, not-T}
 use lib.Arith.{digits-lt, digits-div, digits-mod, lt→nleb}
 use lib.Pow.{pow-pos}
-use lib.Ieee.{Float, nan, inf, fin, Format, binary32, binary64, prec, emax, low, odd, hid, ones, top, ofFields, ofBits, nanBits}
+use lib.Ieee.{nan, inf, Format, binary32, binary64, prec, low, odd, hid, ones, top, ofFields, ofBits, nanBits}
 use lib.Ieee.Bits.{is-true, is-false, cond-no, nanBits-above}
-use lib.Ieee.Exact.{HasValue, odd-sign}
+use lib.Ieee.Exact.{odd-sign}
 use Rattle.root.specs.Root.{rootOf}
 use Rattle.root.proofs.Rule.{rootOf-below}
 

@@ -2,24 +2,24 @@
 -- The idea: such a number is q * 2 ^ k units of the format's smallest value, and in units all is natural numbers (`Units`).
 use mathlib.Core.Path.{_≡_, refl, sym, ap, _∙_, subst}
 use Prim.Native.Nat.{ℕ, zero, suc, _+_, _-_, _*_, _/_, _%_, _^_, _≤_, _<_}
-use native.Mathlib.Nat.{le-trans, le-of-eq, lt-of-lt-of-le, lt-of-le-of-lt, lt-of-not-le, not-le-of-lt, le-of-suc-le-suc, lt-irrefl, zero-mul, mul-one, one-mul, mul-pos, mul-assoc, mul-comm, mul-right-comm, mul-div-cancel, zero-lt-suc}
+use native.Mathlib.Nat.{lt-of-lt-of-le, lt-of-not-le, le-of-suc-le-suc, lt-irrefl, zero-mul, mul-one, one-mul, mul-pos, mul-assoc, mul-right-comm, mul-div-cancel, zero-lt-suc}
 use native.Mathlib.Decide.{decLe}
 use native.Mathlib.Omega.{arith}
 use borrow.Author.Tests.{le-leb, lt-leb}
 use lib.Count.{trailingZeros}
 use mathlib.Core.Bool.{Bool, true, false, _&&_, true≢false, false≢true}
 use lib.IntN.{ℤ, pos, negsuc, subℕ, _*ℤ_}
-use lib.Dec.{T, leb, ltb, eqb, lit≤, lit<, ltb→lt, leb→le, eqb→eq}
-use lib.Pow.{pow-add, pow-pos, pow-mono, pow-lt}
-use lib.Ieee.{Float, nan, inf, fin, Format, binary32, binary64, prec, emax, low, up, down, size, odd, minus, fits}
+use lib.Dec.{T, leb, ltb, eqb, lit≤, lit<, ltb→lt, leb→le}
+use lib.Pow.{pow-add, pow-pos, pow-lt}
+use lib.Ieee.{Float, nan, inf, fin, Format, binary32, binary64, prec, emax, low, up, down, odd, minus, fits}
 use lib.Ieee.Digits.{size-le, back}
-use lib.Ieee.Fits.{and-l, and-r, down-pos, up-pos}
+use lib.Ieee.Fits.{and-l, and-r, down-pos}
 use lib.Ieee.Exact.{HasValue}
 use lib.Ieee.Positive.{num, den, positive, value→cross, value-pos, first-pos}
-use Rattle.root.specs.Root.{nearRoot, rootExponent, scaled, number, rootOf}
+use Rattle.root.specs.Root.{nearRoot, number, rootOf}
 use Rattle.root.specs.Rule.{Near, notNegative, RoundedRoot}
 use Rattle.root.proofs.Whole.{sub-pos, sub-neg, sub-eq, twice-sub}
-use Rattle.root.proofs.Units.{pairs, kept, squares, four-pow, exponent-is, scaled-is, left-in, Left, left, left-ge, left-room, left-back}
+use Rattle.root.proofs.Units.{pairs, kept, squares, four-pow, exponent-is, scaled-is, Left, left, left-ge, left-room, left-back}
 use Rattle.root.proofs.Near.{near-unique, near-is, near-ge, near-lt}
 
 -- ---- r * 2 ^ h with a signed h is r * 2 ^ i units of 2 ^ -l

@@ -1,9 +1,8 @@
 -- Natural numbers in the place of signed exponents: of q * 2 ^ d, a number of units, so many pairs of binary digits are cut off that 2 * p - 1 or 2 * p are kept.
 -- What is kept is the rule's X, and the pairs are the root's exponent, counted from that of the unit. For any precision p.
 use mathlib.Core.Path.{_≡_, refl, sym, ap, _∙_, subst}
-use mathlib.Core.Logic.{_⊎_, inl, inr}
 use Prim.Native.Nat.{ℕ, zero, suc, _+_, _-_, _*_, _/_, _%_, _^_, _≤_, _<_}
-use native.Mathlib.Nat.{le-trans, le-of-eq, lt-of-lt-of-le, lt-of-le-of-lt, le-antisymm, lt-of-not-le, not-le-of-lt, le-of-suc-le-suc, lt-irrefl, mul-le-mul-right, mul-assoc, mul-left-comm, mul-right-comm, pow-succ', one-le-pow, mul-div-cancel, suc-mul}
+use native.Mathlib.Nat.{le-trans, le-of-eq, lt-of-lt-of-le, le-antisymm, lt-of-not-le, not-le-of-lt, mul-le-mul-right, mul-assoc, pow-succ', one-le-pow, mul-div-cancel, suc-mul}
 use native.Mathlib.Decide.{decLe}
 use native.Mathlib.Omega.{arith}
 use lib.Pow.{pow-add, pow-pos, pow-mono, shl-lt, shl-exact}
@@ -11,8 +10,7 @@ use lib.Count.{leadingZeros, leading-top}
 use lib.Ieee.{size}
 use lib.Ieee.Digits.{size-lt, size-le, size-reaches}
 use lib.Ieee.Nearest.{div-same}
-use lib.IntN.{ℤ, pos, subℕ, _+ℤ_, _-ℤ_, _*ℤ_}
-use lib.Ieee.{up}
+use lib.IntN.{pos, subℕ, _-ℤ_, _*ℤ_}
 use Rattle.root.specs.Root.{half, rootExponent, scaled}
 use Rattle.root.proofs.Floor.{sq-twice}
 use Rattle.root.proofs.Whole.{sub-pos, plus-nat, minus-nat, half-sub, excess-sub}

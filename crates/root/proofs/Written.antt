@@ -1,20 +1,19 @@
 -- From bits to bits, at either format: the parts of the root, put together as a pattern, are the pattern of the root.
 use mathlib.Core.Path.{_≡_, refl, sym, ap, _∙_, subst}
 use Prim.Native.Nat.{ℕ, zero, suc, _+_, _-_, _*_, _/_, _%_, _^_, _≤_, _<_}
-use native.Mathlib.Nat.{le-trans, le-of-eq, lt-of-lt-of-le, mul-le-mul-right, suc-mul}
+use native.Mathlib.Nat.{lt-of-lt-of-le, mul-le-mul-right, suc-mul}
 use native.Mathlib.Omega.{arith}
-use mathlib.Core.Bool.{Bool, true, false, cond}
+use mathlib.Core.Bool.{Bool, true, false}
 use lib.Dec.{eqb}
-use lib.IntN.{ℤ, pos, natAbs, subℕ, _+ℤ_}
+use lib.IntN.{pos, subℕ, _+ℤ_}
 use borrow.Author.Tests.{eqb-true, eqb-false}
 use lib.Dec.{T, lit≤}
 use lib.Ieee.{fits}
-use lib.Ieee.{Float, Format, binary32, binary64, prec, emax, low, odd, size, hid, ones, top, ofBits}
+use lib.Ieee.{Float, Format, binary32, binary64, prec, low, size, hid, ones, ofBits}
 use lib.Ieee.Digits.{size-le}
 use lib.Ieee.Exact.{HasValue, odd-sign}
-use lib.Ieee.Bits.{ofBits-fits}
 use Rattle.root.specs.declared.Parts.{Parts}
-use Rattle.root.specs.Root.{nearRoot, scaled, rootExponent, rootOf}
+use Rattle.root.specs.Root.{nearRoot, rootOf}
 use Rattle.root.specs.Of.{Ranged, rootParts, unpacked, Written}
 use Rattle.root.proofs.Whole.{sub-pos, plus-nat}
 use Rattle.root.proofs.Units.{pairs, kept, pairs-is, exponent-is, scaled-is}

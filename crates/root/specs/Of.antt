@@ -3,8 +3,7 @@ use Prim.Native.Nat.{ℕ, _+_, _-_, _*_, _/_, _%_, _^_, _≤_, _<_}
 use mathlib.Core.Path.{_≡_}
 use mathlib.Core.Bool.{cond}
 use lib.Dec.{eqb}
-use lib.IntN.{ℤ, pos, subℕ}
-use lib.Signed.{mag}
+use lib.IntN.{subℕ}
 use lib.Ieee.{Float, Format, low, hid, ones, ofBits}
 use Rattle.root.specs.declared.Parts.{Parts}
 use Rattle.root.specs.declared.Rooted.{Rooted}

@@ -1,7 +1,7 @@
 -- The correctly rounded square root, over the width, as document 01's module 1 has it: scale by an even power of two to a whole X of 2p - 1 or 2p binary
 -- digits; the root is the whole number R nearest to the root of X, with half of the scaled exponent.
-use Prim.Native.Nat.{ℕ, zero, suc, _+_, _-_, _*_, _/_, _^_}
-use mathlib.Core.Bool.{Bool, true, false, cond}
+use Prim.Native.Nat.{ℕ, zero, suc, _+_, _-_, _*_, _/_}
+use mathlib.Core.Bool.{true, false, cond}
 use lib.IntN.{ℤ, pos, negsuc, _+ℤ_, _-ℤ_, _*ℤ_}
 use lib.Signed.{shrZ}
 use lib.Dec.{leb, ltb}

@@ -2,7 +2,7 @@
 use mathlib.Core.Path.{_≡_, refl}
 use mathlib.Core.Bool.{true, false}
 use lib.IntN.{pos, negsuc}
-use lib.Ieee.{Float, nan, inf, fin, Format, binary32, binary64, ofBits, toBits, size, odd}
+use lib.Ieee.{nan, fin, binary32, binary64, ofBits, toBits, size, odd}
 use Rattle.root.specs.Root.{floorRoot, nearRoot, half, rootExponent, scaled, number, rootOf}
 
 of-25-single : rootOf binary32 (fin false 25 (pos 0)) ≡ fin false 5 (pos 0)

@@ -10,7 +10,6 @@ use lib.ListN.{set, replicate}
 use lib.Ieee.{Float, Format, sub, mul, ne}
 use Rattle.fmath.specs.Each.{at}
 use Rattle.fmath.specs.Finite.{finite, +0}
-use Rattle.fmath.specs.Checked.{each}
 use Rattle.fmath.proofs.Absorbing.{fine-add-right, fine-mul-left}
 use Rattle.fmath.proofs.Each.{over-more}
 use Rattle.fmath.proofs.Told.{Tells, implied}

@@ -1,13 +1,13 @@
 -- What document 01 promises of tier 0, from its rules: when each bit is raised, that a limit which is touched does not trip, when there is no slow zone, that
 -- unarmed checks move nothing. (That the box move ends inside the box is workspace's `Inside.inward-inside`.) A projected row re-passing its check is not promised.
-use Prim.Native.Nat.{ℕ, zero, suc, _+_, _-_, _*_, _/_, _%_, _≤_, _<_}
+use Prim.Native.Nat.{ℕ, zero, suc, _+_, _*_, _/_, _%_, _≤_, _<_}
 use mathlib.Core.Path.{_≡_, refl, sym, ap, _∙_}
 use mathlib.Core.Bool.{Bool, true, false, _&&_, false≢true}
 use mathlib.Core.List.{List, [], _∷_}
 use native.Mathlib.Omega.{arith}
 use borrow.Author.Tests.{eq-eqb}
 use lib.Dec.{eqb}
-use lib.ListN.{length, drop, replicate}
+use lib.ListN.{drop, replicate}
 use lib.Seq.{getD-drop}
 use lib.Ieee.{Float, Format, nan, inf, fin, mul, lt, le, ne, eq, up, down}
 use Rattle.refusal.specs.Order.{if_then_else_}

@@ -1,20 +1,20 @@
 -- "Given exactly when": an entry's answer has a number if and only if that number's reason applies to the call and none before it in the order of
 -- judging does, and it is accepted if and only if no reason applies. For each entry the reasons and their conditions stand in the theorem.
 use Prim.Native.Nat.{ℕ, zero, suc}
-use mathlib.Core.Path.{_≡_, refl, sym, ap, _∙_}
+use mathlib.Core.Path.{_≡_, refl, sym, ap}
 use mathlib.Core.Bool.{Bool, true, false, not, _||_, _&&_}
 use mathlib.Core.List.{List, [], _∷_, _++_}
 use native.Mathlib.Omega.{arith}
 use borrow.Author.Tests.{eqb-true, ne-eqb}
 use lib.Dec.{eqb, ltb}
-use lib.Ieee.{Float, Format, binary64}
+use lib.Ieee.{Float, Format}
 use lib.ListN.{length}
 use Rattle.refusal.specs.Order.{Reason, Judged, size, number, steps, short, notFinite, computed, _when_, numberOf, order, among, given, refusal, refusedFor, if_then_else_}
 use Rattle.refusal.specs.Exactly.{First, here, later, exactly-first, exactly-none}
-use Rattle.fmath.specs.Checked.{Checked, root}
+use Rattle.fmath.specs.Checked.{root}
 use Rattle.fmath.specs.Norm.{norm, dist}
 use Rattle.fmath.specs.Answer.{someNotFinite, numberOr, sqrtAnswer, normAnswer, distAnswer}
-use Rattle.chunk.specs.Refusals.{chunkReasons, lentReasons, heldReasons}
+use Rattle.chunk.specs.Refusals.{chunkReasons, lentReasons}
 use Rattle.chunk.specs.declared.ChunkBuf.{ChunkBuf}
 use Rattle.chunk.specs.declared.Filled.{Filled}
 use Rattle.chunk.specs.Of.{fillOf}

@@ -1,6 +1,6 @@
 -- The inputs of document 01's numbers that are marked P, and the whole answers that the definitions give for them. A float stands as its bits.
 use Prim.Native.Nat.{ℕ}
-use mathlib.Core.Bool.{Bool, true, false}
+use mathlib.Core.Bool.{Bool, false}
 use mathlib.Core.List.{List, [], _∷_, _++_, map}
 use lib.ListN.{replicate}
 use lib.Ieee.{Float, binary64, toBits}

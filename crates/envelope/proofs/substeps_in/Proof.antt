@@ -1,5 +1,4 @@
 -- `envelope::substeps_in` meets its contract: of u16 counts the sum and the product fit 64 bits.
-use Prim.Native.Nat.{_+_, _≤_}
 use native.Mathlib.Nat.{mul-le-mul}
 use native.Mathlib.Omega.{arith}
 use borrow.Author.Needs.{needs}

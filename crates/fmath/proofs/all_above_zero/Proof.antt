@@ -1,7 +1,6 @@
 -- `fmath::all_above_zero` meets its contract: a number that is not there is not above zero, and the loop keeps both answers so far.
 use Prim.Native.Nat.{ℕ, _≤_, _-_}
 use mathlib.Core.Path.{_≡_, refl, sym, _∙_}
-use mathlib.Core.Bool.{_&&_}
 use native.Mathlib.Omega.{arith}
 use borrow.Author.Needs.{needs}
 use denote.Ref.{now}

@@ -1,5 +1,5 @@
 -- `fmath::magnitude` meets its contract: the loop keeps the sum so far, and a coordinate that is not there makes a NaN.
-use Prim.Native.Nat.{ℕ, _≤_, _-_}
+use Prim.Native.Nat.{_≤_, _-_}
 use mathlib.Core.Path.{_≡_, refl, sym}
 use native.Mathlib.Nat.{le-antisymm}
 use native.Mathlib.Omega.{arith}

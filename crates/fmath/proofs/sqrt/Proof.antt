@@ -1,5 +1,5 @@
 -- `fmath::sqrt` meets its contract: there is a root exactly where the checked root is finite.
-use mathlib.Core.Path.{refl, sym, _∙_}
+use mathlib.Core.Path.{refl}
 use mathlib.Core.Bool.{false}
 use borrow.Author.Needs.{needs}
 use lib.Ieee.{binary64}

@@ -1,5 +1,5 @@
 -- `root::biased` meets its contract: a sum that is not below zero is read back as the natural number that it is.
-use Prim.Native.Nat.{_+_, _^_, _<_}
+use Prim.Native.Nat.{_^_, _<_}
 use native.Mathlib.Omega.{arith}
 use mathlib.Core.Path.{_≡_, ap, _∙_}
 use lib.IntN.{ℤ, pos, _+ℤ_}

@@ -1,8 +1,7 @@
 -- `root::excess` meets its contract: each signed number on the way is small, and what is not below zero is read back as the natural number that it is.
-use Prim.Native.Nat.{_+_, _*_, _^_, _<_}
+use Prim.Native.Nat.{_^_, _<_}
 use native.Mathlib.Omega.{arith}
-use mathlib.Core.Path.{_≡_}
-use lib.IntN.{ℤ, pos, _-ℤ_, _*ℤ_}
+use lib.IntN.{pos, _-ℤ_, _*ℤ_}
 use lib.Signed.{mag}
 use Rattle.root.proofs.Whole.{minus-mag, twice-mag, read-back, cast-up}
 use Rattle.root.proofs.excess.Statement.{statement}

@@ -1,5 +1,4 @@
 -- `root::half` meets its contract: the bits of a signed number are read back as the number.
-use mathlib.Core.Path.{_≡_}
 use lib.Signed.{mag-shr}
 use mir.Syntax.{w64}
 use mir.ValLaws.{toZ-ofZ, sfits-le}

@@ -1,11 +1,9 @@
 -- `root::lowered` meets its contract: the bits of a signed number are read back as the number, and the result is small.
-use Prim.Native.Nat.{_+_, _^_, _<_, _≤_}
+use Prim.Native.Nat.{_^_, _<_}
 use native.Mathlib.Omega.{arith}
-use mathlib.Core.Path.{_≡_}
 use lib.IntN.{pos, _-ℤ_}
 use lib.Signed.{mag}
 use mir.Syntax.{w64}
-use mir.Val.{toZ}
 use mir.ValLaws.{toZ-pos}
 use borrow.Author.Needs.{needs}
 use Rattle.root.proofs.Whole.{minus-mag, read-back}

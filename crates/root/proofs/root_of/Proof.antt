@@ -1,5 +1,5 @@
 -- `root::root_of` meets its contract: the patterns from the infinity's up have no root but that of -0.0.
-use mathlib.Core.Path.{_≡_, sym}
+use mathlib.Core.Path.{sym}
 use borrow.Author.Needs.{needs}
 use lib.Ieee.{binary64, ofBits, div}
 use Rattle.root.proofs.Patterns.{no-nan, refused}

@@ -1,14 +1,13 @@
 -- `root::root_parts` meets its contract, by the laws of `Parted`; a signed local is read back from its bits.
-use Prim.Native.Nat.{ℕ, _+_, _-_, _*_, _/_, _%_, _^_, _≤_, _<_}
+use Prim.Native.Nat.{ℕ, _+_, _-_, _*_, _^_, _≤_, _<_}
 use native.Mathlib.Omega.{arith}
-use mathlib.Core.Path.{_≡_, sym, ap, _∙_}
+use mathlib.Core.Path.{_≡_, ap, _∙_}
 use borrow.Author.Needs.{needs}
 use lib.Count.{leadingZeros}
-use lib.Dec.{T}
 use lib.Ieee.{size}
-use lib.IntN.{ℤ, pos, _+ℤ_, _-ℤ_, _*ℤ_}
-use lib.Signed.{mag, nonNeg}
-use Rattle.root.specs.Root.{half, nearRoot, rootExponent}
+use lib.IntN.{ℤ, pos, _+ℤ_, _-ℤ_}
+use lib.Signed.{mag}
+use Rattle.root.specs.Root.{half, rootExponent}
 use mir.Syntax.{w64}
 use mir.Val.{toZ, ofZ}
 use Rattle.root.proofs.Units.{size-pos}

@@ -1,13 +1,12 @@
 -- `root::unpack` meets its contract, by the test on the exponent's field.
-use Prim.Native.Nat.{ℕ, _+_, _-_, _/_, _%_, _^_, _<_}
+use Prim.Native.Nat.{ℕ, _+_, _-_, _/_, _^_}
 use native.Mathlib.Nat.{lt-of-le-of-lt}
 use native.Mathlib.Omega.{arith}
-use mathlib.Core.Path.{_≡_, sym, ap, _∙_}
+use mathlib.Core.Path.{_≡_, ap, _∙_}
 use borrow.Author.Needs.{needs}
 use borrow.Author.Tests.{eq-eqb, ne-eqb}
 use lib.Dec.{lit<}
-use lib.IntN.{ℤ, pos, subℕ, _+ℤ_, _-ℤ_}
-use lib.Signed.{mag}
+use lib.IntN.{ℤ, pos, subℕ, _-ℤ_}
 use Rattle.root.proofs.Whole.{sub-mag, returned}
 use Rattle.root.proofs.unpack.Statement.{statement}
 use Rattle.root.proofs.unpack.Tie as tie

@@ -1,6 +1,6 @@
 -- `root::whole_root` meets its contract: of a guess only the remainder is believed. At 53 digits w * 4 ^ 53 / 2 ^ 64 is w * 2 ^ 42.
 use mathlib.Core.Path.{_≡_, sym, _∙_}
-use Prim.Native.Nat.{ℕ, _+_, _*_, _/_, _^_}
+use Prim.Native.Nat.{ℕ, _*_, _/_, _^_}
 use native.Mathlib.Omega.{arith}
 use borrow.Author.Needs.{needs}
 use Rattle.root.proofs.whole_root.Statement.{statement}

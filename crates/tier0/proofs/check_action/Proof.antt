@@ -1,5 +1,4 @@
 -- `tier0::check_action` meets its contract: settings with their own tables are the configuration.
-use Prim.Native.Nat.{ℕ}
 use mathlib.Core.Path.{_≡_}
 use mathlib.Core.List.{List}
 use lib.ListN.{length}

@@ -1,5 +1,5 @@
 -- `window::mask` meets its contract: at a length below 64 the power of two fits 64 bits.
-use Prim.Native.Nat.{ℕ, _*_, _-_, _%_, _^_, _≤_, _<_}
+use Prim.Native.Nat.{ℕ, _*_, _%_, _^_, _≤_, _<_}
 use mathlib.Core.Path.{_≡_, ap, _∙_}
 use mathlib.Core.Bool.{false, _||_}
 use native.Mathlib.Nat.{one-mul, mod-eq-of-lt}
