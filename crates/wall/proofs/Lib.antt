@@ -1,3 +1,4 @@
 pub mod Wall
 pub mod OneAnswer
 pub mod Exactly
+pub mod Beliefs
