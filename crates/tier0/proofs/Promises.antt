@@ -7,7 +7,7 @@ use mathlib.Core.List.{List, [], _∷_}
 use native.Mathlib.Omega.{arith}
 use borrow.Author.Tests.{eq-eqb}
 use lib.Dec.{eqb}
-use lib.ListN.{drop, replicate}
+use lib.ListN.{drop, replicate, getD}
 use lib.Seq.{getD-drop}
 use lib.Ieee.{Float, Format, nan, inf, fin, mul, lt, le, ne, eq, up, down}
 use Rattle.refusal.specs.Order.{if_then_else_}
@@ -18,6 +18,8 @@ use Rattle.fmath.specs.Norm.{norm, dist}
 use Rattle.fmath.proofs.Each.{over-at}
 use Rattle.fmath.proofs.Ordered.{lt-irrefl}
 use Rattle.workspace.specs.Rule.{Walls, beyond}
+use Rattle.conformal.specs.Bits.{bit, bitsWhere}
+use Rattle.conformal.proofs.Bits.{bit-where}
 use Rattle.envelope.specs.declared.ClampMode.{ClampMode}
 use Rattle.envelope.specs.declared.ClampMode.the-variants.{Off, Project}
 use Rattle.envelope.specs.declared.Contact.{Contact}
@@ -34,72 +36,20 @@ abbrev pub raised : ℕ → ℕ → Bool
 raised w t = eqb (t / w % 2) 1
 
 -- each bit says its own test
-bits : (a b c d e g : Bool) → (raised WORKSPACE (tripBits a b c d e g) ≡ a) × (raised SPEED (tripBits a b c d e g) ≡ b) × (raised ACCEL (tripBits a b c d e g) ≡ c) × (raised JERK (tripBits a b c d e g) ≡ d) × (raised REACH (tripBits a b c d e g) ≡ e) × (raised CONTACT (tripBits a b c d e g) ≡ g)
-unfolding tripBits
-bits false false false false false false = (refl, refl, refl, refl, refl, refl)
-bits false false false false false true = (refl, refl, refl, refl, refl, refl)
-bits false false false false true false = (refl, refl, refl, refl, refl, refl)
-bits false false false false true true = (refl, refl, refl, refl, refl, refl)
-bits false false false true false false = (refl, refl, refl, refl, refl, refl)
-bits false false false true false true = (refl, refl, refl, refl, refl, refl)
-bits false false false true true false = (refl, refl, refl, refl, refl, refl)
-bits false false false true true true = (refl, refl, refl, refl, refl, refl)
-bits false false true false false false = (refl, refl, refl, refl, refl, refl)
-bits false false true false false true = (refl, refl, refl, refl, refl, refl)
-bits false false true false true false = (refl, refl, refl, refl, refl, refl)
-bits false false true false true true = (refl, refl, refl, refl, refl, refl)
-bits false false true true false false = (refl, refl, refl, refl, refl, refl)
-bits false false true true false true = (refl, refl, refl, refl, refl, refl)
-bits false false true true true false = (refl, refl, refl, refl, refl, refl)
-bits false false true true true true = (refl, refl, refl, refl, refl, refl)
-bits false true false false false false = (refl, refl, refl, refl, refl, refl)
-bits false true false false false true = (refl, refl, refl, refl, refl, refl)
-bits false true false false true false = (refl, refl, refl, refl, refl, refl)
-bits false true false false true true = (refl, refl, refl, refl, refl, refl)
-bits false true false true false false = (refl, refl, refl, refl, refl, refl)
-bits false true false true false true = (refl, refl, refl, refl, refl, refl)
-bits false true false true true false = (refl, refl, refl, refl, refl, refl)
-bits false true false true true true = (refl, refl, refl, refl, refl, refl)
-bits false true true false false false = (refl, refl, refl, refl, refl, refl)
-bits false true true false false true = (refl, refl, refl, refl, refl, refl)
-bits false true true false true false = (refl, refl, refl, refl, refl, refl)
-bits false true true false true true = (refl, refl, refl, refl, refl, refl)
-bits false true true true false false = (refl, refl, refl, refl, refl, refl)
-bits false true true true false true = (refl, refl, refl, refl, refl, refl)
-bits false true true true true false = (refl, refl, refl, refl, refl, refl)
-bits false true true true true true = (refl, refl, refl, refl, refl, refl)
-bits true false false false false false = (refl, refl, refl, refl, refl, refl)
-bits true false false false false true = (refl, refl, refl, refl, refl, refl)
-bits true false false false true false = (refl, refl, refl, refl, refl, refl)
-bits true false false false true true = (refl, refl, refl, refl, refl, refl)
-bits true false false true false false = (refl, refl, refl, refl, refl, refl)
-bits true false false true false true = (refl, refl, refl, refl, refl, refl)
-bits true false false true true false = (refl, refl, refl, refl, refl, refl)
-bits true false false true true true = (refl, refl, refl, refl, refl, refl)
-bits true false true false false false = (refl, refl, refl, refl, refl, refl)
-bits true false true false false true = (refl, refl, refl, refl, refl, refl)
-bits true false true false true false = (refl, refl, refl, refl, refl, refl)
-bits true false true false true true = (refl, refl, refl, refl, refl, refl)
-bits true false true true false false = (refl, refl, refl, refl, refl, refl)
-bits true false true true false true = (refl, refl, refl, refl, refl, refl)
-bits true false true true true false = (refl, refl, refl, refl, refl, refl)
-bits true false true true true true = (refl, refl, refl, refl, refl, refl)
-bits true true false false false false = (refl, refl, refl, refl, refl, refl)
-bits true true false false false true = (refl, refl, refl, refl, refl, refl)
-bits true true false false true false = (refl, refl, refl, refl, refl, refl)
-bits true true false false true true = (refl, refl, refl, refl, refl, refl)
-bits true true false true false false = (refl, refl, refl, refl, refl, refl)
-bits true true false true false true = (refl, refl, refl, refl, refl, refl)
-bits true true false true true false = (refl, refl, refl, refl, refl, refl)
-bits true true false true true true = (refl, refl, refl, refl, refl, refl)
-bits true true true false false false = (refl, refl, refl, refl, refl, refl)
-bits true true true false false true = (refl, refl, refl, refl, refl, refl)
-bits true true true false true false = (refl, refl, refl, refl, refl, refl)
-bits true true true false true true = (refl, refl, refl, refl, refl, refl)
-bits true true true true false false = (refl, refl, refl, refl, refl, refl)
-bits true true true true false true = (refl, refl, refl, refl, refl, refl)
-bits true true true true true false = (refl, refl, refl, refl, refl, refl)
-bits true true true true true true = (refl, refl, refl, refl, refl, refl)
+module _ (a b c d e g : Bool) where
+  abbrev tests : ℕ → Bool
+  tests j = getD (a ∷ b ∷ c ∷ d ∷ e ∷ g ∷ []) j false
+
+  as-word : tripBits a b c d e g ≡ bitsWhere tests 6
+  unfolding tripBits bitsWhere
+  as-word = omega arith
+
+  bits : (raised WORKSPACE (tripBits a b c d e g) ≡ a) × (raised SPEED (tripBits a b c d e g) ≡ b) × (raised ACCEL (tripBits a b c d e g) ≡ c) × (raised JERK (tripBits a b c d e g) ≡ d) × (raised REACH (tripBits a b c d e g) ≡ e) × (raised CONTACT (tripBits a b c d e g) ≡ g)
+  unfolding bit
+  bits = rw as-word (says 0 (omega arith), says 1 (omega arith), says 2 (omega arith), says 3 (omega arith), says 4 (omega arith), says 5 (omega arith))
+    where
+      says : (j : ℕ) → j < 6 → bit (bitsWhere tests 6) j ≡ tests j
+      says = bit-where tests 6
 
 never : (b : Bool) → (b && false) ≡ false
 never true = refl
