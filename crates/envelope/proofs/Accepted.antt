@@ -4,7 +4,8 @@ use mathlib.Core.Path.{_≡_}
 use mathlib.Core.Bool.{Bool, true, false, not, _||_}
 use borrow.Author.Tests.{leb-true, ltb-true, not-true, not-false}
 use lib.Ieee.{binary64, lt}
-use Rattle.refusal.specs.Order.{refusal}
+use Rattle.refusal.specs.Order.{size, number, steps, channels, among, refusal}
+use Rattle.refusal.specs.Exactly.{exactly-none}
 use Rattle.fmath.specs.Each.{at}
 use Rattle.fmath.specs.Finite.{finite, aboveZero, notBelowZero, allFinite, allAboveZero}
 use Rattle.fmath.proofs.Each.{all-at, every-at}
@@ -13,7 +14,6 @@ use Rattle.envelope.specs.Derive.{derived}
 use Rattle.envelope.specs.Steps.{substepsIn}
 use Rattle.envelope.specs.Refusals.{sizesOk, limitsOk, brakeOk, zoneOk, normOk, boxOk, scalarsOk, ordered, derivedOk, numbersOk, countsOk, stepsOk, sizesFit, stepsFit, channelsFit, configJudged}
 use Rattle.envelope.specs.declared.FuseConfig.{FuseConfig}
-use Rattle.envelope.proofs.Judged.{none-refused}
 
 -- the four conditions
 pub record Fit (c : FuseConfig) : Type 0 where
@@ -24,12 +24,12 @@ pub record Fit (c : FuseConfig) : Type 0 where
 
 pub accepted : (c : FuseConfig) → refusal (configJudged c) ≡ 0 → Fit c
 accepted c h =
-    let w = none-refused (not (sizesFit c)) (not (numbersOk c)) (not (stepsFit c)) (not (channelsFit c)) h in
+    let passed = exactly-none (among (configJudged c)) .1 h in
     record {
-      sizes = not-false (sizesFit c) (w .0);
-      numbers = not-false (numbersOk c) (w .1 .0);
-      counts = not-false (stepsFit c) (w .1 .1 .0);
-      apart = not-false (channelsFit c) (w .1 .1 .1);
+      sizes = not-false (sizesFit c) (passed size);
+      numbers = not-false (numbersOk c) (passed number);
+      counts = not-false (stepsFit c) (passed steps);
+      apart = not-false (channelsFit c) (passed channels);
     }
 
 module _ (c : FuseConfig) (fit : Fit c) where

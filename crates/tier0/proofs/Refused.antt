@@ -9,12 +9,12 @@ use lib.Dec.{leb, ltb}
 use lib.ListN.{length}
 use lib.Ieee.{Float, binary64}
 use Rattle.refusal.specs.Order.{Judged, short, notFinite, computed, _when_, refusal, refusedFor, if_then_else_}
+use Rattle.refusal.specs.Chain.{first-refuses, first-passes, both-pass, passes-at}
 use Rattle.refusal.specs.declared.Refusal.{Refusal}
 use Rattle.fmath.specs.Each.{at, over}
 use Rattle.fmath.proofs.Each.{and-left, and-right}
-use Rattle.envelope.specs.Refusals.{numbersOk, sizesFit, stepsFit, channelsFit, configJudged}
+use Rattle.envelope.specs.Refusals.{configJudged}
 use Rattle.envelope.specs.declared.FuseConfig.{FuseConfig}
-use Rattle.envelope.proofs.Judged.{four, config-first, config-passed}
 use Rattle.envelope.proofs.Accepted.{accepted, dim-most}
 use Rattle.tier0.specs.declared.Check.{Check}
 use Rattle.tier0.specs.declared.Check.the-variants.{Passed, Refused}
@@ -28,42 +28,6 @@ pub seen-parts : (p aux : List Float) (i j : ℕ) → seen p aux i j ≡ true �
 seen-parts p aux i j e =
     let t = and-right (leb 2 (length p)) (ltb i (length aux) && ltb j (length aux)) e in
     (ltb-true _ _ (and-left (ltb i (length aux)) _ t), ltb-true _ _ (and-right (ltb i (length aux)) _ t))
-
--- ---- a configuration, then 11, then 12, then the rest
-
-abbrev lent : Bool → Bool → List Judged → List Judged
-lent s n l = (short when s) ∷ (notFinite when n) ∷ l
-
--- the six tests before the computed numbers, none of which applies
-none-applies : (a b d e s n : Bool) → refusal (four a b d e (lent s n [])) ≡ 0 → (refusal (four a b d e []) ≡ 0) × ((s ≡ false) × (n ≡ false))
-none-applies true b d e s n h = absurd (let z : ⊥ = omega arith in z)
-none-applies false true d e s n h = absurd (let z : ⊥ = omega arith in z)
-none-applies false false true e s n h = absurd (let z : ⊥ = omega arith in z)
-none-applies false false false true s n h = absurd (let z : ⊥ = omega arith in z)
-none-applies false false false false true n h = absurd (let z : ⊥ = omega arith in z)
-none-applies false false false false false true h = absurd (let z : ⊥ = omega arith in z)
-none-applies false false false false false false h = (refl, (refl, refl))
-
--- a refusal before the computed numbers is the refusal
-some-applies : (a b d e s n t : Bool) → (refusal (four a b d e (lent s n [])) ≡ 0 → ⊥) → refusal (four a b d e (lent s n ((computed when t) ∷ []))) ≡ refusal (four a b d e (lent s n []))
-some-applies true b d e s n t h = refl
-some-applies false true d e s n t h = refl
-some-applies false false true e s n t h = refl
-some-applies false false false true s n t h = refl
-some-applies false false false false true n t h = refl
-some-applies false false false false false true t h = refl
-some-applies false false false false false false t h = absurd (h refl)
-
--- .. and where there is none, 13 is the only one left
-only-computed : (a b d e s n t : Bool) → refusal (four a b d e (lent s n [])) ≡ 0 → refusal (four a b d e (lent s n ((computed when t) ∷ []))) ≡ (if t then 13 else 0)
-only-computed true b d e s n t h = absurd (let z : ⊥ = omega arith in z)
-only-computed false true d e s n t h = absurd (let z : ⊥ = omega arith in z)
-only-computed false false true e s n t h = absurd (let z : ⊥ = omega arith in z)
-only-computed false false false true s n t h = absurd (let z : ⊥ = omega arith in z)
-only-computed false false false false true n t h = absurd (let z : ⊥ = omega arith in z)
-only-computed false false false false false true t h = absurd (let z : ⊥ = omega arith in z)
-only-computed false false false false false false true h = refl
-only-computed false false false false false false false h = refl
 
 -- ---- what is known of an accepted call
 
@@ -111,18 +75,18 @@ module _ (c : FuseConfig) (p aux prev a : List Float) where
   unfit = someLentNotFinite p aux prev a
 
   module _ (room : ℕ) where
-    abbrev lentNumber : ℕ
-    lentNumber = refusal (configJudged c ++ lentToAction c p aux prev a room [])
-
     abbrev rest : List Judged
     rest = lentToAction c p aux prev a room []
 
+    abbrev lentNumber : ℕ
+    lentNumber = refusal (configJudged c ++ rest)
+
     pub by-config : {r : ℕ} → r ≡ refusal (configJudged c) → (r ≡ 0 → ⊥) → r ≡ lentNumber
-    by-config e h = e ∙ sym (config-first c rest (λ z. h (e ∙ z)))
+    by-config e h = e ∙ sym (first-refuses (configJudged c) rest (λ z. h (e ∙ z)))
 
     module _ {k : ℕ} (ek : k ≡ refusal (configJudged c)) (e : k ≡ 0) {s : Bool} (es : s ≡ brief room) where
-      passed-on : lentNumber ≡ refusal (four false false false false rest)
-      passed-on = config-passed c rest (sym ek ∙ e)
+      passed-on : lentNumber ≡ refusal rest
+      passed-on = first-passes (configJudged c) rest (sym ek ∙ e)
 
       pub by-11 : s ≡ true → 11 ≡ lentNumber
       by-11 h = sym (passed-on ∙ rw (sym es ∙ h))
@@ -149,24 +113,24 @@ module _ (c : FuseConfig) (p aux prev a : List Float) where
         out = ltb-false _ _ (or-right (x || y || z) (ltb room (c .dim)) e);
       }
 
-  pub accepted-sizes : (room : ℕ) → refusal (configJudged c ++ lentToAction c p aux prev a room []) ≡ 0 → Sized c p prev a room
+  pub accepted-sizes : (room : ℕ) → lentNumber room ≡ 0 → Sized c p prev a room
   accepted-sizes room h =
-      let w = none-applies (not (sizesFit c)) (not (numbersOk c)) (not (stepsFit c)) (not (channelsFit c)) (brief room) unfit h in
-      sizes room (w .1 .0) (dim-most c (accepted c (w .0)))
+      let w = both-pass (configJudged c) (rest room) h in
+      sizes room (passes-at short (brief room) ((notFinite when unfit) ∷ []) (w .1) .0) (dim-most c (accepted c (w .0)))
+
+  abbrev last : List Judged
+  last = (computed when not (actionRuling c p aux prev a .sound)) ∷ []
 
   module _ (l : List Float) where
-    abbrev lentRefusal : ℕ
-    lentRefusal = refusal (configJudged c ++ lentToAction c p aux prev a (length l) [])
-
     numbered : (k : ℕ) → k ≡ actionRefusal c p aux prev a (length l) → (k ≡ 0 → ⊥) → {r : Refusal} → r ≡ refusedFor k → Answered c p aux prev a l (Refused r) l
     unfolding actionAnswer actionOut
     numbered k e h g = record { gives = rw (g, ← e) (at-number k h _); leaves = rw (← e) (out-number k h _ _ l) }
 
-    pub lent-refused : (k : ℕ) → k ≡ lentRefusal → (k ≡ 0 → ⊥) → {r : Refusal} → r ≡ refusedFor k → Answered c p aux prev a l (Refused r) l
+    pub lent-refused : (k : ℕ) → k ≡ lentNumber (length l) → (k ≡ 0 → ⊥) → {r : Refusal} → r ≡ refusedFor k → Answered c p aux prev a l (Refused r) l
     unfolding actionRefusal
-    lent-refused k e h = numbered k (e ∙ sym (some-applies (not (sizesFit c)) (not (numbersOk c)) (not (stepsFit c)) (not (channelsFit c)) (brief (length l)) unfit (not (actionRuling c p aux prev a .sound)) (λ z. h (e ∙ z)))) h
+    lent-refused k e h = numbered k (e ∙ sym (first-refuses (configJudged c ++ rest (length l)) last (λ z. h (e ∙ z)))) h
 
-    module _ (e : lentRefusal ≡ 0) {s : Checks} {v : Verdict} (es : s ≡ checksOf c) (ev : v ≡ verdictFrom (checkAction binary64 s p aux prev a)) where
+    module _ (e : lentNumber (length l) ≡ 0) {s : Checks} {v : Verdict} (es : s ≡ checksOf c) (ev : v ≡ verdictFrom (checkAction binary64 s p aux prev a)) where
       ruled : v ≡ verdictFrom (actionRuling c p aux prev a)
       unfolding actionRuling
       ruled = rw es at ev
@@ -174,7 +138,7 @@ module _ (c : FuseConfig) (p aux prev a : List Float) where
       known : (b : Bool) → v .sound ≡ b → actionRefusal c p aux prev a (length l) ≡ (if not b then 13 else 0)
       unfolding actionRefusal
       known b h =
-          only-computed (not (sizesFit c)) (not (numbersOk c)) (not (stepsFit c)) (not (channelsFit c)) (brief (length l)) unfit (not (actionRuling c p aux prev a .sound)) e
+          first-passes (configJudged c ++ rest (length l)) last e
           ∙ ap (λ (t : Bool). if not t then 13 else 0) (sym (ap (λ (x : Verdict). x .sound) ruled) ∙ h)
 
       pub not-sound : v .sound ≡ false → {r : Refusal} → r ≡ refusedFor 13 → Answered c p aux prev a l (Refused r) l
