@@ -44,7 +44,13 @@ pub fn state_of(
 }
 
 // Lays the held features and their counts out in the arrays.
-pub fn put_held(held: [f64; 6], have_prev: bool, held_valid: u32, f: &mut [f64; 6], c: &mut [u64; 2])
+pub fn put_held(
+    held: [f64; 6],
+    have_prev: bool,
+    held_valid: u32,
+    f: &mut [f64; 6],
+    c: &mut [u64; 2],
+)
     ensures { λ _. ⌜ (now (f .exit) ≡ held) × (now (c .exit) ≡ heldMarks «have_prev» «held_valid») ⌝ }
 {
     *f = held;
