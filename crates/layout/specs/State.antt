@@ -1,6 +1,5 @@
 -- Tier 1's state in flat arrays: the chunk before in 512 numbers and 6 counts, the trail in 256 numbers and 2 counts, the 6 held features with 2 counts, have_prev and held_valid.
 use Prim.Native.Nat.{ℕ}
-use mathlib.Core.Path.{_≡_}
 use mathlib.Core.Bool.{Bool}
 use mathlib.Core.List.{List, [], _∷_}
 use lib.Dec.{leb, eqb}
@@ -8,8 +7,8 @@ use lib.Ieee.{Float}
 use Rattle.fmath.specs.Each.{every}
 use Rattle.tier1.specs.declared.Tier1Rt.{Tier1Rt}
 use Rattle.layout.specs.Places.{count, long, bit, in32}
-use Rattle.layout.specs.Chunk.{headerFits, chunkOf, headerFlat}
-use Rattle.layout.specs.Trail.{trailFits, trailOf, trailMarks}
+use Rattle.layout.specs.Chunk.{headerFits, chunkOf}
+use Rattle.layout.specs.Trail.{trailFits, trailOf}
 
 -- each count fits its field
 unfoldable pub stateFits : List ℕ → List ℕ → List ℕ → Bool
@@ -28,12 +27,3 @@ stateOf l h p t f c = record {
 -- the counts of the held features, laid out
 abbrev pub heldMarks : Bool → ℕ → List ℕ
 heldMarks have bits = bit have ∷ bits ∷ []
-
--- a state, laid out in its six arrays
-pub record StateLaid (rt : Tier1Rt) (l : List Float) (h : List ℕ) (p : List Float) (t : List ℕ) (f : List Float) (c : List ℕ) : Type 0 where
-  pub rows : l ≡ rt .prev .«data»
-  pub header : h ≡ headerFlat (rt .prev)
-  pub trail : p ≡ rt .trail .buf
-  pub samples : t ≡ trailMarks (rt .trail)
-  pub features : f ≡ rt .held
-  pub marks : c ≡ heldMarks (rt .«have_prev») (rt .«held_valid»)

@@ -1,12 +1,10 @@
 // Tier 1's state: the chunk before and the trail, each as it is laid out by itself; the 6 held features; 2 counts, have_prev and
 // held_valid.
 ghost use mathlib.Core.Path.{_≡_};
-ghost use Rattle.layout.specs.State.{stateFits, stateOf, heldMarks, StateLaid};
+ghost use Rattle.layout.specs.State.{stateFits, stateOf, heldMarks};
 use crate::chunks::chunk_of;
 use crate::chunks::header_fits;
-use crate::chunks::put_chunk;
 use crate::places::to_u32;
-use crate::trails::put_trail;
 use crate::trails::trail_fits;
 use crate::trails::trail_of;
 use tier1::Tier1Rt;
@@ -55,24 +53,4 @@ pub fn put_held(
 {
     *f = held;
     *c = [have_prev as u64, held_valid as u64];
-}
-
-// Lays the state out in the arrays.
-pub fn put_state(
-    rt: Tier1Rt,
-    l: &mut [f64; 512],
-    h: &mut [u64; 6],
-    p: &mut [f64; 256],
-    t: &mut [u64; 2],
-    f: &mut [f64; 6],
-    c: &mut [u64; 2],
-)
-    ensures { λ _. ⌜ StateLaid rt (now (l .exit)) (now (h .exit)) (now (p .exit)) (now (t .exit)) (now (f .exit)) (now (c .exit)) ⌝ }
-{
-    let prev = rt.prev;
-    let trail = rt.trail;
-    let held = rt.held;
-    put_chunk(prev, l, h);
-    put_trail(trail, p, t);
-    put_held(held, rt.have_prev, rt.held_valid, f, c);
 }

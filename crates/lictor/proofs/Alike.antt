@@ -35,8 +35,7 @@ use Rattle.tier1.specs.Of.{featuresOf, resetOf}
 use Rattle.brake.specs.declared.BrakeOut.{BrakeOut}
 use Rattle.brake.specs.declared.Sent.{Sent}
 use Rattle.brake.specs.Answer.{forecastAnswer, forecastSlacks, brakeAnswer, brakeOutput, holdAnswer, holdOutput}
-use Rattle.layout.specs.State.{StateLaid}
-use Rattle.lictor.specs.Answer.{fitting, NumberGiven, FilledGiven, MaskGiven, RecordedGiven, TrailNumberGiven, DerivedGiven, CheckPut, CheckGiven, FeaturedGiven, ClearedGiven, ForecastPut, ForecastGiven, sentNumber, SentGiven, ScoredGiven, VerdictGiven, BinGiven}
+use Rattle.lictor.specs.Answer.{fitting, NumberGiven, FilledGiven, MaskGiven, RecordedGiven, TrailNumberGiven, DerivedGiven, CheckPut, CheckGiven, FeaturedGiven, StateLaid, ClearedGiven, ForecastPut, ForecastGiven, sentNumber, SentGiven, ScoredGiven, VerdictGiven, BinGiven}
 
 pub number-alike : {a b : Number} {r : ℕ} {old new : Float} → a ≡ b → NumberGiven a r old new → NumberGiven b r old new
 number-alike e g = rw e at g

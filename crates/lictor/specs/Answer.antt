@@ -20,6 +20,7 @@ use Rattle.conformal.specs.declared.TimeBin.the-variants as B
 use Rattle.envelope.specs.declared.Derived.{Derived}
 use Rattle.tier0.specs.declared.Check.{Check}
 use Rattle.tier0.specs.declared.Check.the-variants as T
+use Rattle.tier1.specs.declared.Tier1Rt.{Tier1Rt}
 use Rattle.tier1.specs.declared.Featured.{Featured}
 use Rattle.tier1.specs.declared.Cleared.{Cleared}
 use Rattle.brake.specs.declared.BrakeOut.{BrakeOut}
@@ -133,7 +134,16 @@ pub record FeaturedGiven (fits : Bool) (a : Featured) (r : ℕ) (d₀ d : List F
   pub scores : s ≡ written (fitting fits (a .refusal .number)) (scoresFlat (a .scores)) s₀
   pub marks : m ≡ written (fitting fits (a .refusal .number)) (marksFlat (a .scores)) m₀
 
--- .. and a state that is reset, the trail with it
+-- .. a state, laid out in its six arrays
+pub record StateLaid (rt : Tier1Rt) (d : List Float) (h : List ℕ) (p : List Float) (t : List ℕ) (f : List Float) (c : List ℕ) : Type 0 where
+  pub rows : d ≡ rt .prev .«data»
+  pub header : h ≡ headerFlat (rt .prev)
+  pub trail : p ≡ rt .trail .buf
+  pub samples : t ≡ trailMarks (rt .trail)
+  pub held : f ≡ rt .held
+  pub kept : c ≡ heldMarks (rt .«have_prev») (rt .«held_valid»)
+
+-- .. and one that is reset, the trail with it
 pub record ClearedGiven (fits : Bool) (a : Cleared) (r : ℕ) (d₀ d : List Float) (h₀ h : List ℕ) (p₀ p : List Float) (t₀ t : List ℕ) (f₀ f : List Float) (c₀ c : List ℕ) : Type 0 where
   pub number : r ≡ fitting fits (a .refusal .number)
   pub rows : d ≡ written (fitting fits (a .refusal .number)) (a .rt .prev .«data») d₀

@@ -113,12 +113,13 @@ pub fn put_featured(
 ) -> u64
     ensures { λ r. ⌜ FeaturedGiven fits a r (now (rows .entry)) (now (rows .exit)) (now (header .entry)) (now (header .exit)) (now (held .entry)) (now (held .exit)) (now (kept .entry)) (now (kept .exit)) (now (scores .entry)) (now (scores .exit)) (now (marks .entry)) (now (marks .exit)) ⌝ }
 {
-    let number = fitting(fits, a.refusal.number);
+    let said = a.refusal;
+    let number = fitting(fits, said.number);
     if number == 0 {
-        let rt = a.rt;
-        let features = rt.held;
-        layout::chunks::put_chunk(rt.prev, rows, header);
-        layout::states::put_held(features, rt.have_prev, rt.held_valid, held, kept);
+        let next = a.rt;
+        let features = next.held;
+        layout::chunks::put_chunk(next.prev, rows, header);
+        layout::states::put_held(features, next.have_prev, next.held_valid, held, kept);
         layout::scores::put_scores(a.scores, scores, marks);
     }
     number
@@ -136,9 +137,14 @@ pub fn put_cleared(
 ) -> u64
     ensures { λ r. ⌜ ClearedGiven fits a r (now (rows .entry)) (now (rows .exit)) (now (header .entry)) (now (header .exit)) (now (trail .entry)) (now (trail .exit)) (now (samples .entry)) (now (samples .exit)) (now (held .entry)) (now (held .exit)) (now (kept .entry)) (now (kept .exit)) ⌝ }
 {
-    let number = fitting(fits, a.refusal.number);
+    let refusal = a.refusal;
+    let number = fitting(fits, refusal.number);
     if number == 0 {
-        layout::states::put_state(a.rt, rows, header, trail, samples, held, kept);
+        let rt = a.rt;
+        let features = rt.held;
+        layout::chunks::put_chunk(rt.prev, rows, header);
+        layout::trails::put_trail(rt.trail, trail, samples);
+        layout::states::put_held(features, rt.have_prev, rt.held_valid, held, kept);
     }
     number
 }

@@ -4,9 +4,9 @@ ghost use mathlib.Core.Bool.{not, _&&_};
 ghost use lib.Dec.{eqb};
 ghost use Rattle.layout.specs.Config.{configOf, countsFit};
 ghost use Rattle.layout.specs.Scores.{marksFit, scoresOf};
-ghost use Rattle.layout.specs.State.{stateFits, stateOf, StateLaid};
+ghost use Rattle.layout.specs.State.{stateFits, stateOf};
 ghost use Rattle.tier1.specs.Of.{newRt, featuresOf, resetOf};
-ghost use Rattle.lictor.specs.Answer.{FeaturedGiven, ClearedGiven};
+ghost use Rattle.lictor.specs.Answer.{FeaturedGiven, StateLaid, ClearedGiven};
 ghost use Rattle.lictor.specs.Asked.{headAsked};
 use tier1::Head;
 use tier1::Tier1Rt;
@@ -75,7 +75,10 @@ pub extern "C" fn lictor_tier1_new(
     ensures { λ _. ⌜ StateLaid newRt (now (before .exit)) (now (header .exit)) (now (trail .exit)) (now (samples .exit)) (now (held .exit)) (now (kept .exit)) ⌝ }
 {
     let rt = Tier1Rt::new();
-    layout::states::put_state(rt, before, header, trail, samples, held, kept);
+    let features = rt.held;
+    layout::chunks::put_chunk(rt.prev, before, header);
+    layout::trails::put_trail(rt.trail, trail, samples);
+    layout::states::put_held(features, rt.have_prev, rt.held_valid, held, kept);
 }
 
 #[no_mangle]

@@ -749,9 +749,9 @@ fn after_chunk(m: Manifest, rt: Tier1Rt, pos: &[f64], there: bool, k: Head, rows
     let kept = kept_of(rt);
     let prev = rt.prev;
     let h = k.horizon as usize;
-    let b = boundary_after(m, kept, prev, pos, k.t_emit, h, rows);
     let filled = prev.fill(k.seq, k.t_emit, k.horizon, k.dim, k.exec_steps, rows);
     let buf = filled.buf;
+    let b = boundary_after(m, kept, prev, pos, k.t_emit, h, rows);
     let trail = rt.trail;
     let held = b.held;
     let new = Tier1Rt {
