@@ -218,7 +218,7 @@ uint64_t lictor_check_action(const struct lictor_numbers *numbers, const struct 
                              size_t previous_count, const double *action, size_t action_count, double *out,
                              size_t out_count, struct lictor_check_marks *marks, double *peak_speed);
 
-/* ---- the gate: scores held against a calibration (its tables, tau, mask of features, and the first n_terms of its terms) */
+/* ---- scores: the features of a tick, and what the gate makes of them */
 
 /* feature bits, by position */
 #define LICTOR_TCE 0
@@ -242,6 +242,54 @@ struct lictor_scores {
 struct lictor_marks {
     uint64_t valid, fired; /* a bit for each feature */
 };
+
+/* ---- tier 1: the features of a tick, each larger the less ordinary the motion is, and the state between ticks
+
+   A held feature (LICTOR_TCE to LICTOR_SPEED_PEAK) is of the last chunk: LICTOR_TCE and LICTOR_ACC where two of its rows or
+   more overlap with those of the chunk before, which was as wide and not emitted later; LICTOR_ACM_NEG of 2 rows or more,
+   LICTOR_NJR of 4; LICTOR_REACH where the position has a coordinate. LICTOR_PATH_INEFF and LICTOR_STALL are of the trail, once it
+   holds 20 samples. LICTOR_EXT0 and those after it are the caller's own. */
+
+struct lictor_held_marks {
+    uint64_t have_prev;  /* 1 where a chunk came before, else 0 */
+    uint64_t held_valid; /* a bit for each held feature */
+};
+
+/* The state between ticks: 784 words of 8 bytes. Each entry takes its six parts, which LICTOR_TIER1_PARTS(&state) lists. */
+struct lictor_tier1 {
+    double before[512];                /*   0..511: the numbers of the chunk before, as lictor_fill leaves them */
+    struct lictor_chunk_header header; /* 512..517: .. and its header */
+    double trail[256];                 /* 518..773: the trail, to which lictor_trail_push adds each tick's position */
+    struct lictor_trail_marks samples; /* 774..775: .. and its marks */
+    double held[6];                    /* 776..781: the held features, by their bits */
+    struct lictor_held_marks kept;     /* 782..783 */
+};
+
+#define LICTOR_TIER1_PARTS(s) (s)->before, &(s)->header, (s)->trail, &(s)->samples, (s)->held, &(s)->kept
+
+/* Makes the state new: no chunk, no sample, no feature. Refuses nothing and reads nothing. */
+void lictor_tier1_new(double before[512], struct lictor_chunk_header *header, double trail[256],
+                      struct lictor_trail_marks *samples, double held[6], struct lictor_held_marks *kept);
+
+/* Lets go of the chunk before, the trail and the held features, as between episodes; the chunk's and the trail's numbers stay.
+   LICTOR_BAD_CODE, LICTOR_SIZE, LICTOR_EMPTY to LICTOR_LEN_MISMATCH for the chunk before, LICTOR_NOT_FINITE. */
+uint64_t lictor_tier1_reset(double before[512], struct lictor_chunk_header *header, double trail[256],
+                            struct lictor_trail_marks *samples, double held[6], struct lictor_held_marks *kept);
+
+/* The features of a tick, in the scores' f and valid; f is 0 where not valid, and z, s and fired stay. Where there isn't 0, a
+   chunk came (seq to rows_count): it replaces all held features, invalid ones too, and the chunk before; else what is said
+   of a chunk isn't read. The trail is only read. A position may be short: what is missing isn't shared with the action. At most four
+   external scalars are read. LICTOR_BAD_CODE, LICTOR_SIZE to LICTOR_WIDTH, LICTOR_NOT_FINITE, LICTOR_COMPUTED. */
+uint64_t lictor_features(const struct lictor_numbers *numbers, const struct lictor_counts *counts,
+                         const double center[192], const double scale[192], double before[512],
+                         struct lictor_chunk_header *header, const double trail[256],
+                         const struct lictor_trail_marks *samples, double held[6], struct lictor_held_marks *kept,
+                         const double *position, size_t position_count, const double *external, size_t external_count,
+                         uint64_t there, uint32_t seq, uint32_t t_emit, uint16_t horizon, uint16_t dim,
+                         uint16_t exec_steps, const double *rows, size_t rows_count, struct lictor_scores *scores,
+                         struct lictor_marks *marks);
+
+/* ---- the gate: scores held against a calibration (its tables, tau, mask of features, and the first n_terms of its terms) */
 
 /* Puts f in units of the calibration, in z; a bin above 15 is 15. LICTOR_BAD_CODE, LICTOR_SIZE, LICTOR_NUMBER,
    LICTOR_NOT_FINITE, LICTOR_COMPUTED. */
@@ -313,6 +361,8 @@ LICTOR_ASSERT(sizeof(struct lictor_numbers) == 44 * sizeof(double), "44 numbers"
 LICTOR_ASSERT(sizeof(struct lictor_counts) == 26 * sizeof(uint64_t), "26 counts");
 LICTOR_ASSERT(sizeof(struct lictor_derived) == 29 * sizeof(double), "29 numbers");
 LICTOR_ASSERT(sizeof(struct lictor_check_marks) == 2 * sizeof(uint64_t), "2 counts");
+LICTOR_ASSERT(sizeof(struct lictor_held_marks) == 2 * sizeof(uint64_t), "2 counts");
+LICTOR_ASSERT(sizeof(struct lictor_tier1) == 784 * sizeof(uint64_t), "784 words");
 LICTOR_ASSERT(sizeof(struct lictor_forecast_marks) == 2 * sizeof(uint64_t), "2 counts");
 LICTOR_ASSERT(sizeof(struct lictor_forecast_reach) == 2 * sizeof(double), "2 numbers");
 LICTOR_ASSERT(sizeof(struct lictor_scores) == 25 * sizeof(double), "25 numbers");

@@ -209,14 +209,17 @@ fn features(port: &Port, with_chunk: bool) {
     let raw = oracle::config(&cfg);
     let (pos, ext, data) = (inputs::numbers(8), inputs::numbers(4), inputs::numbers(128));
     let ch = with_chunk.then(|| inputs::chunk(8, &data));
-    let (mut rt, mut sc) = (inputs::state(&data), model::Scores::NEW);
+    let (rt, sc) = (inputs::state(&data), model::Scores::NEW);
     let (mut raw_rt, mut raw_sc) = (oracle::tier1_rt(&rt), oracle::scores(&sc));
     let rust = calls(100, || {
         let obs = oracle::obs(&pos, &[], &ext);
         tier1::features(black_box(&raw), &mut raw_rt, obs, ch.map(oracle::chunk_view), 0, &mut raw_sc)
     });
-    let (cfg, pos, ext) = (&cfg, &pos, &ext);
-    let ported = port.features.map(|f| calls(100, move || f(black_box(cfg), &mut rt, pos, ext, ch, &mut sc)));
+    let (cfg, pos, ext, ch) = (linked::config(&cfg), &pos, &ext, ch.as_ref().map(linked::chunk_view));
+    let (mut rt, mut sc) = (linked::state(&rt), linked::scores(&sc));
+    let ported = port
+        .features
+        .map(|_| calls(100, move || lictor::tier1::features(black_box(&cfg), &mut rt, pos, ext, ch, &mut sc)));
     line(if with_chunk { "features, chunk of 16 x 8" } else { "features, no chunk" }, 100, Some(rust), ported);
 }
 

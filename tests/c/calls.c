@@ -126,6 +126,42 @@ static void checks(void) {
 #undef ACTION
 }
 
+/* one axis: chunks that overlap not at all, in three rows, and in four; a trail that stands still; refusals; a reset */
+static void features(void) {
+    static struct lictor_tier1 t;
+    struct lictor_numbers n = {0};
+    struct lictor_counts c = {0};
+    struct lictor_scores s = {{0.0}, {0.0}, 7.0};
+    struct lictor_marks m = {0, 5};
+    const double rows[6] = {0.0, 1.0, 2.0, 3.0, 4.0, 5.0}, still[1] = {0.0}, ext[1] = {9.0};
+    n.dt = n.v_max = n.a_max = n.j_max = n.reach_max = 1.0;
+    n.brake_k_v = n.brake_dt = n.norm_scale[0] = 1.0;
+    c.dim = c.pos_dim = c.substeps = 1;
+    t.before[0] = t.trail[0] = NAN, t.kept.held_valid = 7;
+    lictor_tier1_new(LICTOR_TIER1_PARTS(&t));
+    EXPECT(t.before[0] == 0.0 && t.trail[0] == 0.0 && t.header.filled == 0 && t.kept.held_valid == 0);
+#define TICK(there, emit, width, from) \
+    lictor_features(&n, &c, center, scale, LICTOR_TIER1_PARTS(&t), still, 1, ext, 1, there, 3, emit, 4, width, 1, rows + from, 4, &s, &m)
+    EXPECT(TICK(1, 0, 1, 0) == LICTOR_ACCEPTED && m.valid == 60 + 256 && m.fired == 5 && s.s == 7.0);
+    EXPECT(s.f[LICTOR_TCE] == 0.0 && s.f[LICTOR_ACM_NEG] == -1.0 && s.f[LICTOR_SPEED_PEAK] == 1.0 && s.f[LICTOR_EXT0] == 9.0);
+    EXPECT(t.kept.have_prev == 1 && t.header.seq == 3 && t.header.horizon == 4 && t.before[3] == 3.0);
+    EXPECT(TICK(1, 1, 1, 1) == LICTOR_ACCEPTED && m.valid == 63 + 256 && s.f[LICTOR_TCE] == 0.0 && s.f[LICTOR_REACH] == 1.0);
+    EXPECT(TICK(1, 1, 1, 2) == LICTOR_ACCEPTED && s.f[LICTOR_TCE] == 1.0 && t.held[LICTOR_REACH] == 2.0 && t.before[3] == 5.0);
+    EXPECT(TICK(1, 1, 2, 0) == LICTOR_LEN_MISMATCH && s.f[LICTOR_TCE] == 1.0 && t.before[3] == 5.0);
+    for (int i = 0; i < 20; i++) EXPECT(lictor_trail_push(t.trail, &t.samples, still, 1, 1) == LICTOR_ACCEPTED);
+    EXPECT(TICK(0, 9, 2, 0) == LICTOR_ACCEPTED && m.valid == 63 + 64 + 128 + 256 && s.f[LICTOR_TCE] == 1.0);
+    EXPECT(s.f[LICTOR_PATH_INEFF] == 1.0 && s.f[LICTOR_STALL] == 1.0 && t.header.t_emit == 1);
+    t.kept.have_prev = 2;
+    EXPECT(TICK(0, 0, 1, 0) == LICTOR_BAD_CODE && lictor_tier1_reset(LICTOR_TIER1_PARTS(&t)) == LICTOR_BAD_CODE);
+    t.kept.have_prev = 1, t.samples.head = 32;
+    EXPECT(TICK(0, 0, 1, 0) == LICTOR_SIZE && lictor_tier1_reset(LICTOR_TIER1_PARTS(&t)) == LICTOR_SIZE && t.held[0] == 1.0);
+    t.samples.head = 20, c.dim = 2, n.norm_scale[1] = 1.0;
+    EXPECT(TICK(1, 2, 1, 0) == LICTOR_WIDTH && m.valid == 63 + 64 + 128 + 256 && t.header.t_emit == 1);
+    EXPECT(lictor_tier1_reset(LICTOR_TIER1_PARTS(&t)) == LICTOR_ACCEPTED && t.header.filled == 0 && t.samples.len == 0);
+    EXPECT(t.kept.have_prev == 0 && t.kept.held_valid == 0 && t.held[LICTOR_REACH] == 0.0 && t.before[3] == 5.0);
+#undef TICK
+}
+
 /* document 01's cards F1, F2, F1 with hi 1.25, and F3; a place; and the rows that brake and hold */
 static void brakes(void) {
     struct lictor_numbers n = {0};
@@ -185,6 +221,7 @@ int main(void) {
     trails();
     configuration();
     checks();
+    features();
     brakes();
     gate();
     puts(failed ? "C calls: failed" : "C calls: as expected");

@@ -50,6 +50,18 @@ impl ChunkBuf {
         Self { data: [0.0; 512], seq: 0, t_emit: 0, horizon: 0, dim: 0, exec_steps: 0, filled: false }
     }
 
+    pub(crate) fn header(&self) -> [u64; 6] {
+        let sizes = [self.horizon, self.dim, self.exec_steps].map(u64::from);
+        [self.seq.into(), self.t_emit.into(), sizes[0], sizes[1], sizes[2], self.filled.into()]
+    }
+
+    pub(crate) fn take(&mut self, header: [u64; 6]) {
+        let [seq, t_emit, horizon, dim, exec_steps, filled] = header;
+        (self.seq, self.t_emit) = (seq as u32, t_emit as u32);
+        (self.horizon, self.dim, self.exec_steps) = (horizon as u16, dim as u16, exec_steps as u16);
+        self.filled = filled == 1;
+    }
+
     /// Copies a chunk in; the numbers past its own stay.
     pub fn copy_from(&mut self, v: ChunkView<'_>) -> Answer<()> {
         let (rows, mut header) = (v.data, [0; 6]);
@@ -68,10 +80,7 @@ impl ChunkBuf {
             )
         };
         given(number, ())?;
-        let [seq, t_emit, horizon, dim, exec_steps, filled] = header;
-        (self.seq, self.t_emit) = (seq as u32, t_emit as u32);
-        (self.horizon, self.dim, self.exec_steps) = (horizon as u16, dim as u16, exec_steps as u16);
-        self.filled = filled == 1;
+        self.take(header);
         Ok(())
     }
 

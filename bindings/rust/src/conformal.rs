@@ -40,18 +40,18 @@ pub struct Scores {
 }
 
 impl Scores {
-    fn numbers(&self) -> [f64; 25] {
+    pub(crate) fn numbers(&self) -> [f64; 25] {
         let mut numbers = [self.s; 25];
         numbers[..12].copy_from_slice(&self.f);
         numbers[12..24].copy_from_slice(&self.z);
         numbers
     }
 
-    fn marks(&self) -> [u64; 2] {
+    pub(crate) fn marks(&self) -> [u64; 2] {
         [self.valid as u64, self.fired as u64]
     }
 
-    fn take(&mut self, numbers: &[f64; 25], marks: [u64; 2]) {
+    pub(crate) fn take(&mut self, numbers: &[f64; 25], marks: [u64; 2]) {
         self.f.copy_from_slice(&numbers[..12]);
         self.z.copy_from_slice(&numbers[12..24]);
         self.s = numbers[24];

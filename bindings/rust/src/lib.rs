@@ -10,6 +10,7 @@ pub mod fmath;
 mod raw;
 mod refusal;
 pub mod tier0;
+pub mod tier1;
 pub mod window;
 
 pub use refusal::{Answer, Refusal};

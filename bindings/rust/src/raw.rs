@@ -94,6 +94,48 @@ extern "C" {
         marks: &mut [u64; 2],
         peak_speed: &mut f64,
     ) -> u64;
+    pub fn lictor_tier1_new(
+        before: &mut [f64; 512],
+        header: &mut [u64; 6],
+        trail: &mut [f64; 256],
+        samples: &mut [u64; 2],
+        held: &mut [f64; 6],
+        kept: &mut [u64; 2],
+    );
+    pub fn lictor_tier1_reset(
+        before: &mut [f64; 512],
+        header: &mut [u64; 6],
+        trail: &mut [f64; 256],
+        samples: &mut [u64; 2],
+        held: &mut [f64; 6],
+        kept: &mut [u64; 2],
+    ) -> u64;
+    pub fn lictor_features(
+        numbers: &[f64; 44],
+        counts: &[u64; 26],
+        center: &[f64; 192],
+        scale: &[f64; 192],
+        before: &mut [f64; 512],
+        header: &mut [u64; 6],
+        trail: &[f64; 256],
+        samples: &[u64; 2],
+        held: &mut [f64; 6],
+        kept: &mut [u64; 2],
+        pos: *const f64,
+        pos_len: usize,
+        ext: *const f64,
+        ext_len: usize,
+        there: u64,
+        seq: u32,
+        t_emit: u32,
+        horizon: u16,
+        dim: u16,
+        exec_steps: u16,
+        rows: *const f64,
+        rows_len: usize,
+        scores: &mut [f64; 25],
+        marks: &mut [u64; 2],
+    ) -> u64;
     pub fn lictor_brake_feasible(
         numbers: &[f64; 44],
         counts: &[u64; 26],

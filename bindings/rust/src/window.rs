@@ -53,11 +53,11 @@ impl Trail {
         Self { buf: [0.0; 256], head: 0, len: 0 }
     }
 
-    fn marks(&self) -> [u64; 2] {
+    pub(crate) fn marks(&self) -> [u64; 2] {
         [self.head.into(), self.len.into()]
     }
 
-    fn take(&mut self, marks: [u64; 2]) {
+    pub(crate) fn take(&mut self, marks: [u64; 2]) {
         (self.head, self.len) = (marks[0] as u8, marks[1] as u8);
     }
 

@@ -24,7 +24,7 @@ use Rattle.envelope.specs.declared.Derived.{Derived}
 use Rattle.envelope.specs.declared.Settings.{Settings}
 use Rattle.envelope.specs.declared.FuseConfig.{FuseConfig}
 use Rattle.envelope.specs.Whole.{whole}
-use Rattle.layout.specs.Places.{count, part, in8, in16, in32}
+use Rattle.layout.specs.Places.{count, part, in8, in16, in32, short, long}
 
 -- ---- codes
 
@@ -115,9 +115,6 @@ abbrev pub configOf : List Float → List ℕ → List Float → List Float → 
 configOf n c center scale = whole (settingsOf n c) center scale
 
 -- each code is one of its kind and each count fits its field; a contact's are read where there is one, the calibration's where its flag is set
-abbrev pub long : ℕ → Bool
-long x = leb x 4294967295
-
 unfoldable pub zoneFits : List ℕ → Bool
 zoneFits c = every (leb (count c 6) 255 ∷ leb (count c 7) 255 ∷ [])
 
@@ -130,8 +127,8 @@ gateFits c =
 unfoldable pub countsFit : List ℕ → Bool
 countsFit c =
     every
-    (leb (count c 2) 4 ∷ leb (count c 3) 1 ∷ leb (count c 4) 4 ∷ leb (count c 5) 1 ∷ leb (count c 8) 65535 ∷ leb (count c 9) 65535
-    ∷ leb (count c 10) 65535 ∷ leb (count c 11) 65535 ∷ long (count c 20) ∷ leb (count c 22) 1
+    (leb (count c 2) 4 ∷ leb (count c 3) 1 ∷ leb (count c 4) 4 ∷ leb (count c 5) 1 ∷ short (count c 8) ∷ short (count c 9)
+    ∷ short (count c 10) ∷ short (count c 11) ∷ long (count c 20) ∷ leb (count c 22) 1
     ∷ (eqb (count c 5) 0 || zoneFits c) ∷ (eqb (count c 22) 0 || gateFits c) ∷ [])
 
 -- ---- what is derived, laid out in 29 numbers

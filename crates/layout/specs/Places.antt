@@ -1,6 +1,8 @@
 -- Numbers and counts by their place in a flat array.
 use Prim.Native.Nat.{ℕ, _+_, min}
+use mathlib.Core.Bool.{Bool, true, false}
 use mathlib.Core.List.{List}
+use lib.Dec.{leb}
 use lib.ListN.{getD}
 use lib.Ieee.{Float}
 use Rattle.fmath.specs.Each.{at, table}
@@ -22,3 +24,15 @@ in16 x = min x 65535
 
 abbrev pub in32 : ℕ → ℕ
 in32 x = min x 4294967295
+
+-- .. and whether it fits one of 16 or 32
+abbrev pub short : ℕ → Bool
+short x = leb x 65535
+
+abbrev pub long : ℕ → Bool
+long x = leb x 4294967295
+
+-- a flag as a count
+abbrev pub bit : Bool → ℕ
+bit true = 1
+bit false = 0

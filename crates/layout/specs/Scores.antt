@@ -2,15 +2,14 @@
 use Prim.Native.Nat.{ℕ}
 use mathlib.Core.Bool.{Bool}
 use mathlib.Core.List.{List, [], _∷_, _++_}
-use lib.Dec.{leb}
 use lib.Ieee.{Float}
 use Rattle.fmath.specs.Each.{at, every}
 use Rattle.conformal.specs.declared.Scores.{Scores}
-use Rattle.layout.specs.Places.{count, part, in32}
+use Rattle.layout.specs.Places.{count, part, in32, long}
 
 -- each count fits its field
 unfoldable pub marksFit : List ℕ → Bool
-marksFit c = every (leb (count c 0) 4294967295 ∷ leb (count c 1) 4294967295 ∷ [])
+marksFit c = every (long (count c 0) ∷ long (count c 1) ∷ [])
 
 -- the scores that the arrays stand for
 unfoldable pub scoresOf : List Float → List ℕ → Scores

@@ -1,7 +1,7 @@
 -- Equal answers are given alike, so that a function which hands on an entry's answer meets the entry's rule.
 use Prim.Native.Nat.{ℕ}
 use mathlib.Core.Path.{_≡_, sym, ap, _∙_}
-use mathlib.Core.Bool.{Bool, true, false}
+use mathlib.Core.Bool.{Bool, true, false, _&&_}
 use mathlib.Core.List.{List}
 use lib.ListN.{length}
 use lib.Ieee.{Float, binary64}
@@ -27,10 +27,15 @@ use Rattle.envelope.specs.Derive.{derived}
 use Rattle.envelope.specs.Refusals.{configJudged}
 use Rattle.tier0.specs.declared.Check.{Check}
 use Rattle.tier0.specs.Of.{actionAnswer, actionOut, chunkAnswer, chunkOut}
+use Rattle.tier1.specs.declared.Head.{Head}
+use Rattle.tier1.specs.declared.Tier1Rt.{Tier1Rt}
+use Rattle.tier1.specs.declared.Featured.{Featured}
+use Rattle.tier1.specs.declared.Cleared.{Cleared}
+use Rattle.tier1.specs.Of.{featuresOf, resetOf}
 use Rattle.brake.specs.declared.BrakeOut.{BrakeOut}
 use Rattle.brake.specs.declared.Sent.{Sent}
 use Rattle.brake.specs.Answer.{forecastAnswer, forecastSlacks, brakeAnswer, brakeOutput, holdAnswer, holdOutput}
-use Rattle.lictor.specs.Answer.{fitting, NumberGiven, FilledGiven, MaskGiven, RecordedGiven, TrailNumberGiven, DerivedGiven, CheckPut, CheckGiven, ForecastPut, ForecastGiven, sentNumber, SentGiven, ScoredGiven, VerdictGiven, BinGiven}
+use Rattle.lictor.specs.Answer.{fitting, NumberGiven, FilledGiven, MaskGiven, RecordedGiven, TrailNumberGiven, DerivedGiven, CheckPut, CheckGiven, FeaturedGiven, StateLaid, ClearedGiven, ForecastPut, ForecastGiven, sentNumber, SentGiven, ScoredGiven, VerdictGiven, BinGiven}
 
 pub number-alike : {a b : Number} {r : ℕ} {old new : Float} → a ≡ b → NumberGiven a r old new → NumberGiven b r old new
 number-alike e g = rw e at g
@@ -49,6 +54,18 @@ trail-number-alike p q g = rw (p, q) at g
 
 pub derived-alike : {m n : ℕ} {d e : Derived} {r : ℕ} {old new : List Float} → m ≡ n → d ≡ e → DerivedGiven m d r old new → DerivedGiven n e r old new
 derived-alike p q g = rw (p, q) at g
+
+-- .. three tests that have to hold
+pub featured-alike : {e f g i j k : Bool} {a b : Featured} {r : ℕ} {d₀ d : List Float} {h₀ h : List ℕ} {f₀ f₁ : List Float} {c₀ c : List ℕ} {s₀ s : List Float} {m₀ m : List ℕ}
+    → e ≡ i → f ≡ j → g ≡ k → a ≡ b → FeaturedGiven (e && f && g) a r d₀ d h₀ h f₀ f₁ c₀ c s₀ s m₀ m → FeaturedGiven (i && j && k) b r d₀ d h₀ h f₀ f₁ c₀ c s₀ s m₀ m
+featured-alike p q r t g = rw (p, q, r, t) at g
+
+pub cleared-alike : {f g : Bool} {a b : Cleared} {r : ℕ} {d₀ d : List Float} {h₀ h : List ℕ} {p₀ p : List Float} {t₀ t : List ℕ} {f₀ f₁ : List Float} {c₀ c : List ℕ}
+    → f ≡ g → a ≡ b → ClearedGiven f a r d₀ d h₀ h p₀ p t₀ t f₀ f₁ c₀ c → ClearedGiven g b r d₀ d h₀ h p₀ p t₀ t f₀ f₁ c₀ c
+cleared-alike p q g = rw (p, q) at g
+
+pub laid-alike : {a b : Tier1Rt} {d : List Float} {h : List ℕ} {p : List Float} {t : List ℕ} {f : List Float} {c : List ℕ} → a ≡ b → StateLaid a d h p t f c → StateLaid b d h p t f c
+laid-alike e g = rw e at g
 
 pub scored-alike : {f g : Bool} {a b : Scored} {r : ℕ} {s₀ s : List Float} {m₀ m : List ℕ} → f ≡ g → a ≡ b → ScoredGiven f a r s₀ s m₀ m → ScoredGiven g b r s₀ s m₀ m
 scored-alike p q g = rw (p, q) at g
@@ -115,6 +132,13 @@ chunk-alike t u p aux rows h d e l g q = rw q at g
 
 pub action-alike : (t u p aux prev b l : List Float) {a : Check} {o : List Float} {c k : Settings} → (a ≡ actionAnswer (whole c t u) p aux prev b (length l)) × (o ≡ actionOut (whole c t u) p aux prev b l) → c ≡ k → (a ≡ actionAnswer (whole k t u) p aux prev b (length l)) × (o ≡ actionOut (whole k t u) p aux prev b l)
 action-alike t u p aux prev b l g q = rw q at g
+
+pub features-alike : (t u p ext : List Float) (there : Bool) (k : Head) (rows : List Float) {a : Featured} {c d : Settings} {x y : Tier1Rt} {sc z : Scores}
+    → a ≡ featuresOf (whole c t u) p ext there k rows x sc → c ≡ d → x ≡ y → sc ≡ z → a ≡ featuresOf (whole d t u) p ext there k rows y z
+features-alike t u p ext there k rows e q x y = rw (q, x, y) at e
+
+pub reset-alike : {a : Cleared} {x y : Tier1Rt} → a ≡ resetOf x → x ≡ y → a ≡ resetOf y
+reset-alike e q = rw q at e
 
 pub forecast-alike : (p v rows : List Float) (h d e from : ℕ) (l : List Float) {a : BrakeOut} {m : List Float} {c k : FuseConfig} → (a ≡ forecastAnswer c p v rows h d e from (length l)) × (m ≡ forecastSlacks c p v rows h d e from l) → c ≡ k → (a ≡ forecastAnswer k p v rows h d e from (length l)) × (m ≡ forecastSlacks k p v rows h d e from l)
 forecast-alike p v rows h d e from l q y = (rw y at (q .0), rw y at (q .1))

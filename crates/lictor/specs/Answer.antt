@@ -1,14 +1,13 @@
 -- What C is given of an answer: document 01's number, 0 for an accepted call, and each place as it stands at exit. A refusal leaves the places as they were.
 use Prim.Native.Nat.{ℕ}
 use mathlib.Core.Path.{_≡_}
-use mathlib.Core.Bool.{Bool, true, false}
+use mathlib.Core.Bool.{Bool}
 use mathlib.Core.List.{List, [], _∷_}
 use lib.Dec.{eqb}
 use lib.Ieee.{Float}
 use Rattle.refusal.specs.Order.{if_then_else_}
 use Rattle.fmath.specs.declared.Number.{Number}
 use Rattle.fmath.specs.declared.Number.the-variants as N
-use Rattle.chunk.specs.declared.ChunkBuf.{ChunkBuf}
 use Rattle.chunk.specs.declared.Filled.{Filled}
 use Rattle.window.specs.declared.Masked.{Masked}
 use Rattle.window.specs.declared.Masked.the-variants as M
@@ -21,11 +20,17 @@ use Rattle.conformal.specs.declared.TimeBin.the-variants as B
 use Rattle.envelope.specs.declared.Derived.{Derived}
 use Rattle.tier0.specs.declared.Check.{Check}
 use Rattle.tier0.specs.declared.Check.the-variants as T
+use Rattle.tier1.specs.declared.Tier1Rt.{Tier1Rt}
+use Rattle.tier1.specs.declared.Featured.{Featured}
+use Rattle.tier1.specs.declared.Cleared.{Cleared}
 use Rattle.brake.specs.declared.BrakeOut.{BrakeOut}
 use Rattle.brake.specs.declared.BrakeOut.the-variants as F
 use Rattle.brake.specs.declared.Sent.{Sent}
 use Rattle.brake.specs.declared.Sent.the-variants as S
+use Rattle.layout.specs.Places.{bit}
+use Rattle.layout.specs.Chunk.{headerFlat}
 use Rattle.layout.specs.Trail.{trailMarks}
+use Rattle.layout.specs.State.{heldMarks}
 use Rattle.layout.specs.Scores.{scoresFlat, marksFlat}
 use Rattle.layout.specs.Config.{derivedFlat}
 
@@ -36,10 +41,6 @@ fitting fits n = if fits then n else 255
 -- what an accepted call writes; a refused one leaves what was there
 abbrev pub written : {A : Type 0} → ℕ → A → A → A
 written n new old = if eqb n 0 then new else old
-
-abbrev pub bit : Bool → ℕ
-bit true = 1
-bit false = 0
 
 -- ---- module 1: a number
 
@@ -57,9 +58,6 @@ pub record NumberGiven (a : Number) (r : ℕ) (old new : Float) : Type 0 where
   pub value : new ≡ valueOf a old
 
 -- ---- module 2: a buffer, in 512 numbers and 6 counts
-
-abbrev pub headerFlat : ChunkBuf → List ℕ
-headerFlat b = b .seq ∷ b .«t_emit» ∷ b .horizon ∷ b .dim ∷ b .«exec_steps» ∷ bit (b .filled) ∷ []
 
 pub record FilledGiven (a : Filled) (r : ℕ) (d₀ d : List Float) (h₀ h : List ℕ) : Type 0 where
   pub number : r ≡ a .number
@@ -124,6 +122,36 @@ pub record CheckGiven (fits : Bool) (a : Check) (l : List Float) (r : ℕ) (m₀
   pub marks : m ≡ (if fits then checkMarks a m₀ else m₀)
   pub speed : x ≡ (if fits then checkSpeed a x₀ else x₀)
   pub output : o ≡ (if fits then l else o₀)
+
+-- ---- module 6: the chunk before, the held features with their 2 counts, and the scores; the trail is only read
+
+pub record FeaturedGiven (fits : Bool) (a : Featured) (r : ℕ) (d₀ d : List Float) (h₀ h : List ℕ) (f₀ f : List Float) (c₀ c : List ℕ) (s₀ s : List Float) (m₀ m : List ℕ) : Type 0 where
+  pub number : r ≡ fitting fits (a .refusal .number)
+  pub rows : d ≡ written (fitting fits (a .refusal .number)) (a .rt .prev .«data») d₀
+  pub header : h ≡ written (fitting fits (a .refusal .number)) (headerFlat (a .rt .prev)) h₀
+  pub held : f ≡ written (fitting fits (a .refusal .number)) (a .rt .held) f₀
+  pub kept : c ≡ written (fitting fits (a .refusal .number)) (heldMarks (a .rt .«have_prev») (a .rt .«held_valid»)) c₀
+  pub scores : s ≡ written (fitting fits (a .refusal .number)) (scoresFlat (a .scores)) s₀
+  pub marks : m ≡ written (fitting fits (a .refusal .number)) (marksFlat (a .scores)) m₀
+
+-- .. a state, laid out in its six arrays
+pub record StateLaid (rt : Tier1Rt) (d : List Float) (h : List ℕ) (p : List Float) (t : List ℕ) (f : List Float) (c : List ℕ) : Type 0 where
+  pub rows : d ≡ rt .prev .«data»
+  pub header : h ≡ headerFlat (rt .prev)
+  pub trail : p ≡ rt .trail .buf
+  pub samples : t ≡ trailMarks (rt .trail)
+  pub held : f ≡ rt .held
+  pub kept : c ≡ heldMarks (rt .«have_prev») (rt .«held_valid»)
+
+-- .. and one that is reset, the trail with it
+pub record ClearedGiven (fits : Bool) (a : Cleared) (r : ℕ) (d₀ d : List Float) (h₀ h : List ℕ) (p₀ p : List Float) (t₀ t : List ℕ) (f₀ f : List Float) (c₀ c : List ℕ) : Type 0 where
+  pub number : r ≡ fitting fits (a .refusal .number)
+  pub rows : d ≡ written (fitting fits (a .refusal .number)) (a .rt .prev .«data») d₀
+  pub header : h ≡ written (fitting fits (a .refusal .number)) (headerFlat (a .rt .prev)) h₀
+  pub trail : p ≡ written (fitting fits (a .refusal .number)) (a .rt .trail .buf) p₀
+  pub samples : t ≡ written (fitting fits (a .refusal .number)) (trailMarks (a .rt .trail)) t₀
+  pub held : f ≡ written (fitting fits (a .refusal .number)) (a .rt .held) f₀
+  pub kept : c ≡ written (fitting fits (a .refusal .number)) (heldMarks (a .rt .«have_prev») (a .rt .«held_valid»)) c₀
 
 -- ---- module 7: count and feasible in 2 counts, margin and stop distance in 2 numbers, the place of a refusal, and the slacks
 

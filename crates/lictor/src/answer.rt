@@ -1,6 +1,6 @@
 // Answers, put where C reads them: the number is returned, and a refusal leaves every place as it was.
 ghost use mathlib.Core.Path.{_≡_};
-ghost use Rattle.lictor.specs.Answer.{fitting, NumberGiven, FilledGiven, MaskGiven, RecordedGiven, TrailNumberGiven, DerivedGiven, CheckPut, ForecastPut, sentNumber, ScoredGiven, VerdictGiven, BinGiven};
+ghost use Rattle.lictor.specs.Answer.{fitting, NumberGiven, FilledGiven, MaskGiven, RecordedGiven, TrailNumberGiven, DerivedGiven, CheckPut, FeaturedGiven, ClearedGiven, ForecastPut, sentNumber, ScoredGiven, VerdictGiven, BinGiven};
 use brake::BrakeOut;
 use brake::Sent;
 use chunk::Filled;
@@ -10,6 +10,8 @@ use conformal::Verdict;
 use envelope::Derived;
 use fmath::Number;
 use tier0::Check;
+use tier1::Cleared;
+use tier1::Featured;
 use window::Masked;
 use window::Recorded;
 
@@ -37,17 +39,7 @@ pub fn put_filled(a: Filled, numbers: &mut [f64; 512], header: &mut [u64; 6]) ->
 {
     let number = a.number as u64;
     if number == 0 {
-        let buf = a.buf;
-        let data = buf.data;
-        *numbers = data;
-        *header = [
-            buf.seq as u64,
-            buf.t_emit as u64,
-            buf.horizon as u64,
-            buf.dim as u64,
-            buf.exec_steps as u64,
-            buf.filled as u64,
-        ];
+        layout::chunks::put_chunk(a.buf, numbers, header);
     }
     number
 }
@@ -107,6 +99,54 @@ pub fn put_check(a: Check, marks: &mut [u64; 2], speed: &mut f64) -> u64
         }
         Check::Refused(r) => r.number as u64,
     }
+}
+
+pub fn put_featured(
+    fits: bool,
+    a: Featured,
+    rows: &mut [f64; 512],
+    header: &mut [u64; 6],
+    held: &mut [f64; 6],
+    kept: &mut [u64; 2],
+    scores: &mut [f64; 25],
+    marks: &mut [u64; 2],
+) -> u64
+    ensures { λ r. ⌜ FeaturedGiven fits a r (now (rows .entry)) (now (rows .exit)) (now (header .entry)) (now (header .exit)) (now (held .entry)) (now (held .exit)) (now (kept .entry)) (now (kept .exit)) (now (scores .entry)) (now (scores .exit)) (now (marks .entry)) (now (marks .exit)) ⌝ }
+{
+    let said = a.refusal;
+    let number = fitting(fits, said.number);
+    if number == 0 {
+        let next = a.rt;
+        let features = next.held;
+        layout::chunks::put_chunk(next.prev, rows, header);
+        layout::states::put_held(features, next.have_prev, next.held_valid, held, kept);
+        layout::scores::put_scores(a.scores, scores, marks);
+    }
+    number
+}
+
+pub fn put_cleared(
+    fits: bool,
+    a: Cleared,
+    rows: &mut [f64; 512],
+    header: &mut [u64; 6],
+    trail: &mut [f64; 256],
+    samples: &mut [u64; 2],
+    held: &mut [f64; 6],
+    kept: &mut [u64; 2],
+) -> u64
+    ensures { λ r. ⌜ ClearedGiven fits a r (now (rows .entry)) (now (rows .exit)) (now (header .entry)) (now (header .exit)) (now (trail .entry)) (now (trail .exit)) (now (samples .entry)) (now (samples .exit)) (now (held .entry)) (now (held .exit)) (now (kept .entry)) (now (kept .exit)) ⌝ }
+{
+    let refusal = a.refusal;
+    let number = fitting(fits, refusal.number);
+    if number == 0 {
+        let rt = a.rt;
+        let features = rt.held;
+        layout::chunks::put_chunk(rt.prev, rows, header);
+        layout::trails::put_trail(rt.trail, trail, samples);
+        layout::states::put_held(features, rt.have_prev, rt.held_valid, held, kept);
+    }
+    number
 }
 
 pub fn put_forecast(a: BrakeOut, marks: &mut [u64; 2], reach: &mut [f64; 2], place: &mut u64) -> u64

@@ -28,6 +28,7 @@ use window::Window;
 mod answer;
 mod braking;
 mod checks;
+mod scoring;
 
 // ---- module 1
 

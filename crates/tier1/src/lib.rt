@@ -1,23 +1,26 @@
 // Tier 1: the scores that the gate decides on, each larger the less ordinary the motion is.
 ghost use mathlib.Core.Path.{_≡_};
 ghost use mathlib.Core.Bool.{true};
+ghost use mathlib.Core.List.{List};
 ghost use Prim.Native.Nat.{_+_, _-_, _*_, _^_, _≤_, _<_, min};
 ghost use lib.Dec.{leb, ltb};
 ghost use lib.IntN.{pos};
 ghost use lib.ListN.{length};
-ghost use lib.Ieee.{binary64, ofInt};
+ghost use lib.Ieee.{Float, binary64, ofInt};
 ghost use Rattle.fmath.specs.Checked.{pure, sumFrom};
 ghost use Rattle.fmath.specs.Finite.{+0};
 ghost use Rattle.tier1.specs.Rule.{row, shared, sumRows, gap, gaps, jolt, jolts, stepLength, tce, acc, acmNeg, njr, reach, startRow, peak, speedPeak, pathIneff, stall, overlap, boundaryAt, ifThere, boundary, boundaryBits, moving, validAt, valueAt, twelve};
 ghost use Rattle.conformal.specs.Bits.{bitsWhere};
 ghost use Rattle.refusal.specs.Order.{if_then_else_, given, refusal};
 ghost use Rattle.envelope.specs.Derive.{kept};
+ghost use Rattle.envelope.specs.Whole.{whole};
 ghost use Rattle.tier1.specs.Of.{featureFrom, pairFrom, metFrom, boundaryFrom, gatheredFrom, twelveFrom, keptOf, manifestOf, newRt, steppedFrom, afterChunk, judged, featuresOf, resetOf};
 ghost use Rattle.tier1.specs.Refusals.{lower, newJudged, stateJudged, someNotFiniteIn};
 ghost use Rattle.chunk.specs.Refusals.{lentReasons};
 use chunk::ChunkBuf;
 use conformal::Scores;
 use envelope::FuseConfig;
+use envelope::Settings;
 use refusal::Refusal;
 use window::Trail;
 
@@ -105,12 +108,12 @@ pub struct Cleared {
 
 // ---- what is read
 
-fn manifest_of(c: FuseConfig) -> Manifest
-    ensures { λ r. ⌜ r ≡ manifestOf c ⌝ }
+fn manifest_of(c: Settings) -> Manifest
+    ensures { λ r. ⌜ ((t u : List Float) → r ≡ manifestOf (whole c t u)) ⌝ }
 {
-    let d = envelope::derive(c);
     let l = c.limits;
     let norm = c.norm;
+    let d = envelope::derive_from(l, norm, c.walls, c.dim, c.pos_dim);
     let center = norm.center;
     let inverse = d.inv_norm_scale;
     Manifest {
@@ -664,8 +667,10 @@ fn not_finite(pos: &[f64], ext: &[f64], there: bool, rows: &[f64], sc: Scores) -
 }
 
 // The number for all that is lent, before anything is computed.
-fn features_refusal(
-    c: FuseConfig,
+fn features_refusal<'a>(
+    c: Settings,
+    center: &'a [f64; 192],
+    scale: &'a [f64; 192],
     rt: Tier1Rt,
     pos: &[f64],
     ext: &[f64],
@@ -674,9 +679,9 @@ fn features_refusal(
     rows: &[f64],
     sc: Scores,
 ) -> u8
-    ensures { λ r. ⌜ r ≡ given (judged c (now (pos .entry)) (now (ext .entry)) there k (now (rows .entry)) rt sc) ⌝ }
+    ensures { λ r. ⌜ r ≡ given (judged (whole c (now (center .entry)) (now (scale .entry))) (now (pos .entry)) (now (ext .entry)) there k (now (rows .entry)) rt sc) ⌝ }
 {
-    let config = envelope::config_refusal(c);
+    let config = envelope::settings_refusal(c, center, scale);
     let new = new_refusal(there, k, rows.len(), c.dim);
     let state = state_refusal(rt);
     let bad = not_finite(pos, ext, there, rows, sc);
@@ -744,9 +749,9 @@ fn after_chunk(m: Manifest, rt: Tier1Rt, pos: &[f64], there: bool, k: Head, rows
     let kept = kept_of(rt);
     let prev = rt.prev;
     let h = k.horizon as usize;
-    let b = boundary_after(m, kept, prev, pos, k.t_emit, h, rows);
     let filled = prev.fill(k.seq, k.t_emit, k.horizon, k.dim, k.exec_steps, rows);
     let buf = filled.buf;
+    let b = boundary_after(m, kept, prev, pos, k.t_emit, h, rows);
     let trail = rt.trail;
     let held = b.held;
     let new = Tier1Rt {
@@ -762,10 +767,11 @@ fn after_chunk(m: Manifest, rt: Tier1Rt, pos: &[f64], there: bool, k: Head, rows
     }
 }
 
-// The features of a tick, in the scores' f and valid; their z, s and fired stay. A new chunk, where `there` says that one came,
-// replaces the held features and the chunk before; the trail stays. On refusal state and scores are as they came.
-pub fn features(
-    c: FuseConfig,
+// `features` of settings and lent tables.
+pub fn features_with<'a>(
+    c: Settings,
+    center: &'a [f64; 192],
+    scale: &'a [f64; 192],
     rt: Tier1Rt,
     pos: &[f64],
     ext: &[f64],
@@ -774,9 +780,9 @@ pub fn features(
     rows: &[f64],
     sc: Scores,
 ) -> Featured
-    ensures { λ r. ⌜ r ≡ featuresOf c (now (pos .entry)) (now (ext .entry)) there k (now (rows .entry)) rt sc ⌝ }
+    ensures { λ r. ⌜ r ≡ featuresOf (whole c (now (center .entry)) (now (scale .entry))) (now (pos .entry)) (now (ext .entry)) there k (now (rows .entry)) rt sc ⌝ }
 {
-    let number = features_refusal(c, rt, pos, ext, there, k, rows, sc);
+    let number = features_refusal(c, center, scale, rt, pos, ext, there, k, rows, sc);
     if number != 0 {
         let refusal = Refusal::of(number);
         return Featured {
@@ -814,4 +820,33 @@ pub fn features(
         rt: new,
         scores,
     }
+}
+
+// The features of a tick, in the scores' f and valid; their z, s and fired stay. A new chunk, where `there` says that one came,
+// replaces the held features and the chunk before; the trail stays. On refusal state and scores are as they came.
+pub fn features(
+    c: FuseConfig,
+    rt: Tier1Rt,
+    pos: &[f64],
+    ext: &[f64],
+    there: bool,
+    k: Head,
+    rows: &[f64],
+    sc: Scores,
+) -> Featured
+    ensures { λ r. ⌜ r ≡ featuresOf c (now (pos .entry)) (now (ext .entry)) there k (now (rows .entry)) rt sc ⌝ }
+{
+    let s = envelope::settings_of(c);
+    features_with(
+        s,
+        &c.calib.center,
+        &c.calib.scale,
+        rt,
+        pos,
+        ext,
+        there,
+        k,
+        rows,
+        sc,
+    )
 }

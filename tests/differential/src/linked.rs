@@ -1,10 +1,10 @@
 //! The port as a customer has it, through `bindings/rust`: the model's arguments taken over into the binding's, and its
 //! answer back.
 
-use lictor::{brake, chunk, config, conformal, fmath, tier0, window};
+use lictor::{brake, chunk, config, conformal, fmath, tier0, tier1, window};
 use model::{
     ActionKind, BrakeKind, BrakeOut, Calibration, ChunkBuf, ChunkView, ClampMode, Derived, FuseConfig, Scores,
-    Tier0Out, Trail,
+    Tier0Out, Tier1Rt, Trail,
 };
 
 use crate::port::{Answer, Port};
@@ -35,6 +35,7 @@ pub fn port() -> Port {
         derive: Some(|c| answer(config(c).derive()).map(derived)),
         check_chunk: Some(|c, pos, aux, ch, out| found(tier0::check_chunk(&config(c), pos, aux, chunk_view(&ch), out))),
         check_action: Some(|c, pos, aux, prev, a, out| found(tier0::check_action(&config(c), pos, aux, prev, a, out))),
+        features: Some(features),
         brake_feasible: Some(|c, p, v, ch, from, slacks| {
             answer(brake::brake_feasible(&config(c), p, v, chunk_view(&ch), from, slacks)).map(forecast)
         }),
@@ -44,7 +45,6 @@ pub fn port() -> Port {
         aggregate: Some(|c, sc| on_scores(sc, |s| conformal::aggregate(&calibration(c), s))),
         trip: Some(|c, sc| answer(conformal::trip(&calibration(c), &scores(sc)))),
         time_bin: Some(|t, ticks| answer(conformal::time_bin(t, ticks))),
-        ..Port::default()
     }
 }
 
@@ -118,13 +118,38 @@ fn trail(t: &Trail) -> window::Trail {
     window::Trail { buf, head, len }
 }
 
+fn keep_trail(t: &mut Trail, from: &window::Trail) {
+    let window::Trail { buf, head, len } = *from;
+    *t = Trail { buf, head, len };
+}
+
 /// A call that is lent a trail.
 fn on_trail(t: &mut Trail, call: impl Fn(&mut window::Trail) -> lictor::Answer<()>) -> Answer<()> {
     let mut lent = trail(t);
     let said = call(&mut lent);
-    let window::Trail { buf, head, len } = lent;
-    *t = Trail { buf, head, len };
+    keep_trail(t, &lent);
     answer(said)
+}
+
+pub fn state(rt: &Tier1Rt) -> tier1::Tier1 {
+    let Tier1Rt { have_prev, held, held_valid, .. } = *rt;
+    tier1::Tier1 { prev: chunk_buf(&rt.prev), have_prev, trail: trail(&rt.trail), held, held_valid }
+}
+
+fn features(
+    c: &FuseConfig,
+    rt: &mut Tier1Rt,
+    pos: &[f64],
+    ext: &[f64],
+    new: Option<ChunkView<'_>>,
+    sc: &mut Scores,
+) -> Answer<()> {
+    let (c, mut lent) = (config(c), state(rt));
+    let said = on_scores(sc, |s| tier1::features(&c, &mut lent, pos, ext, new.as_ref().map(chunk_view), s));
+    keep(&mut rt.prev, &lent.prev);
+    keep_trail(&mut rt.trail, &lent.trail);
+    (rt.have_prev, rt.held, rt.held_valid) = (lent.have_prev, lent.held, lent.held_valid);
+    said
 }
 
 pub fn calibration(c: &Calibration) -> conformal::Calibration {
@@ -138,7 +163,7 @@ pub fn scores(sc: &Scores) -> conformal::Scores {
 }
 
 /// A call that is lent scores.
-fn on_scores<T>(sc: &mut Scores, call: impl Fn(&mut conformal::Scores) -> lictor::Answer<T>) -> Answer<T> {
+fn on_scores<T>(sc: &mut Scores, call: impl FnOnce(&mut conformal::Scores) -> lictor::Answer<T>) -> Answer<T> {
     let mut lent = scores(sc);
     let said = call(&mut lent);
     let conformal::Scores { f, z, s, valid, fired } = lent;

@@ -1,67 +1,35 @@
--- `tier1::features` meets its contract: refused by what is lent, refused by a computed number, or passed.
-use borrow.Author.Tests.{not-true, not-false}
+-- `tier1::features` meets its contract: settings with their own tables are the configuration.
+use mathlib.Core.Path.{_≡_}
+use mathlib.Core.Bool.{Bool}
+use mathlib.Core.List.{List}
+use lib.Ieee.{Float}
 use denote.Ref.{now}
-use Rattle.tier1.specs.Of.{manifestOf}
-use Rattle.tier1.proofs.Ready.{narrow, new-fits, before-fits}
-use Rattle.tier1.proofs.Ticks.{lent-refused, not-sound, passes}
+use Rattle.conformal.specs.declared.Scores.{Scores}
+use Rattle.envelope.specs.declared.Settings.{Settings}
+use Rattle.envelope.specs.declared.FuseConfig.{FuseConfig}
+use Rattle.envelope.specs.Whole.{whole, settingsOf}
+use Rattle.tier1.specs.declared.Head.{Head}
+use Rattle.tier1.specs.declared.Tier1Rt.{Tier1Rt}
+use Rattle.tier1.specs.declared.Featured.{Featured}
+use Rattle.tier1.specs.Of.{featuresOf}
 use borrow.Author.Needs.{needs}
 use Rattle.tier1.proofs.features.Statement.{statement}
 use Rattle.tier1.proofs.features.Tie as tie
 
-features-refusal-requires : tie.Need-features-refusal-requires
-features-refusal-requires c κs = search needs
+own-tables : (c : FuseConfig) (p ext : List Float) (there : Bool) (k : Head) (rows : List Float) (rt : Tier1Rt) (sc : Scores) (s : Settings) {r : Featured}
+    → r ≡ featuresOf (whole s (c .calib .center) (c .calib .scale)) p ext there k rows rt sc
+    → s ≡ settingsOf c
+    → r ≡ featuresOf c p ext there k rows rt sc
+own-tables c p ext there k rows rt sc s e q = rw q at e
 
-of-requires : tie.Need-of-requires
-of-requires c κs = search needs
+settings-of-requires : tie.Need-settings-of-requires
+settings-of-requires c κs = search needs
+
+features-with-requires : tie.Need-features-with-requires
+features-with-requires c κs = search needs
 
 returns : tie.Need-returns
-returns c = let g = c .before .before .before .before .before .before .args in lent-refused (g .c) (now (g .pos)) (now (g .ext)) (g .there) (g .k) (now (g .rows)) (g .rt) (g .sc) _ (c .before .before .features-refusal .ensures) (c .before .if1 .taken) (c .of .ensures)
-
-manifest-of-requires : tie.Need-manifest-of-requires
-manifest-of-requires c κs = search needs
-
-after-chunk-requires : tie.Need-after-chunk-requires
-unfolding manifestOf
-after-chunk-requires c κs =
-    let g = c .before .before .before .before .before .before .args in
-    let e = c .before .before .features-refusal .ensures in
-    let z = c .before .if1 .left in
-    rw (c .manifest-of .ensures) (
-      narrow (g .c) (now (g .pos)) (now (g .ext)) (g .there) (g .k) (now (g .rows)) (g .rt) (g .sc) e z,
-      new-fits (g .c) (now (g .pos)) (now (g .ext)) (g .there) (g .k) (now (g .rows)) (g .rt) (g .sc) e z,
-      before-fits (g .c) (now (g .pos)) (now (g .ext)) (g .there) (g .k) (now (g .rows)) (g .rt) (g .sc) e z,
-    )
-
-twelve-requires : tie.Need-twelve-requires
-twelve-requires c κs = search needs
-
-of-requires-2 : tie.Need-of-requires-2
-of-requires-2 c κs = search needs
-
-returns-2 : tie.Need-returns-2
-returns-2 c =
-    let g = c .before .before .before .before .before .before .before .before .before .before .before .before .before .before .before .args in
-    not-sound (g .c) (now (g .pos)) (now (g .ext)) (g .there) (g .k) (now (g .rows)) (g .rt) (g .sc) (c .before .before .before .before .before .before .before .before .before .before .before .features-refusal .ensures) (c .before .before .before .before .before .before .before .before .before .before .if1 .left) (c .before .before .before .before .before .before .before .before .before .manifest-of .ensures) (c .before .before .before .before .before .before .before .before .after-chunk .ensures) (c .before .before .before .before .twelve .ensures) (not-true _ (c .before .if2 .taken)) (c .of2 .ensures)
-
-of-requires-3 : tie.Need-of-requires-3
-of-requires-3 c κs = search needs
-
-returns-3 : tie.Need-returns-3
-returns-3 c =
-    let g = c .before .before .before .before .before .before .before .before .before .before .before .before .before .before .before .before .before .args in
-    passes (g .c) (now (g .pos)) (now (g .ext)) (g .there) (g .k) (now (g .rows)) (g .rt) (g .sc) (c .before .before .before .before .before .before .before .before .before .before .before .before .before .features-refusal .ensures) (c .before .before .before .before .before .before .before .before .before .before .before .before .if1 .left) (c .before .before .before .before .before .before .before .before .before .before .before .manifest-of .ensures) (c .before .before .before .before .before .before .before .before .before .before .after-chunk .ensures) (c .before .before .before .before .before .before .twelve .ensures) (not-false _ (c .before .before .before .if2 .left)) (c .of3 .ensures)
+returns c = let g = c .before .before .before .before .before .before .before .before .args in own-tables (g .t1) (now (g .pos)) (now (g .ext)) (g .there) (g .k) (now (g .rows)) (g .rt) (g .sc) _ (c .features-with .ensures) (c .before .before .before .before .settings-of .ensures)
 
 pub features-spec : {M : Type 1} → statement M
-features-spec =
-    tie.close
-    (tie.spec
-    features-refusal-requires
-    of-requires
-    returns
-    manifest-of-requires
-    after-chunk-requires
-    twelve-requires
-    of-requires-2
-    returns-2
-    of-requires-3
-    returns-3)
+features-spec = tie.close (tie.spec settings-of-requires features-with-requires returns)

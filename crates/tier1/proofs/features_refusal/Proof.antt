@@ -1,12 +1,13 @@
 -- `tier1::features_refusal` meets its contract: the lowest number of all arguments.
 use denote.Ref.{now}
+use Rattle.envelope.specs.Whole.{whole}
 use Rattle.tier1.proofs.Ready.{judged-is}
 use borrow.Author.Needs.{needs}
 use Rattle.tier1.proofs.features_refusal.Statement.{statement}
 use Rattle.tier1.proofs.features_refusal.Tie as tie
 
-config-refusal-requires : tie.Need-config-refusal-requires
-config-refusal-requires c κs = search needs
+settings-refusal-requires : tie.Need-settings-refusal-requires
+settings-refusal-requires c κs = search needs
 
 new-refusal-requires : tie.Need-new-refusal-requires
 new-refusal-requires c κs = search needs
@@ -30,13 +31,13 @@ lower-requires-3 : tie.Need-lower-requires-3
 lower-requires-3 c κs = search needs
 
 returns : tie.Need-returns
-returns c = let g = c .before .before .before .before .before .before .before .before .before .before .before .args in judged-is (g .c) (now (g .pos)) (now (g .ext)) (g .there) (g .k) (now (g .rows)) (g .rt) (g .sc) (c .before .before .before .before .before .before .before .config-refusal .ensures) (c .before .before .before .before .before .before .new-refusal .ensures) (c .before .before .before .before .before .state-refusal .ensures) (c .before .before .before .before .not-finite .ensures) (c .before .before .before .number-if .ensures) (c .before .before .lower .ensures) (c .before .lower2 .ensures) (c .lower3 .ensures)
+returns c = let g = c .before .before .before .before .before .before .before .before .before .before .before .args in judged-is (whole (g .c) (now (g .center)) (now (g .scale))) (now (g .pos)) (now (g .ext)) (g .there) (g .k) (now (g .rows)) (g .rt) (g .sc) (c .before .before .before .before .before .before .before .settings-refusal .ensures) (c .before .before .before .before .before .before .new-refusal .ensures) (c .before .before .before .before .before .state-refusal .ensures) (c .before .before .before .before .not-finite .ensures) (c .before .before .before .number-if .ensures) (c .before .before .lower .ensures) (c .before .lower2 .ensures) (c .lower3 .ensures)
 
 pub features-refusal-spec : {M : Type 1} → statement M
 features-refusal-spec =
     tie.close
     (tie.spec
-    config-refusal-requires
+    settings-refusal-requires
     new-refusal-requires
     state-refusal-requires
     not-finite-requires

@@ -8,31 +8,14 @@ use Rattle.lictor.proofs.answer.put_filled.Tie as tie
 cast-number : tie.Need-cast-number
 cast-number c = search needs
 
-cast-t8 : tie.Need-cast-t8
-cast-t8 c = search needs
-
-cast-t9 : tie.Need-cast-t9
-cast-t9 c = search needs
-
-cast-t10 : tie.Need-cast-t10
-cast-t10 c = search needs
-
-cast-t11 : tie.Need-cast-t11
-cast-t11 c = search needs
-
-cast-t12 : tie.Need-cast-t12
-cast-t12 c = search needs
-
-cast-t13 : tie.Need-cast-t13
-cast-t13 c = search needs
+put-chunk-requires : tie.Need-put-chunk-requires
+put-chunk-requires c κs = search needs
 
 returns : tie.Need-returns
-returns c = record { number = refl; numbers = rw (eq-eqb _ _ (c .before .before .before .before .before .before .before .before .before .if1 .taken)); header = rw (eq-eqb _ _ (c .before .before .before .before .before .before .before .before .before .if1 .taken)) }
+returns c = let z = eq-eqb _ _ (c .before .before .before .if1 .taken) in record { number = refl; numbers = rw z (c .put-chunk .ensures .0); header = rw z (c .put-chunk .ensures .1) }
 
 returns-2 : tie.Need-returns-2
-returns-2 c = record { number = refl; numbers = rw (ne-eqb _ _ (c .if1 .left)); header = rw (ne-eqb _ _ (c .if1 .left)) }
+returns-2 c = let z = ne-eqb _ _ (c .if1 .left) in record { number = refl; numbers = rw z; header = rw z }
 
 pub put-filled-spec : {M : Type 1} → statement M
-put-filled-spec =
-    tie.close
-    (tie.spec cast-number cast-t8 cast-t9 cast-t10 cast-t11 cast-t12 cast-t13 returns returns-2)
+put-filled-spec = tie.close (tie.spec cast-number put-chunk-requires returns returns-2)

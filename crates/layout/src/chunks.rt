@@ -1,0 +1,54 @@
+// A chunk that is held: its 512 numbers; 6 counts, seq, t_emit, horizon, dim, exec_steps and filled.
+ghost use mathlib.Core.Path.{_≡_};
+ghost use Rattle.layout.specs.Chunk.{headerFits, chunkOf, headerFlat};
+use crate::places::to_u16;
+use crate::places::to_u32;
+use chunk::ChunkBuf;
+
+// Each count fits its field.
+pub fn header_fits(h: &[u64; 6]) -> bool
+    ensures { λ r. ⌜ r ≡ headerFits (now (h .entry)) ⌝ }
+{
+    (h[0] <= 4294967295)
+        & (h[1] <= 4294967295)
+        & (h[2] <= 65535)
+        & (h[3] <= 65535)
+        & (h[4] <= 65535)
+        & (h[5] <= 1)
+}
+
+// The buffer that the arrays stand for.
+pub fn chunk_of(l: &[f64; 512], h: &[u64; 6]) -> ChunkBuf
+    ensures { λ r. ⌜ r ≡ chunkOf (now (l .entry)) (now (h .entry)) ⌝ }
+{
+    let seq = to_u32(h[0]);
+    let t_emit = to_u32(h[1]);
+    let horizon = to_u16(h[2]);
+    let dim = to_u16(h[3]);
+    let exec_steps = to_u16(h[4]);
+    ChunkBuf {
+        data: *l,
+        seq,
+        t_emit,
+        horizon,
+        dim,
+        exec_steps,
+        filled: h[5] == 1,
+    }
+}
+
+// Lays the buffer out in the arrays.
+pub fn put_chunk(b: ChunkBuf, l: &mut [f64; 512], h: &mut [u64; 6])
+    ensures { λ _. ⌜ (now (l .exit) ≡ b .«data») × (now (h .exit) ≡ headerFlat b) ⌝ }
+{
+    let data = b.data;
+    *l = data;
+    *h = [
+        b.seq as u64,
+        b.t_emit as u64,
+        b.horizon as u64,
+        b.dim as u64,
+        b.exec_steps as u64,
+        b.filled as u64,
+    ];
+}
