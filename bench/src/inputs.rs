@@ -33,6 +33,12 @@ pub fn all_armed(dim: usize) -> FuseConfig {
     FuseConfig { armed: 63, clamp: ClampMode::Project, v_max: 8.0, contact, aux_count: 2, ..boxed(dim) }
 }
 
+/// Everything armed, 64 rows of 64 substeps, and a calibration.
+pub fn tick() -> FuseConfig {
+    let brake = second_order(8).brake;
+    FuseConfig { brake, calibrated: true, cal: calibration(), horizon_ticks: 300, ..all_armed(8) }
+}
+
 /// A kept chunk one step older than the new one, and a full trail.
 pub fn state(data: &[f64]) -> Tier1Rt {
     let mut rt = Tier1Rt { have_prev: true, ..Tier1Rt::NEW };

@@ -75,6 +75,7 @@ fn main() {
     features(&port, true);
     features(&port, false);
     gate(&port);
+    tick(&port);
     judging(&port);
 }
 
@@ -240,6 +241,50 @@ fn gate(port: &Port) {
         })
     });
     line("standardise and aggregate", 1000, Some(rust), ported);
+}
+
+/// A whole control tick: the position recorded, the chunk scored and gated, checked, its forecast of 4,096 substeps, and the row
+/// that brakes.
+fn tick(port: &Port) {
+    let cfg = inputs::tick();
+    let (pos, vel, aux, ext, data) =
+        (inputs::numbers(8), inputs::numbers(8), [0.5, 0.5], inputs::numbers(4), inputs::numbers(512));
+    let ch = inputs::chunk(8, &data);
+    let (rt, sc, cal) = (inputs::state(&data[..128]), model::Scores::NEW, inputs::calibration());
+    let (raw, raw_cal, raw_ch) = (oracle::config(&cfg), oracle::calibration(&cal), oracle::chunk_view(ch));
+    let (mut raw_rt, mut raw_sc, mut raw_window) =
+        (oracle::tier1_rt(&rt), oracle::scores(&sc), rust::window::Window { bits: 0 });
+    let (mut buf, mut row) = (rust::ChunkBuf::new(), [0.0; 8]);
+    let rust = calls(10, || {
+        let obs = oracle::obs(&pos, &aux, &ext);
+        raw_rt.trail.push(&pos, 8);
+        tier1::features(black_box(&raw), &mut raw_rt, obs, Some(raw_ch), 0, &mut raw_sc);
+        conformal::standardise(&raw_cal, 3, &mut raw_sc);
+        conformal::aggregate(&raw_cal, &mut raw_sc);
+        raw_window.push(conformal::trip(&raw_cal, &raw_sc), 0xff);
+        let found = tier0::check_chunk(&raw, obs, raw_ch, &mut buf);
+        let told = brake::brake_feasible(&raw, &pos, &vel, buf.view().expect("rows that were checked"), 0);
+        brake::brake_action(&raw, &pos, &vel, &mut row);
+        (raw_window.hits(), found, told, row)
+    });
+    let (cfg, cal, ch) = (linked::config(&cfg), linked::calibration(&cal), linked::chunk_view(&ch));
+    let (mut rt, mut sc, mut window) = (linked::state(&rt), linked::scores(&sc), lictor::window::Window::default());
+    let (mut rows, mut slacks, mut row) = ([0.0; 512], [0.0; 4096], [0.0; 8]);
+    let mut once = || -> lictor::Answer<(u8, bool)> {
+        rt.trail.push(&pos, 8)?;
+        lictor::tier1::features(black_box(&cfg), &mut rt, &pos, &ext, Some(ch), &mut sc)?;
+        lictor::conformal::standardise(&cal, 3, &mut sc)?;
+        lictor::conformal::aggregate(&cal, &mut sc)?;
+        window.push(lictor::conformal::trip(&cal, &sc)?, 0xff);
+        lictor::tier0::check_chunk(&cfg, &pos, &aux, ch, &mut rows)?;
+        let projected = lictor::chunk::ChunkView { data: &rows, ..ch };
+        let told = lictor::brake::brake_feasible(&cfg, &pos, &vel, projected, 0, &mut slacks)?;
+        lictor::brake::brake_action(&cfg, &pos, &vel, &mut row)?;
+        Ok((window.hits(), told.feasible))
+    };
+    once().expect("a tick that is accepted");
+    let ported = port.features.zip(port.brake_feasible).map(|_| calls(10, once));
+    line("control tick, 64 x 8", 10, Some(rust), ported);
 }
 
 /// The port's own work on every call; the Rust does it once, in `compile`, and so has no time here.
