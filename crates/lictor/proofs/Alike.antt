@@ -10,8 +10,10 @@ use Rattle.fmath.specs.declared.Number.{Number}
 use Rattle.chunk.specs.declared.Filled.{Filled}
 use Rattle.window.specs.declared.Masked.{Masked}
 use Rattle.window.specs.declared.Recorded.{Recorded}
+use Rattle.window.specs.declared.Count.{Count}
+use Rattle.window.specs.declared.Emptiness.{Emptiness}
 use Rattle.window.specs.declared.Trail.{Trail}
-use Rattle.window.specs.Answer.{netOf, pathOf}
+use Rattle.window.specs.Answer.{netOf, pathOf, countOf, emptinessOf}
 use Rattle.window.specs.Of.{pushOf, clearOf}
 use Rattle.conformal.specs.declared.Scored.{Scored}
 use Rattle.conformal.specs.declared.Verdict.{Verdict}
@@ -35,7 +37,7 @@ use Rattle.tier1.specs.Of.{featuresOf, resetOf}
 use Rattle.brake.specs.declared.BrakeOut.{BrakeOut}
 use Rattle.brake.specs.declared.Sent.{Sent}
 use Rattle.brake.specs.Answer.{forecastAnswer, forecastSlacks, brakeAnswer, brakeOutput, holdAnswer, holdOutput}
-use Rattle.lictor.specs.Answer.{fitting, NumberGiven, FilledGiven, MaskGiven, RecordedGiven, TrailNumberGiven, DerivedGiven, CheckPut, CheckGiven, FeaturedGiven, StateLaid, ClearedGiven, ForecastPut, ForecastGiven, sentNumber, SentGiven, ScoredGiven, VerdictGiven, BinGiven}
+use Rattle.lictor.specs.Answer.{fitting, NumberGiven, FilledGiven, MaskGiven, RecordedGiven, TrailNumberGiven, CountGiven, EmptinessGiven, DerivedGiven, CheckPut, CheckGiven, FeaturedGiven, StateLaid, ClearedGiven, ForecastPut, ForecastGiven, sentNumber, SentGiven, ScoredGiven, VerdictGiven, BinGiven}
 
 pub number-alike : {a b : Number} {r : ℕ} {old new : Float} → a ≡ b → NumberGiven a r old new → NumberGiven b r old new
 number-alike e g = rw e at g
@@ -51,6 +53,12 @@ recorded-alike p q g = rw (p, q) at g
 
 pub trail-number-alike : {f g : Bool} {a b : Number} {r : ℕ} {old new : Float} → f ≡ g → a ≡ b → TrailNumberGiven f a r old new → TrailNumberGiven g b r old new
 trail-number-alike p q g = rw (p, q) at g
+
+pub count-alike : {f g : Bool} {a b : Count} {r old new : ℕ} → f ≡ g → a ≡ b → CountGiven f a r old new → CountGiven g b r old new
+count-alike p q g = rw (p, q) at g
+
+pub emptiness-alike : {f g : Bool} {a b : Emptiness} {r old new : ℕ} → f ≡ g → a ≡ b → EmptinessGiven f a r old new → EmptinessGiven g b r old new
+emptiness-alike p q g = rw (p, q) at g
 
 pub derived-alike : {m n : ℕ} {d e : Derived} {r : ℕ} {old new : List Float} → m ≡ n → d ≡ e → DerivedGiven m d r old new → DerivedGiven n e r old new
 derived-alike p q g = rw (p, q) at g
@@ -126,6 +134,12 @@ net-alike d w e q = rw q at e
 
 pub path-alike : (d w : ℕ) {a : Number} {t u : Trail} → a ≡ pathOf binary64 t d w → t ≡ u → a ≡ pathOf binary64 u d w
 path-alike d w e q = rw q at e
+
+pub len-alike : {a : Count} {t u : Trail} → a ≡ countOf t → t ≡ u → a ≡ countOf u
+len-alike p q = p ∙ ap countOf q
+
+pub is-empty-alike : {a : Emptiness} {t u : Trail} → a ≡ emptinessOf t → t ≡ u → a ≡ emptinessOf u
+is-empty-alike p q = p ∙ ap emptinessOf q
 
 pub chunk-alike : (t u p aux rows : List Float) (h d e : ℕ) (l : List Float) {a : Check} {o : List Float} {c k : Settings} → (a ≡ chunkAnswer (whole c t u) p aux rows h d e (length l)) × (o ≡ chunkOut (whole c t u) p aux rows h d e l) → c ≡ k → (a ≡ chunkAnswer (whole k t u) p aux rows h d e (length l)) × (o ≡ chunkOut (whole k t u) p aux rows h d e l)
 chunk-alike t u p aux rows h d e l g q = rw q at g

@@ -12,6 +12,10 @@ use Rattle.chunk.specs.declared.Filled.{Filled}
 use Rattle.window.specs.declared.Masked.{Masked}
 use Rattle.window.specs.declared.Masked.the-variants as M
 use Rattle.window.specs.declared.Recorded.{Recorded}
+use Rattle.window.specs.declared.Count.{Count}
+use Rattle.window.specs.declared.Count.the-variants as C
+use Rattle.window.specs.declared.Emptiness.{Emptiness}
+use Rattle.window.specs.declared.Emptiness.the-variants as E
 use Rattle.conformal.specs.declared.Scored.{Scored}
 use Rattle.conformal.specs.declared.Verdict.{Verdict}
 use Rattle.conformal.specs.declared.Verdict.the-variants as Y
@@ -89,6 +93,32 @@ pub record RecordedGiven (fits : Bool) (a : Recorded) (r : ℕ) (l₀ l : List F
 pub record TrailNumberGiven (fits : Bool) (a : Number) (r : ℕ) (old new : Float) : Type 0 where
   pub number : r ≡ fitting fits (numberOf a)
   pub value : new ≡ (if fits then valueOf a old else old)
+
+-- a count of a trail's samples
+unfoldable pub countNumber : Count → ℕ
+countNumber (C.Samples n) = 0
+countNumber (C.Refused r) = r .number
+
+unfoldable pub countValue : Count → ℕ → ℕ
+countValue (C.Samples n) old = n
+countValue (C.Refused r) old = old
+
+pub record CountGiven (fits : Bool) (a : Count) (r old new : ℕ) : Type 0 where
+  pub number : r ≡ fitting fits (countNumber a)
+  pub len : new ≡ (if fits then countValue a old else old)
+
+-- 1 where a trail is empty, else 0
+unfoldable pub emptinessNumber : Emptiness → ℕ
+emptinessNumber (E.Empty b) = 0
+emptinessNumber (E.Refused r) = r .number
+
+unfoldable pub emptinessValue : Emptiness → ℕ → ℕ
+emptinessValue (E.Empty b) old = bit b
+emptinessValue (E.Refused r) old = old
+
+pub record EmptinessGiven (fits : Bool) (a : Emptiness) (r old new : ℕ) : Type 0 where
+  pub number : r ≡ fitting fits (emptinessNumber a)
+  pub empty : new ≡ (if fits then emptinessValue a old else old)
 
 -- ---- module 4: what is derived, in 29 numbers
 

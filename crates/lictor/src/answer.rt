@@ -1,6 +1,6 @@
 // Answers, put where C reads them: the number is returned, and a refusal leaves every place as it was.
 ghost use mathlib.Core.Path.{_≡_};
-ghost use Rattle.lictor.specs.Answer.{fitting, NumberGiven, FilledGiven, MaskGiven, RecordedGiven, TrailNumberGiven, DerivedGiven, CheckPut, FeaturedGiven, ClearedGiven, ForecastPut, sentNumber, ScoredGiven, VerdictGiven, BinGiven};
+ghost use Rattle.lictor.specs.Answer.{fitting, NumberGiven, FilledGiven, MaskGiven, RecordedGiven, TrailNumberGiven, CountGiven, EmptinessGiven, DerivedGiven, CheckPut, FeaturedGiven, ClearedGiven, ForecastPut, sentNumber, ScoredGiven, VerdictGiven, BinGiven};
 use brake::BrakeOut;
 use brake::Sent;
 use chunk::Filled;
@@ -12,6 +12,8 @@ use fmath::Number;
 use tier0::Check;
 use tier1::Cleared;
 use tier1::Featured;
+use window::Count;
+use window::Emptiness;
 use window::Masked;
 use window::Recorded;
 
@@ -73,6 +75,36 @@ pub fn put_trail_number(fits: bool, a: Number, value: &mut f64) -> u64
         return 255;
     }
     put_number(a, value)
+}
+
+pub fn put_count(fits: bool, a: Count, len: &mut u64) -> u64
+    ensures { λ r. ⌜ CountGiven fits a r (now (len .entry)) (now (len .exit)) ⌝ }
+{
+    if !fits {
+        return 255;
+    }
+    match a {
+        Count::Refused(r) => r.number as u64,
+        Count::Samples(n) => {
+            *len = n as u64;
+            0
+        }
+    }
+}
+
+pub fn put_emptiness(fits: bool, a: Emptiness, empty: &mut u64) -> u64
+    ensures { λ r. ⌜ EmptinessGiven fits a r (now (empty .entry)) (now (empty .exit)) ⌝ }
+{
+    if !fits {
+        return 255;
+    }
+    match a {
+        Emptiness::Refused(r) => r.number as u64,
+        Emptiness::Empty(b) => {
+            *empty = b as u64;
+            0
+        }
+    }
 }
 
 pub fn put_derived(number: u64, d: Derived, derived: &mut [f64; 29]) -> u64

@@ -10,7 +10,7 @@ ghost use Rattle.fmath.specs.Answer.{sqrtAnswer, normAnswer, distAnswer};
 ghost use Rattle.chunk.specs.Rule.{rowOf, rowSet, heldRows};
 ghost use Rattle.chunk.specs.Of.{fillOf};
 ghost use Rattle.window.specs.Rule.{pushed, hitsIn};
-ghost use Rattle.window.specs.Answer.{maskOf, netOf, pathOf};
+ghost use Rattle.window.specs.Answer.{maskOf, netOf, pathOf, countOf, emptinessOf};
 ghost use Rattle.window.specs.Of.{pushOf, clearOf};
 ghost use Rattle.envelope.specs.Derive.{derived};
 ghost use Rattle.envelope.specs.Refusals.{configJudged};
@@ -18,7 +18,7 @@ ghost use Rattle.conformal.specs.Answer.{standardised, aggregated, tripped, tim
 ghost use Rattle.layout.specs.Trail.{trailFits, trailOf};
 ghost use Rattle.layout.specs.Scores.{marksFit, scoresOf};
 ghost use Rattle.layout.specs.Config.{configOf, countsFit};
-ghost use Rattle.lictor.specs.Answer.{fitting, NumberGiven, FilledGiven, MaskGiven, RecordedGiven, TrailNumberGiven, DerivedGiven, ScoredGiven, VerdictGiven, BinGiven};
+ghost use Rattle.lictor.specs.Answer.{fitting, NumberGiven, FilledGiven, MaskGiven, RecordedGiven, TrailNumberGiven, CountGiven, EmptinessGiven, DerivedGiven, ScoredGiven, VerdictGiven, BinGiven};
 ghost use Rattle.lictor.specs.Asked.{bare, calibrationAsked};
 use chunk::ChunkBuf;
 use conformal::Calibration;
@@ -217,6 +217,30 @@ pub extern "C" fn lictor_trail_path(
     let t = layout::trails::trail_of(numbers, marks);
     let a = t.path(d, w);
     answer::put_trail_number(fits, a, path)
+}
+
+#[no_mangle]
+pub extern "C" fn lictor_trail_len(numbers: &[f64; 256], marks: &[u64; 2], len: &mut u64) -> u64
+    ensures { λ r. ⌜ CountGiven (trailFits (now (marks .entry))) (countOf (trailOf (now (numbers .entry)) (now (marks .entry)))) r (now (len .entry)) (now (len .exit)) ⌝ }
+{
+    let fits = layout::trails::trail_fits(marks);
+    let t = layout::trails::trail_of(numbers, marks);
+    let a = t.len();
+    answer::put_count(fits, a, len)
+}
+
+#[no_mangle]
+pub extern "C" fn lictor_trail_is_empty(
+    numbers: &[f64; 256],
+    marks: &[u64; 2],
+    empty: &mut u64,
+) -> u64
+    ensures { λ r. ⌜ EmptinessGiven (trailFits (now (marks .entry))) (emptinessOf (trailOf (now (numbers .entry)) (now (marks .entry)))) r (now (empty .entry)) (now (empty .exit)) ⌝ }
+{
+    let fits = layout::trails::trail_fits(marks);
+    let t = layout::trails::trail_of(numbers, marks);
+    let a = t.is_empty();
+    answer::put_emptiness(fits, a, empty)
 }
 
 // ---- module 4
