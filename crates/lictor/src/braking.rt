@@ -70,7 +70,7 @@ pub extern "C" fn lictor_hold_action(
     if !fits {
         return 255;
     }
-    let c = layout::config::config_of(numbers, counts, center, scale);
-    let a = brake::hold_action(c, pos, out);
-    crate::answer::sent(a)
+    let arm = layout::config::config_of(numbers, counts, center, scale);
+    let held = brake::hold_action(arm, pos, out);
+    crate::answer::sent(held)
 }

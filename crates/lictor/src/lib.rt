@@ -173,8 +173,8 @@ pub extern "C" fn lictor_trail_push(
 {
     let fits = layout::trails::trail_fits(marks);
     let t = layout::trails::trail_of(numbers, marks);
-    let a = t.push(p, d);
-    answer::put_recorded(fits, a, numbers, marks)
+    let pushed = t.push(p, d);
+    answer::put_recorded(fits, pushed, numbers, marks)
 }
 
 #[no_mangle]
@@ -183,8 +183,8 @@ pub extern "C" fn lictor_trail_clear(numbers: &mut [f64; 256], marks: &mut [u64;
 {
     let fits = layout::trails::trail_fits(marks);
     let t = layout::trails::trail_of(numbers, marks);
-    let a = t.clear();
-    answer::put_recorded(fits, a, numbers, marks)
+    let cleared = t.clear();
+    answer::put_recorded(fits, cleared, numbers, marks)
 }
 
 #[no_mangle]
@@ -199,8 +199,8 @@ pub extern "C" fn lictor_trail_net(
 {
     let fits = layout::trails::trail_fits(marks);
     let t = layout::trails::trail_of(numbers, marks);
-    let a = t.net(d, w);
-    answer::put_trail_number(fits, a, net)
+    let found = t.net(d, w);
+    answer::put_trail_number(fits, found, net)
 }
 
 #[no_mangle]
@@ -215,8 +215,8 @@ pub extern "C" fn lictor_trail_path(
 {
     let fits = layout::trails::trail_fits(marks);
     let t = layout::trails::trail_of(numbers, marks);
-    let a = t.path(d, w);
-    answer::put_trail_number(fits, a, path)
+    let found = t.path(d, w);
+    answer::put_trail_number(fits, found, path)
 }
 
 #[no_mangle]
@@ -225,8 +225,8 @@ pub extern "C" fn lictor_trail_len(numbers: &[f64; 256], marks: &[u64; 2], len: 
 {
     let fits = layout::trails::trail_fits(marks);
     let t = layout::trails::trail_of(numbers, marks);
-    let a = t.len();
-    answer::put_count(fits, a, len)
+    let held = t.len();
+    answer::put_count(fits, held, len)
 }
 
 #[no_mangle]
@@ -239,8 +239,8 @@ pub extern "C" fn lictor_trail_is_empty(
 {
     let fits = layout::trails::trail_fits(marks);
     let t = layout::trails::trail_of(numbers, marks);
-    let a = t.is_empty();
-    answer::put_emptiness(fits, a, empty)
+    let said = t.is_empty();
+    answer::put_emptiness(fits, said, empty)
 }
 
 // ---- module 4
@@ -304,8 +304,8 @@ pub extern "C" fn lictor_standardise(
     let cal = calibration(center, scale, tau, mask, n_terms, terms);
     let fits = layout::scores::marks_fit(marks);
     let sc = layout::scores::scores_of(scores, marks);
-    let a = conformal::standardise(cal, bin, sc);
-    answer::put_scored(fits, a, scores, marks)
+    let standardised = conformal::standardise(cal, bin, sc);
+    answer::put_scored(fits, standardised, scores, marks)
 }
 
 #[no_mangle]
@@ -324,8 +324,8 @@ pub extern "C" fn lictor_aggregate(
     let cal = calibration(center, scale, tau, mask, n_terms, terms);
     let fits = layout::scores::marks_fit(marks);
     let sc = layout::scores::scores_of(scores, marks);
-    let a = conformal::aggregate(cal, sc);
-    answer::put_scored(fits, a, scores, marks)
+    let aggregated = conformal::aggregate(cal, sc);
+    answer::put_scored(fits, aggregated, scores, marks)
 }
 
 #[no_mangle]
@@ -345,8 +345,8 @@ pub extern "C" fn lictor_trip(
     let cal = calibration(center, scale, tau, mask, n_terms, terms);
     let fits = layout::scores::marks_fit(marks);
     let sc = layout::scores::scores_of(scores, marks);
-    let a = conformal::trip(cal, sc);
-    answer::put_verdict(fits, a, trips)
+    let verdict = conformal::trip(cal, sc);
+    answer::put_verdict(fits, verdict, trips)
 }
 
 #[no_mangle]
