@@ -127,6 +127,12 @@ uint64_t lictor_trail_net(const double numbers[256], const struct lictor_trail_m
 uint64_t lictor_trail_path(const double numbers[256], const struct lictor_trail_marks *marks, size_t d, size_t w,
                            double *path);
 
+/* How many samples are held. LICTOR_BAD_CODE, LICTOR_SIZE, LICTOR_NOT_FINITE. */
+uint64_t lictor_trail_len(const double numbers[256], const struct lictor_trail_marks *marks, uint64_t *len);
+
+/* 1 where none is held, else 0, likewise. */
+uint64_t lictor_trail_is_empty(const double numbers[256], const struct lictor_trail_marks *marks, uint64_t *empty);
+
 /* ---- the configuration: 44 numbers, 26 counts and codes, and the calibration's two tables */
 
 struct lictor_numbers {

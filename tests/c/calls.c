@@ -59,13 +59,18 @@ static void trails(void) {
     struct lictor_trail_marks marks = {0, 0};
     const double p[2] = {3.0, 4.0}, q[2] = {0.0, 0.0};
     double x = 7.0;
+    uint64_t held = 7;
+    EXPECT(lictor_trail_is_empty(numbers, &marks, &held) == LICTOR_ACCEPTED && held == 1);
     EXPECT(lictor_trail_push(numbers, &marks, q, 2, 2) == LICTOR_ACCEPTED && marks.head == 1 && marks.len == 1);
     EXPECT(lictor_trail_push(numbers, &marks, p, 2, 2) == LICTOR_ACCEPTED && numbers[8] == 3.0);
     EXPECT(lictor_trail_net(numbers, &marks, 2, 2, &x) == LICTOR_ACCEPTED && x == 5.0);
     EXPECT(lictor_trail_path(numbers, &marks, 2, 2, &x) == LICTOR_ACCEPTED && x == 5.0);
+    EXPECT(lictor_trail_len(numbers, &marks, &held) == LICTOR_ACCEPTED && held == 2);
     marks.head = 256;
+    EXPECT(lictor_trail_len(numbers, &marks, &held) == LICTOR_BAD_CODE && held == 2);
     EXPECT(lictor_trail_net(numbers, &marks, 2, 2, &x) == LICTOR_BAD_CODE && x == 5.0);
     marks.head = 32;
+    EXPECT(lictor_trail_is_empty(numbers, &marks, &held) == LICTOR_SIZE && held == 2);
     EXPECT(lictor_trail_clear(numbers, &marks) == LICTOR_SIZE && marks.len == 2);
     marks.head = 2;
     EXPECT(lictor_trail_clear(numbers, &marks) == LICTOR_ACCEPTED && marks.head == 0 && marks.len == 0);

@@ -50,6 +50,8 @@ extern "C" {
     pub fn lictor_trail_clear(numbers: &mut [f64; 256], marks: &mut [u64; 2]) -> u64;
     pub fn lictor_trail_net(numbers: &[f64; 256], marks: &[u64; 2], d: usize, w: usize, net: &mut f64) -> u64;
     pub fn lictor_trail_path(numbers: &[f64; 256], marks: &[u64; 2], d: usize, w: usize, path: &mut f64) -> u64;
+    pub fn lictor_trail_len(numbers: &[f64; 256], marks: &[u64; 2], len: &mut u64) -> u64;
+    pub fn lictor_trail_is_empty(numbers: &[f64; 256], marks: &[u64; 2], empty: &mut u64) -> u64;
     pub fn lictor_derive(
         numbers: &[f64; 44],
         counts: &[u64; 26],

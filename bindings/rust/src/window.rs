@@ -94,4 +94,20 @@ impl Trail {
         let number = unsafe { raw::lictor_trail_path(&self.buf, &self.marks(), d, w, &mut path) };
         given(number, path)
     }
+
+    /// How many samples are held.
+    pub fn len(&self) -> Answer<usize> {
+        let mut len = 0;
+        // SAFETY: the numbers are live, and the place is ours alone.
+        let number = unsafe { raw::lictor_trail_len(&self.buf, &self.marks(), &mut len) };
+        given(number, len as usize)
+    }
+
+    /// Whether none is held.
+    pub fn is_empty(&self) -> Answer<bool> {
+        let mut empty = 0;
+        // SAFETY: the numbers are live, and the place is ours alone.
+        let number = unsafe { raw::lictor_trail_is_empty(&self.buf, &self.marks(), &mut empty) };
+        given(number, empty == 1)
+    }
 }

@@ -31,6 +31,7 @@ pub fn port() -> Port {
         trail_push: Some(|t, p, d| on_trail(t, |lent| lent.push(p, d))),
         net: Some(|t, d, w| answer(trail(t).net(d, w))),
         path: Some(|t, d, w| answer(trail(t).path(d, w))),
+        trail_len: Some(|t| answer(trail(t).len().and_then(|n| Ok((n, trail(t).is_empty()?))))),
         trail_clear: Some(|t| on_trail(t, |lent| lent.clear())),
         derive: Some(|c| answer(config(c).derive()).map(derived)),
         check_chunk: Some(|c, pos, aux, ch, out| found(tier0::check_chunk(&config(c), pos, aux, chunk_view(&ch), out))),

@@ -23,6 +23,8 @@ pub type Push = fn(u64, bool, u64) -> u64;
 pub type Hits = fn(u64) -> u8;
 pub type TrailPush = fn(&mut Trail, &[f64], usize) -> Answer<()>;
 pub type TrailNumber = fn(&Trail, usize, usize) -> Answer<f64>;
+/// How many samples are held, and whether none is.
+pub type TrailLen = fn(&Trail) -> Result<(usize, bool), Refusal>;
 pub type TrailClear = fn(&mut Trail) -> Answer<()>;
 pub type Derive = fn(&FuseConfig) -> Answer<Derived>;
 pub type CheckChunk = fn(&FuseConfig, &[f64], &[f64], ChunkView<'_>, &mut [f64]) -> Answer<Tier0Out>;
@@ -55,6 +57,7 @@ pub struct Port {
     pub trail_push: Option<TrailPush>,
     pub net: Option<TrailNumber>,
     pub path: Option<TrailNumber>,
+    pub trail_len: Option<TrailLen>,
     pub trail_clear: Option<TrailClear>,
     pub derive: Option<Derive>,
     pub check_chunk: Option<CheckChunk>,

@@ -78,6 +78,12 @@ pub fn path(t: &Trail, d: usize, w: usize) -> Result<f64, Refusal> {
     Ok(path_of(t, d, w)?)
 }
 
+/// How many samples are held.
+pub fn trail_len(t: &Trail) -> Result<usize, Refusal> {
+    lowest(&[judge_size(t), judge_numbers(t)])?;
+    Ok(t.len as usize)
+}
+
 /// Resets head and length only.
 pub fn trail_clear(t: &mut Trail) -> Result<(), Refusal> {
     lowest(&[judge_size(t), judge_numbers(t)])?;

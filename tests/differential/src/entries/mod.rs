@@ -35,6 +35,7 @@ pub fn all(port: &Port) -> Vec<Task> {
         window::trail_push(port).task(),
         window::net(port).task(),
         window::path(port).task(),
+        window::trail_len(port).task(),
         window::trail_clear(port).task(),
         window::window_run(port).task(),
         window::mask(port).task(),

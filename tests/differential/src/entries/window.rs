@@ -189,6 +189,23 @@ pub fn path(port: &Port) -> Entry<TrailIn> {
     trail_number("path", rule::path, oracle::path, port.path)
 }
 
+pub fn trail_len(port: &Port) -> Entry<Trail> {
+    let counted = |(n, empty): (usize, bool)| Shown { numbers: vec![], counts: vec![n as u64, empty.into()] };
+    Entry {
+        name: "trail len",
+        generate: |rng| {
+            let field = Field::new(rng);
+            trail(rng, field)
+        },
+        parts: trail_parts,
+        narrower: none,
+        before: nothing,
+        model: Box::new(move |i| plain(rule::trail_len(i).map(|n| (n, n == 0)), counted)),
+        rust: Box::new(move |i| Some(accepted(counted(oracle::trail_len(i))))),
+        port: port.trail_len.map(|f| Box::new(move |i: &Trail| plain(f(i), counted)) as _),
+    }
+}
+
 pub fn trail_clear(port: &Port) -> Entry<Trail> {
     let cleared = |f: fn(&mut Trail) -> Result<(), model::Refusal>, i: &Trail| {
         let mut t = *i;

@@ -139,6 +139,11 @@ pub fn path(t: &Trail, d: usize, w: usize) -> f64 {
     watch(|| r.path(d.min(model::MAX_POS), w))
 }
 
+pub fn trail_len(t: &Trail) -> (usize, bool) {
+    let r = trail::to_rust(t);
+    (r.len(), r.is_empty())
+}
+
 pub fn trail_clear(t: &mut Trail) {
     let mut r = trail::to_rust(t);
     r.clear();
