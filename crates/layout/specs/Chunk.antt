@@ -24,6 +24,9 @@ chunkOf l h = record {
   filled = eqb (count h 5) 1;
 }
 
--- a buffer's counts, laid out
+-- a chunk's counts, laid out
+abbrev pub headerFrom : ℕ → ℕ → ℕ → ℕ → ℕ → Bool → List ℕ
+headerFrom s t h d e filled = s ∷ t ∷ h ∷ d ∷ e ∷ bit filled ∷ []
+
 abbrev pub headerFlat : ChunkBuf → List ℕ
-headerFlat b = b .seq ∷ b .«t_emit» ∷ b .horizon ∷ b .dim ∷ b .«exec_steps» ∷ bit (b .filled) ∷ []
+headerFlat b = headerFrom (b .seq) (b .«t_emit») (b .horizon) (b .dim) (b .«exec_steps») (b .filled)

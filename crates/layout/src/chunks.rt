@@ -1,6 +1,6 @@
 // A chunk that is held: its 512 numbers; 6 counts, seq, t_emit, horizon, dim, exec_steps and filled.
 ghost use mathlib.Core.Path.{_≡_};
-ghost use Rattle.layout.specs.Chunk.{headerFits, chunkOf, headerFlat};
+ghost use Rattle.layout.specs.Chunk.{headerFits, chunkOf, headerFrom, headerFlat};
 use crate::places::to_u16;
 use crate::places::to_u32;
 use chunk::ChunkBuf;
@@ -37,18 +37,33 @@ pub fn chunk_of(l: &[f64; 512], h: &[u64; 6]) -> ChunkBuf
     }
 }
 
+// Lays what is said of a chunk besides its rows out in the array.
+pub fn put_header(
+    seq: u32,
+    t_emit: u32,
+    horizon: u16,
+    dim: u16,
+    exec_steps: u16,
+    filled: bool,
+    h: &mut [u64; 6],
+)
+    ensures { λ _. ⌜ now (h .exit) ≡ headerFrom seq «t_emit» horizon dim «exec_steps» filled ⌝ }
+{
+    *h = [
+        seq as u64,
+        t_emit as u64,
+        horizon as u64,
+        dim as u64,
+        exec_steps as u64,
+        filled as u64,
+    ];
+}
+
 // Lays the buffer out in the arrays.
 pub fn put_chunk(b: ChunkBuf, l: &mut [f64; 512], h: &mut [u64; 6])
     ensures { λ _. ⌜ (now (l .exit) ≡ b .«data») × (now (h .exit) ≡ headerFlat b) ⌝ }
 {
     let data = b.data;
     *l = data;
-    *h = [
-        b.seq as u64,
-        b.t_emit as u64,
-        b.horizon as u64,
-        b.dim as u64,
-        b.exec_steps as u64,
-        b.filled as u64,
-    ];
+    put_header(b.seq, b.t_emit, b.horizon, b.dim, b.exec_steps, b.filled, h);
 }

@@ -63,10 +63,12 @@ emptiness-alike p q g = rw (p, q) at g
 pub derived-alike : {m n : ℕ} {d e : Derived} {r : ℕ} {old new : List Float} → m ≡ n → d ≡ e → DerivedGiven m d r old new → DerivedGiven n e r old new
 derived-alike p q g = rw (p, q) at g
 
--- .. three tests that have to hold
-pub featured-alike : {e f g i j k : Bool} {a b : Featured} {r : ℕ} {d₀ d : List Float} {h₀ h : List ℕ} {f₀ f₁ : List Float} {c₀ c : List ℕ} {s₀ s : List Float} {m₀ m : List ℕ}
-    → e ≡ i → f ≡ j → g ≡ k → a ≡ b → FeaturedGiven (e && f && g) a r d₀ d h₀ h f₀ f₁ c₀ c s₀ s m₀ m → FeaturedGiven (i && j && k) b r d₀ d h₀ h f₀ f₁ c₀ c s₀ s m₀ m
-featured-alike p q r t g = rw (p, q, r, t) at g
+-- the features of a tick, of settings, a state and scores that are taken apart
+pub featured-alike : (t u p ext : List Float) (there : Bool) (k : Head) (rows : List Float) {e f g i j l : Bool} {c y : Settings} {rt st : Tier1Rt} {sc tc : Scores} {r : ℕ} {d₀ d : List Float} {h₀ h : List ℕ} {f₀ f₁ : List Float} {c₀ c₁ : List ℕ} {s₀ s : List Float} {m₀ m : List ℕ}
+    → e ≡ i → f ≡ j → g ≡ l → c ≡ y → rt ≡ st → sc ≡ tc
+    → FeaturedGiven (e && f && g) (featuresOf (whole c t u) p ext there k rows rt sc) r d₀ d h₀ h f₀ f₁ c₀ c₁ s₀ s m₀ m
+    → FeaturedGiven (i && j && l) (featuresOf (whole y t u) p ext there k rows st tc) r d₀ d h₀ h f₀ f₁ c₀ c₁ s₀ s m₀ m
+featured-alike t u p ext there k rows e1 e2 e3 e4 e5 e6 g = rw (e1, e2, e3, e4, e5, e6) at g
 
 pub cleared-alike : {f g : Bool} {a b : Cleared} {r : ℕ} {d₀ d : List Float} {h₀ h : List ℕ} {p₀ p : List Float} {t₀ t : List ℕ} {f₀ f₁ : List Float} {c₀ c : List ℕ}
     → f ≡ g → a ≡ b → ClearedGiven f a r d₀ d h₀ h p₀ p t₀ t f₀ f₁ c₀ c → ClearedGiven g b r d₀ d h₀ h p₀ p t₀ t f₀ f₁ c₀ c
@@ -146,10 +148,6 @@ chunk-alike t u p aux rows h d e l g q = rw q at g
 
 pub action-alike : (t u p aux prev b l : List Float) {a : Check} {o : List Float} {c k : Settings} → (a ≡ actionAnswer (whole c t u) p aux prev b (length l)) × (o ≡ actionOut (whole c t u) p aux prev b l) → c ≡ k → (a ≡ actionAnswer (whole k t u) p aux prev b (length l)) × (o ≡ actionOut (whole k t u) p aux prev b l)
 action-alike t u p aux prev b l g q = rw q at g
-
-pub features-alike : (t u p ext : List Float) (there : Bool) (k : Head) (rows : List Float) {a : Featured} {c d : Settings} {x y : Tier1Rt} {sc z : Scores}
-    → a ≡ featuresOf (whole c t u) p ext there k rows x sc → c ≡ d → x ≡ y → sc ≡ z → a ≡ featuresOf (whole d t u) p ext there k rows y z
-features-alike t u p ext there k rows e q x y = rw (q, x, y) at e
 
 pub reset-alike : {a : Cleared} {x y : Tier1Rt} → a ≡ resetOf x → x ≡ y → a ≡ resetOf y
 reset-alike e q = rw q at e

@@ -2,10 +2,15 @@
 use Prim.Native.Nat.{ℕ}
 use mathlib.Core.Bool.{Bool, false}
 use mathlib.Core.List.{List}
+use lib.Dec.{leb}
 use lib.Ieee.{Float}
+use lib.ListN.{length}
+use lib.Seq.{paste}
+use Rattle.refusal.specs.Order.{if_then_else_}
 use Rattle.chunk.specs.declared.ChunkBuf.{ChunkBuf}
 use Rattle.conformal.specs.declared.Calibration.{Calibration}
 use Rattle.tier1.specs.declared.Head.{Head}
+use Rattle.layout.specs.Chunk.{headerFrom}
 
 -- a buffer of which `fill` keeps the numbers past the chunk's own; its old header is not read
 abbrev pub bare : List Float → ChunkBuf
@@ -19,3 +24,11 @@ calibrationAsked center scale tau mask n terms =
 -- what is said of a new chunk besides its rows
 abbrev pub headAsked : ℕ → ℕ → ℕ → ℕ → ℕ → Head
 headAsked s t h d e = record { seq = s; «t_emit» = t; horizon = h; dim = d; «exec_steps» = e }
+
+-- .. laid out with whether it is held
+abbrev pub headerSaid : Head → Bool → List ℕ
+headerSaid k filled = headerFrom (k .seq) (k .«t_emit») (k .horizon) (k .dim) (k .«exec_steps») filled
+
+-- numbers with those of l put over the first ones, where a buffer has room for them
+abbrev pub rowsOver : List Float → List Float → List Float
+rowsOver d l = if leb (length l) 512 then paste d 0 l (length l) else d

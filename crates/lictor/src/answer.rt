@@ -1,6 +1,6 @@
 // Answers, put where C reads them: the number is returned, and a refusal leaves every place as it was.
 ghost use mathlib.Core.Path.{_≡_};
-ghost use Rattle.lictor.specs.Answer.{fitting, NumberGiven, FilledGiven, MaskGiven, RecordedGiven, TrailNumberGiven, CountGiven, EmptinessGiven, DerivedGiven, CheckPut, FeaturedGiven, ClearedGiven, ForecastPut, sentNumber, ScoredGiven, VerdictGiven, BinGiven};
+ghost use Rattle.lictor.specs.Answer.{fitting, NumberGiven, FilledGiven, MaskGiven, RecordedGiven, TrailNumberGiven, CountGiven, EmptinessGiven, DerivedGiven, CheckPut, ClearedGiven, ForecastPut, sentNumber, ScoredGiven, VerdictGiven, BinGiven};
 use brake::BrakeOut;
 use brake::Sent;
 use chunk::Filled;
@@ -11,7 +11,6 @@ use envelope::Derived;
 use fmath::Number;
 use tier0::Check;
 use tier1::Cleared;
-use tier1::Featured;
 use window::Count;
 use window::Emptiness;
 use window::Masked;
@@ -131,30 +130,6 @@ pub fn put_check(a: Check, marks: &mut [u64; 2], speed: &mut f64) -> u64
         }
         Check::Refused(r) => r.number as u64,
     }
-}
-
-pub fn put_featured(
-    fits: bool,
-    a: Featured,
-    rows: &mut [f64; 512],
-    header: &mut [u64; 6],
-    held: &mut [f64; 6],
-    kept: &mut [u64; 2],
-    scores: &mut [f64; 25],
-    marks: &mut [u64; 2],
-) -> u64
-    ensures { λ r. ⌜ FeaturedGiven fits a r (now (rows .entry)) (now (rows .exit)) (now (header .entry)) (now (header .exit)) (now (held .entry)) (now (held .exit)) (now (kept .entry)) (now (kept .exit)) (now (scores .entry)) (now (scores .exit)) (now (marks .entry)) (now (marks .exit)) ⌝ }
-{
-    let said = a.refusal;
-    let number = fitting(fits, said.number);
-    if number == 0 {
-        let next = a.rt;
-        let features = next.held;
-        layout::chunks::put_chunk(next.prev, rows, header);
-        layout::states::put_held(features, next.have_prev, next.held_valid, held, kept);
-        layout::scores::put_scores(a.scores, scores, marks);
-    }
-    number
 }
 
 pub fn put_cleared(

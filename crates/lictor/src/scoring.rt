@@ -1,15 +1,63 @@
 // Module 6 for C: the features of a tick, and the state that is held between ticks.
 ghost use mathlib.Core.Path.{_≡_};
-ghost use mathlib.Core.Bool.{not, _&&_};
+ghost use mathlib.Core.Bool.{true, not, _&&_};
 ghost use lib.Dec.{eqb};
+ghost use Rattle.refusal.specs.Order.{if_then_else_};
 ghost use Rattle.layout.specs.Config.{configOf, countsFit};
 ghost use Rattle.layout.specs.Scores.{marksFit, scoresOf};
 ghost use Rattle.layout.specs.State.{stateFits, stateOf};
 ghost use Rattle.tier1.specs.Of.{newRt, featuresOf, resetOf};
 ghost use Rattle.lictor.specs.Answer.{FeaturedGiven, StateLaid, ClearedGiven};
-ghost use Rattle.lictor.specs.Asked.{headAsked};
+ghost use Rattle.lictor.specs.Asked.{headAsked, rowsOver, headerSaid};
+use conformal::Scores;
 use tier1::Head;
 use tier1::Tier1Rt;
+
+// Puts a chunk's numbers over the first ones of a buffer that has room for them.
+fn put_rows(rows: &[f64], before: &mut [f64; 512])
+    ensures { λ _. ⌜ now (before .exit) ≡ rowsOver (now (before .entry)) (now (rows .entry)) ⌝ }
+{
+    if rows.len() <= 512 {
+        let n = rows.len() as u16;
+        chunk::set_row(before, 1, n, 0, rows);
+    }
+}
+
+// Puts the chunk before after a tick: the new one, where one came; else it is the old one.
+fn put_before(
+    came: bool,
+    k: Head,
+    rows: &[f64],
+    old: Head,
+    filled: bool,
+    before: &mut [f64; 512],
+    header: &mut [u64; 6],
+)
+    ensures { λ _. ⌜ (now (before .exit) ≡ (if came then rowsOver (now (before .entry)) (now (rows .entry)) else now (before .entry))) × (now (header .exit) ≡ (if came then headerSaid k true else headerSaid old filled)) ⌝ }
+{
+    if came {
+        put_rows(rows, before);
+        layout::chunks::put_header(
+            k.seq,
+            k.t_emit,
+            k.horizon,
+            k.dim,
+            k.exec_steps,
+            true,
+            header,
+        );
+    } else {
+        layout::chunks::put_header(
+            old.seq,
+            old.t_emit,
+            old.horizon,
+            old.dim,
+            old.exec_steps,
+            filled,
+            header,
+        );
+    }
+}
 
 #[no_mangle]
 pub extern "C" fn lictor_features<'a>(
@@ -50,17 +98,34 @@ pub extern "C" fn lictor_features<'a>(
         dim,
         exec_steps,
     };
-    let a = tier1::features_with(c, center, scale, rt, pos, ext, there != 0, k, rows, sc);
-    crate::answer::put_featured(
-        config_fits & state_fits & scores_fit,
-        a,
-        before,
-        header,
-        held,
-        kept,
-        scores,
-        marks,
-    )
+    let came = there != 0;
+    let a = tier1::tick_with(c, center, scale, rt, pos, ext, came, k, rows, sc);
+    let fits = config_fits & state_fits & scores_fit;
+    let number = crate::answer::fitting(fits, a.refusal.number);
+    if number != 0 {
+        return number;
+    }
+    let old = Head {
+        seq: rt.prev.seq,
+        t_emit: rt.prev.t_emit,
+        horizon: rt.prev.horizon,
+        dim: rt.prev.dim,
+        exec_steps: rt.prev.exec_steps,
+    };
+    put_before(came, k, rows, old, rt.prev.filled, before, header);
+    let features = a.held;
+    layout::states::put_held(features, came | rt.have_prev, a.held_valid, held, kept);
+    let f = a.f;
+    let z = sc.z;
+    let next = Scores {
+        f,
+        z,
+        s: sc.s,
+        valid: a.valid,
+        fired: sc.fired,
+    };
+    layout::scores::put_scores(next, scores, marks);
+    number
 }
 
 #[no_mangle]

@@ -24,6 +24,7 @@ use Rattle.tier1.specs.declared.Head.{Head}
 use Rattle.tier1.specs.declared.Tier1Rt.{Tier1Rt}
 use Rattle.tier1.specs.declared.Featured.{Featured}
 use Rattle.tier1.specs.Rule.{shared, overlap, boundaryAt, boundary, boundaryBits, moving, validAt, valueAt, twelve}
+use Rattle.tier1.proofs.Ticks.{chunk-keeps-trail}
 use Rattle.tier1.specs.Of.{keptOf, manifestOf, afterChunk, Tick, tick, scoresWith, featuredAt, ticked, featuresRefusal, featuresOf}
 
 -- ---- entry j of a table
@@ -41,13 +42,6 @@ table-at g (suc n) j l =
     (λ i h. List·getD-append (table g n) (g n ∷ []) nan i (rw (table-long g n) h) ∙ table-at g n i h)
     (ap (at (table g (suc n))) (sym (table-long g n)) ∙ getD-append-seam (table g n) (g n) [] nan)
     j (omega arith)
-
--- ---- the trail is never written
-
-chunk-keeps-trail : (m : Manifest) (p : List Float) (there : Bool) (k : Head) (rows : List Float) (rt : Tier1Rt) → afterChunk binary64 m p there k rows rt .value .trail ≡ rt .trail
-unfolding afterChunk
-chunk-keeps-trail m p true k rows rt = refl
-chunk-keeps-trail m p false k rows rt = refl
 
 module _ (c : FuseConfig) (p ext : List Float) (there : Bool) (k : Head) (rows : List Float) (rt : Tier1Rt) (sc : Scores) where
   abbrev answer : Featured
@@ -96,7 +90,7 @@ module _ (c : FuseConfig) (p ext : List Float) (there : Bool) (k : Head) (rows :
 
   same-trail : found .rt .trail ≡ rt .trail
   unfolding ticked tick
-  same-trail = chunk-keeps-trail (manifestOf c) p there k rows rt
+  same-trail = chunk-keeps-trail (manifestOf c) p k rows rt there
 
   -- .. and so does the trail
   pub trail-kept : answer .rt .trail ≡ rt .trail

@@ -1,19 +1,19 @@
 -- The state after a chunk and the whole answer, from their parts.
 use Prim.Native.Nat.{ℕ, zero, suc, _*_, _≤_, _<_}
 use mathlib.Core.Path.{_≡_, refl, sym, ap, _∙_}
-use mathlib.Core.Bool.{Bool, true, false, not, _&&_, and-true}
-use mathlib.Core.List.{List}
+use mathlib.Core.Bool.{Bool, true, false, not, _&&_, _||_, and-true}
+use mathlib.Core.List.{List, [], _∷_}
 use native.Mathlib.Omega.{arith}
 use borrow.Author.Tests.{eq-eqb}
 use lib.ListN.{length}
 use lib.Ieee.{Float, binary64}
-use Rattle.refusal.specs.Order.{given, refusal, refusedFor, if_then_else_}
+use Rattle.refusal.specs.Order.{computed, _when_, among, given, refusal, refusedFor, if_then_else_}
 use Rattle.refusal.specs.declared.Refusal.{Refusal}
 use Rattle.chunk.specs.Refusals.{lentReasons}
 use Rattle.chunk.specs.Of.{heldOf, fillOf}
 use Rattle.chunk.specs.declared.ChunkBuf.{ChunkBuf}
 use Rattle.chunk.specs.declared.Filled.{Filled}
-use Rattle.chunk.proofs.Judged.{lent-accepted}
+use Rattle.chunk.proofs.Judged.{lent-accepted, accepted-fits}
 use Rattle.conformal.specs.declared.Scores.{Scores}
 use Rattle.envelope.specs.declared.FuseConfig.{FuseConfig}
 use Rattle.tier1.specs.declared.Manifest.{Manifest}
@@ -22,14 +22,14 @@ use Rattle.tier1.specs.declared.Head.{Head}
 use Rattle.tier1.specs.declared.SixFeatures.{SixFeatures}
 use Rattle.tier1.specs.declared.AllFeatures.{AllFeatures}
 use Rattle.tier1.specs.declared.Tier1Rt.{Tier1Rt}
-use Rattle.tier1.specs.declared.Stepped.{Stepped}
+use Rattle.tier1.specs.declared.TickOut.{TickOut}
 use Rattle.tier1.specs.declared.Featured.{Featured}
 use Rattle.tier1.specs.declared.Cleared.{Cleared}
 use Rattle.tier1.specs.Rule.{boundary, boundaryBits, twelve}
 use Rattle.tier1.specs.Refusals.{stateJudged}
-use Rattle.tier1.specs.Of.{boundaryFrom, twelveFrom, steppedFrom, keptOf, manifestOf, clearedRt, afterChunk, Tick, tick, featuredAt, judged, ticked, featuresRefusal, featuresOf, clearedAt, resetOf}
-use Rattle.tier1.proofs.Joint.{refused-first, only-computed}
-use Rattle.tier1.proofs.Ready.{no-leftover}
+use Rattle.tier1.specs.Of.{boundaryFrom, twelveFrom, heldFrom, outOf, wholeAnswer, keptOf, manifestOf, clearedRt, afterChunk, Tick, tick, scoresWith, featuredAt, judged, ticked, featuresRefusal, featuresOf, clearedAt, resetOf}
+use Rattle.tier1.proofs.Joint.{neither-applies, refused-first, only-computed}
+use Rattle.tier1.proofs.Ready.{no-leftover, new-fits}
 
 -- ---- the state after a chunk
 
@@ -39,16 +39,47 @@ unfolding fillOf
 filled-is b s t h d e l z er = rw (er, eq-eqb (refusal (lentReasons l h d e)) 0 z)
 
 module _ (m : Manifest) (p : List Float) (k : Head) (rows : List Float) (rt : Tier1Rt) (there : Bool) where
-  pub no-chunk : there ≡ false → _≡_ {A = Stepped} (record { rt = rt; sound = true }) (steppedFrom (afterChunk binary64 m p there k rows rt))
+  pub no-chunk : there ≡ false → _≡_ {A = SixFeatures} (record { held = rt .held; valid = rt .«held_valid»; sound = true }) (heldFrom (afterChunk binary64 m p there k rows rt))
   unfolding afterChunk
   no-chunk e = rw e
 
-  pub chunk-kept : {v : Kept} {b : SixFeatures} {r : Filled} → there ≡ true → refusal (lentReasons rows (k .horizon) (k .dim) (k .«exec_steps»)) ≡ 0 → v ≡ keptOf rt
+  pub chunk-held : {v : Kept} {b : SixFeatures} → there ≡ true → v ≡ keptOf rt
       → b ≡ boundaryFrom (boundary binary64 m v (rt .prev .«data») p (k .«t_emit») (k .horizon) rows) (boundaryBits m v p (k .«t_emit») (k .horizon))
-      → r ≡ fillOf (rt .prev) (k .seq) (k .«t_emit») (k .horizon) (k .dim) (k .«exec_steps») rows
-      → _≡_ {A = Stepped} (record { rt = record { prev = r .buf; «have_prev» = true; trail = rt .trail; held = b .held; «held_valid» = b .valid }; sound = b .sound }) (steppedFrom (afterChunk binary64 m p there k rows rt))
+      → b ≡ heldFrom (afterChunk binary64 m p there k rows rt)
   unfolding afterChunk
-  chunk-kept e z ev eb er = rw (filled-is (rt .prev) (k .seq) (k .«t_emit») (k .horizon) (k .dim) (k .«exec_steps») rows z er, eb, ev, e, and-true)
+  chunk-held e ev eb = rw (eb, ev, e, and-true)
+
+  -- the trail is never written
+  pub chunk-keeps-trail : afterChunk binary64 m p there k rows rt .value .trail ≡ rt .trail
+  unfolding afterChunk
+  chunk-keeps-trail = go there
+    where
+      go : (t : Bool) → afterChunk binary64 m p t k rows rt .value .trail ≡ rt .trail
+      go true = refl
+      go false = refl
+
+  -- a chunk replaces the one before
+  pub chunk-replaces : afterChunk binary64 m p there k rows rt .value
+      ≡ record {
+        prev = if there then heldOf (rt .prev) (k .seq) (k .«t_emit») (k .horizon) (k .dim) (k .«exec_steps») rows else rt .prev;
+        «have_prev» = there || rt .«have_prev»;
+        trail = rt .trail;
+        held = afterChunk binary64 m p there k rows rt .value .held;
+        «held_valid» = afterChunk binary64 m p there k rows rt .value .«held_valid»;
+      }
+  unfolding afterChunk
+  chunk-replaces = go there
+    where
+      go : (t : Bool) → afterChunk binary64 m p t k rows rt .value
+          ≡ record {
+            prev = if t then heldOf (rt .prev) (k .seq) (k .«t_emit») (k .horizon) (k .dim) (k .«exec_steps») rows else rt .prev;
+            «have_prev» = t || rt .«have_prev»;
+            trail = rt .trail;
+            held = afterChunk binary64 m p t k rows rt .value .held;
+            «held_valid» = afterChunk binary64 m p t k rows rt .value .«held_valid»;
+          }
+      go true = refl
+      go false = refl
 
   -- what the features of a chunk ask for
   pub chunk-fits : m .dim ≤ 8 → (refusal (lentReasons rows (k .horizon) (k .dim) (k .«exec_steps»)) ≡ 0) × (k .dim ≡ m .dim) → (m .dim ≤ 8) × ((0 < k .horizon) × ((k .horizon ≤ 64) × (k .horizon * m .dim ≤ length rows)))
@@ -92,11 +123,11 @@ module _ (c : FuseConfig) (p ext : List Float) (there : Bool) (k : Head) (rows :
   unfolding featuresRefusal
   lent-refused n e f = numbered n (e ∙ sym (refused-first (judged c p ext there k rows rt sc) (not (ticked c p ext there k rows rt sc .sound)) (no-leftover c p ext there k rows rt sc) (λ z. f (e ∙ z)))) f
 
-  module _ {n : ℕ} (en : n ≡ number) (ez : n ≡ 0) {m : Manifest} {x : Stepped} {y : AllFeatures} (em : m ≡ manifestOf c) (ex : x ≡ steppedFrom (afterChunk binary64 m p there k rows rt))
-      (ey : y ≡ twelveFrom (twelve binary64 m (x .rt .trail) (x .rt .held) (x .rt .«held_valid») ext)) where
+  module _ {n : ℕ} (en : n ≡ number) (ez : n ≡ 0) {m : Manifest} {x : SixFeatures} {y : AllFeatures} (em : m ≡ manifestOf c) (ex : x ≡ heldFrom (afterChunk binary64 m p there k rows rt))
+      (ey : y ≡ twelveFrom (twelve binary64 m (rt .trail) (x .held) (x .valid) ext)) where
     tick-sound : x .sound && y .sound ≡ ticked c p ext there k rows rt sc .sound
     unfolding ticked tick
-    tick-sound = rw (ey, ex, em, and-true)
+    tick-sound = rw (ey, ex, em, and-true, chunk-keeps-trail (manifestOf c) p k rows rt there)
 
     known : (b : Bool) → x .sound && y .sound ≡ b → featuresRefusal c p ext there k rows rt sc ≡ (if not b then 13 else 0)
     unfolding featuresRefusal
@@ -104,10 +135,61 @@ module _ (c : FuseConfig) (p ext : List Float) (there : Bool) (k : Head) (rows :
         only-computed (judged c p ext there k rows rt sc) (not (ticked c p ext there k rows rt sc .sound)) (sym en ∙ ez)
         ∙ ap (λ (t : Bool). if not t then 13 else 0) (sym tick-sound ∙ e)
 
-    pub not-sound : x .sound && y .sound ≡ false → {r : Refusal} → r ≡ refusedFor 13 → _≡_ {A = Featured} (record { refusal = r; rt = rt; scores = sc }) answer
-    not-sound e = numbered 13 (sym (known false e)) (λ w. omega arith)
+    pub not-sound : x .sound && y .sound ≡ false → _≡_ {A = Featured} (record { refusal = refusedFor 13; rt = rt; scores = sc }) answer
+    not-sound e = numbered 13 (sym (known false e)) (λ w. omega arith) refl
 
-    pub passes : x .sound && y .sound ≡ true → {r : Refusal} → r ≡ refusedFor 0
-        → _≡_ {A = Featured} (record { refusal = r; rt = x .rt; scores = record { f = y .f; z = sc .z; s = sc .s; valid = y .valid; fired = sc .fired } }) answer
+    pub passes : x .sound && y .sound ≡ true → {r : Refusal} → r ≡ refusedFor 0 → _≡_ {A = TickOut} (record { refusal = r; held = x .held; «held_valid» = x .valid; f = y .f; valid = y .valid }) (outOf answer)
     unfolding featuresOf ticked tick
-    passes e er = rw (er, known true e, ey, ex, em)
+    passes e er = rw (er, known true e, ey, ex, em, chunk-keeps-trail (manifestOf c) p k rows rt there)
+
+  -- ---- the whole answer, from what a tick comes to
+
+  whole-at : (n : ℕ) → n ≡ 0 → featuredAt n (ticked c p ext there k rows rt sc .value) rt sc ≡ wholeAnswer there k rows rt sc (outOf (featuredAt n (ticked c p ext there k rows rt sc .value) rt sc))
+  unfolding ticked tick
+  whole-at zero e = ap (λ (s : Tier1Rt). record { refusal = refusedFor 0; rt = s; scores = scoresWith (ticked c p ext there k rows rt sc .value .found) sc }) (chunk-replaces (manifestOf c) p k rows rt there)
+  whole-at (suc n) e = absurd (omega arith)
+
+  number-is : answer .refusal .number ≡ featuresRefusal c p ext there k rows rt sc
+  unfolding featuresOf
+  number-is = go (featuresRefusal c p ext there k rows rt sc)
+    where
+      go : (n : ℕ) → featuredAt n (ticked c p ext there k rows rt sc .value) rt sc .refusal .number ≡ n
+      go zero = refl
+      go (suc n) = refl
+
+  pub passed-whole : answer .refusal .number ≡ 0 → answer ≡ wholeAnswer there k rows rt sc (outOf answer)
+  unfolding featuresOf
+  passed-whole e = whole-at (featuresRefusal c p ext there k rows rt sc) (sym number-is ∙ e)
+
+  -- an accepted chunk has room in the buffer
+  accepted-chunk : answer .refusal .number ≡ 0 → there ≡ true → refusal (lentReasons rows (k .horizon) (k .dim) (k .«exec_steps»)) ≡ 0
+  unfolding featuresRefusal
+  accepted-chunk e t =
+      let z = neither-applies (judged c p ext there k rows rt sc) (among ((computed when not (ticked c p ext there k rows rt sc .sound)) ∷ [])) (sym number-is ∙ e) .0 in
+      new-fits c p ext there k rows rt sc refl z t .0
+
+  pub rows-fit : answer .refusal .number ≡ 0 → there ≡ true → length rows ≤ 512
+  rows-fit e t = accepted-fits (lent-accepted rows (k .horizon) (k .dim) (k .«exec_steps») (accepted-chunk e t) .0)
+
+  prev-is : answer .refusal .number ≡ 0 → (if there then fillOf (rt .prev) (k .seq) (k .«t_emit») (k .horizon) (k .dim) (k .«exec_steps») rows .buf else rt .prev) ≡ (if there then heldOf (rt .prev) (k .seq) (k .«t_emit») (k .horizon) (k .dim) (k .«exec_steps») rows else rt .prev)
+  prev-is e = go there (accepted-chunk e)
+    where
+      go : (t : Bool) → (t ≡ true → refusal (lentReasons rows (k .horizon) (k .dim) (k .«exec_steps»)) ≡ 0)
+          → (if t then fillOf (rt .prev) (k .seq) (k .«t_emit») (k .horizon) (k .dim) (k .«exec_steps») rows .buf else rt .prev) ≡ (if t then heldOf (rt .prev) (k .seq) (k .«t_emit») (k .horizon) (k .dim) (k .«exec_steps») rows else rt .prev)
+      go true f = filled-is (rt .prev) (k .seq) (k .«t_emit») (k .horizon) (k .dim) (k .«exec_steps») rows (f refl) refl
+      go false f = refl
+
+  pub passed-from : {a : TickOut} {b : ChunkBuf} → a ≡ outOf answer → a .refusal .number ≡ 0 → b ≡ (if there then fillOf (rt .prev) (k .seq) (k .«t_emit») (k .horizon) (k .dim) (k .«exec_steps») rows .buf else rt .prev)
+      → _≡_ {A = Featured} (record { refusal = a .refusal; rt = record { prev = b; «have_prev» = there || rt .«have_prev»; trail = rt .trail; held = a .held; «held_valid» = a .«held_valid» }; scores = record { f = a .f; z = sc .z; s = sc .s; valid = a .valid; fired = sc .fired } }) answer
+  passed-from {a} {b} ea ez eb =
+      let z : answer .refusal .number ≡ 0 = sym (ap (λ (x : TickOut). x .refusal .number) ea) ∙ ez in
+      rw (ea, eb, prev-is z) (sym (passed-whole z))
+
+  pub refused-from : {a : TickOut} → a ≡ outOf answer → (a .refusal .number ≡ 0 → ⊥) → _≡_ {A = Featured} (record { refusal = a .refusal; rt = rt; scores = sc }) answer
+  unfolding featuresOf
+  refused-from {a} ea f = rw ea (go (featuresRefusal c p ext there k rows rt sc) (λ z. f (rw ea z)))
+    where
+      go : (n : ℕ) → (featuredAt n (ticked c p ext there k rows rt sc .value) rt sc .refusal .number ≡ 0 → ⊥)
+          → _≡_ {A = Featured} (record { refusal = featuredAt n (ticked c p ext there k rows rt sc .value) rt sc .refusal; rt = rt; scores = sc }) (featuredAt n (ticked c p ext there k rows rt sc .value) rt sc)
+      go zero f = absurd (f refl)
+      go (suc n) f = refl

@@ -1,6 +1,6 @@
 -- The rules at the declared structs.
 use Prim.Native.Nat.{ℕ, zero, suc, _-_}
-use mathlib.Core.Bool.{Bool, true, false, not, _&&_}
+use mathlib.Core.Bool.{Bool, true, false, not, _&&_, _||_}
 use mathlib.Core.List.{List, [], _∷_}
 use lib.Dec.{leb}
 use lib.ListN.{length, replicate}
@@ -25,7 +25,7 @@ use Rattle.tier1.specs.declared.SixFeatures.{SixFeatures}
 use Rattle.tier1.specs.declared.AllFeatures.{AllFeatures}
 use Rattle.tier1.specs.declared.Head.{Head}
 use Rattle.tier1.specs.declared.Tier1Rt.{Tier1Rt}
-use Rattle.tier1.specs.declared.Stepped.{Stepped}
+use Rattle.tier1.specs.declared.TickOut.{TickOut}
 use Rattle.tier1.specs.declared.Featured.{Featured}
 use Rattle.tier1.specs.declared.Cleared.{Cleared}
 use Rattle.tier1.specs.Rule.{overlap, tce, acc, ifThere, boundary, boundaryBits, validAt, valueAt, Twelve, twelve}
@@ -82,8 +82,9 @@ gatheredFrom held heldValid len trail sound ext = record {
 abbrev pub twelveFrom : Checked Twelve → AllFeatures
 twelveFrom x = record { f = x .value .f; valid = x .value .valid; sound = x .sound }
 
-abbrev pub steppedFrom : Checked Tier1Rt → Stepped
-steppedFrom x = record { rt = x .value; sound = x .sound }
+-- the held features of a state
+abbrev pub heldFrom : Checked Tier1Rt → SixFeatures
+heldFrom x = record { held = x .value .held; valid = x .value .«held_valid»; sound = x .sound }
 
 -- ---- the state
 
@@ -152,6 +153,30 @@ module _ (c : FuseConfig) (p ext : List Float) (there : Bool) (k : Head) (rows :
 
   unfoldable pub featuresOf : Featured
   featuresOf = featuredAt featuresRefusal (ticked .value) rt sc
+
+-- what a tick finds, of its whole answer
+abbrev pub outOf : Featured → TickOut
+outOf a = record {
+  refusal = a .refusal;
+  held = a .rt .held;
+  «held_valid» = a .rt .«held_valid»;
+  f = a .scores .f;
+  valid = a .scores .valid;
+}
+
+-- .. and the whole answer of one that passes, from what it finds
+abbrev pub wholeAnswer : Bool → Head → List Float → Tier1Rt → Scores → TickOut → Featured
+wholeAnswer there k rows rt sc a = record {
+  refusal = a .refusal;
+  rt = record {
+    prev = if there then chunk.heldOf (rt .prev) (k .seq) (k .«t_emit») (k .horizon) (k .dim) (k .«exec_steps») rows else rt .prev;
+    «have_prev» = there || rt .«have_prev»;
+    trail = rt .trail;
+    held = a .held;
+    «held_valid» = a .«held_valid»;
+  };
+  scores = record { f = a .f; z = sc .z; s = sc .s; valid = a .valid; fired = sc .fired };
+}
 
 -- what `reset` answers
 abbrev pub clearedAt : ℕ → Tier1Rt → Cleared

@@ -11,12 +11,13 @@ ghost use Rattle.fmath.specs.Checked.{pure, sumFrom};
 ghost use Rattle.fmath.specs.Finite.{+0};
 ghost use Rattle.tier1.specs.Rule.{row, shared, sumRows, gap, gaps, jolt, jolts, stepLength, tce, acc, acmNeg, njr, reach, startRow, peak, speedPeak, pathIneff, stall, overlap, boundaryAt, ifThere, boundary, boundaryBits, moving, validAt, valueAt, twelve};
 ghost use Rattle.conformal.specs.Bits.{bitsWhere};
-ghost use Rattle.refusal.specs.Order.{if_then_else_, given, refusal};
+ghost use Rattle.refusal.specs.Order.{if_then_else_, given, refusal, refusedFor};
 ghost use Rattle.envelope.specs.Derive.{kept};
 ghost use Rattle.envelope.specs.Whole.{whole};
-ghost use Rattle.tier1.specs.Of.{featureFrom, pairFrom, metFrom, boundaryFrom, gatheredFrom, twelveFrom, keptOf, manifestOf, newRt, steppedFrom, afterChunk, judged, featuresOf, resetOf};
+ghost use Rattle.tier1.specs.Of.{featureFrom, pairFrom, metFrom, boundaryFrom, gatheredFrom, twelveFrom, keptOf, manifestOf, newRt, heldFrom, outOf, afterChunk, judged, featuresOf, resetOf};
 ghost use Rattle.tier1.specs.Refusals.{lower, newJudged, stateJudged, someNotFiniteIn};
 ghost use Rattle.chunk.specs.Refusals.{lentReasons};
+ghost use Rattle.chunk.specs.Of.{fillOf};
 use chunk::ChunkBuf;
 use conformal::Scores;
 use envelope::FuseConfig;
@@ -79,18 +80,21 @@ pub struct AllFeatures {
     pub sound: bool,
 }
 
-// The state after a chunk, likewise.
-pub struct Stepped {
-    pub rt: Tier1Rt,
-    pub sound: bool,
-}
-
 // What is said of the chunk before besides its rows; `there` where there is one.
 pub struct Kept {
     pub there: bool,
     pub t_emit: u32,
     pub horizon: usize,
     pub dim: usize,
+}
+
+// What a tick finds: its features, and the held ones after it; on refusal those that came in.
+pub struct TickOut {
+    pub refusal: Refusal,
+    pub held: [f64; 6],
+    pub held_valid: u32,
+    pub f: [f64; 12],
+    pub valid: u32,
 }
 
 // The state and the scores after a tick; on refusal those that came in.
@@ -493,23 +497,6 @@ fn boundary(
     }
 }
 
-// The same, with the chunk before in its buffer.
-fn boundary_after(
-    m: Manifest,
-    k: Kept,
-    prev: ChunkBuf,
-    pos: &[f64],
-    t: u32,
-    h: usize,
-    b: &[f64],
-) -> SixFeatures
-    requires { ⌜ (m .dim ≤ 8) × (0 < h) × (h ≤ 64) × (h * m .dim ≤ length (now b)) × (k .there ≡ true → (k .horizon ≤ 64) × (k .horizon * k .dim ≤ 512)) ⌝ }
-    ensures { λ r. ⌜ r ≡ boundaryFrom (boundary binary64 m k (prev .«data») (now (pos .entry)) t h (now (b .entry))) (boundaryBits m k (now (pos .entry)) t h) ⌝ }
-{
-    let a = prev.data;
-    boundary(m, k, &a, pos, t, h, b)
-}
-
 // ---- the features of the trail
 
 // PathIneff and Stall of the last 20 samples. The way and the quotient are tested, since greatest and least hide them.
@@ -738,37 +725,49 @@ impl Tier1Rt {
     }
 }
 
-// The state after a chunk, where there is one: it replaces all held features, invalid ones too, and the chunk before.
-fn after_chunk(m: Manifest, rt: Tier1Rt, pos: &[f64], there: bool, k: Head, rows: &[f64]) -> Stepped
-    requires { ⌜ (m .dim ≤ 8) × (there ≡ true → (refusal (lentReasons (now rows) (k .horizon) (k .dim) (k .«exec_steps»)) ≡ 0) × (k .dim ≡ m .dim)) × (rt .prev .filled ≡ true → (rt .prev .horizon ≤ 64) × (rt .prev .horizon * rt .prev .dim ≤ 512)) ⌝ }
-    ensures { λ r. ⌜ r ≡ steppedFrom (afterChunk binary64 m (now (pos .entry)) there k (now (rows .entry)) rt) ⌝ }
+// A refused tick finds what came in.
+fn unchanged(number: u8, rt: Tier1Rt, sc: Scores) -> TickOut
+    ensures { λ r. ⌜ r ≡ outOf (record { refusal = refusedFor number; rt = rt; scores = sc }) ⌝ }
 {
-    if !there {
-        return Stepped { rt, sound: true };
-    }
-    let kept = kept_of(rt);
-    let prev = rt.prev;
-    let h = k.horizon as usize;
-    let filled = prev.fill(k.seq, k.t_emit, k.horizon, k.dim, k.exec_steps, rows);
-    let buf = filled.buf;
-    let b = boundary_after(m, kept, prev, pos, k.t_emit, h, rows);
-    let trail = rt.trail;
-    let held = b.held;
-    let new = Tier1Rt {
-        prev: buf,
-        have_prev: true,
-        trail,
+    let refusal = Refusal::of(number);
+    let held = rt.held;
+    let f = sc.f;
+    TickOut {
+        refusal,
         held,
-        held_valid: b.valid,
-    };
-    Stepped {
-        rt: new,
-        sound: b.sound,
+        held_valid: rt.held_valid,
+        f,
+        valid: sc.valid,
     }
 }
 
-// `features` of settings and lent tables.
-pub fn features_with<'a>(
+// The held features after a chunk, where there is one: it replaces all of them, invalid ones too.
+fn held_after(
+    m: Manifest,
+    rt: Tier1Rt,
+    pos: &[f64],
+    there: bool,
+    k: Head,
+    rows: &[f64],
+) -> SixFeatures
+    requires { ⌜ (m .dim ≤ 8) × (there ≡ true → (refusal (lentReasons (now rows) (k .horizon) (k .dim) (k .«exec_steps»)) ≡ 0) × (k .dim ≡ m .dim)) × (rt .prev .filled ≡ true → (rt .prev .horizon ≤ 64) × (rt .prev .horizon * rt .prev .dim ≤ 512)) ⌝ }
+    ensures { λ r. ⌜ r ≡ heldFrom (afterChunk binary64 m (now (pos .entry)) there k (now (rows .entry)) rt) ⌝ }
+{
+    if !there {
+        let held = rt.held;
+        return SixFeatures {
+            held,
+            valid: rt.held_valid,
+            sound: true,
+        };
+    }
+    let kept = kept_of(rt);
+    let h = k.horizon as usize;
+    boundary(m, kept, &rt.prev.data, pos, k.t_emit, h, rows)
+}
+
+// What a tick finds, of settings and lent tables.
+pub fn tick_with<'a>(
     c: Settings,
     center: &'a [f64; 192],
     scale: &'a [f64; 192],
@@ -779,47 +778,41 @@ pub fn features_with<'a>(
     k: Head,
     rows: &[f64],
     sc: Scores,
-) -> Featured
-    ensures { λ r. ⌜ r ≡ featuresOf (whole c (now (center .entry)) (now (scale .entry))) (now (pos .entry)) (now (ext .entry)) there k (now (rows .entry)) rt sc ⌝ }
+) -> TickOut
+    ensures { λ r. ⌜ r ≡ outOf (featuresOf (whole c (now (center .entry)) (now (scale .entry))) (now (pos .entry)) (now (ext .entry)) there k (now (rows .entry)) rt sc) ⌝ }
 {
     let number = features_refusal(c, center, scale, rt, pos, ext, there, k, rows, sc);
     if number != 0 {
-        let refusal = Refusal::of(number);
-        return Featured {
-            refusal,
-            rt,
-            scores: sc,
-        };
+        return unchanged(number, rt, sc);
     }
     let m = manifest_of(c);
-    let next = after_chunk(m, rt, pos, there, k, rows);
-    let new = next.rt;
-    let trail = new.trail;
-    let held = new.held;
-    let found = twelve(m, trail, held, new.held_valid, ext);
-    if !(next.sound & found.sound) {
-        let refusal = Refusal::of(Refusal::COMPUTED);
-        return Featured {
-            refusal,
-            rt,
-            scores: sc,
-        };
+    let next = held_after(m, rt, pos, there, k, rows);
+    let trail = rt.trail;
+    let held = next.held;
+    let all = twelve(m, trail, held, next.valid, ext);
+    if !(next.sound & all.sound) {
+        return unchanged(Refusal::COMPUTED, rt, sc);
     }
-    let f = found.f;
-    let z = sc.z;
-    let scores = Scores {
-        f,
-        z,
-        s: sc.s,
-        valid: found.valid,
-        fired: sc.fired,
-    };
     let refusal = Refusal::of(0);
-    Featured {
+    let f = all.f;
+    TickOut {
         refusal,
-        rt: new,
-        scores,
+        held,
+        held_valid: next.valid,
+        f,
+        valid: all.valid,
     }
+}
+
+// The chunk before after a tick: the new one, where there is one.
+fn prev_after(prev: ChunkBuf, there: bool, k: Head, rows: &[f64]) -> ChunkBuf
+    ensures { λ r. ⌜ r ≡ (if there then fillOf prev (k .seq) (k .«t_emit») (k .horizon) (k .dim) (k .«exec_steps») (now (rows .entry)) .buf else prev) ⌝ }
+{
+    if !there {
+        return prev;
+    }
+    let filled = prev.fill(k.seq, k.t_emit, k.horizon, k.dim, k.exec_steps, rows);
+    filled.buf
 }
 
 // The features of a tick, in the scores' f and valid; their z, s and fired stay. A new chunk, where `there` says that one came,
@@ -837,7 +830,7 @@ pub fn features(
     ensures { λ r. ⌜ r ≡ featuresOf c (now (pos .entry)) (now (ext .entry)) there k (now (rows .entry)) rt sc ⌝ }
 {
     let s = envelope::settings_of(c);
-    features_with(
+    let a = tick_with(
         s,
         &c.calib.center,
         &c.calib.scale,
@@ -848,5 +841,37 @@ pub fn features(
         k,
         rows,
         sc,
-    )
+    );
+    let refusal = a.refusal;
+    if refusal.number != 0 {
+        return Featured {
+            refusal,
+            rt,
+            scores: sc,
+        };
+    }
+    let prev = prev_after(rt.prev, there, k, rows);
+    let trail = rt.trail;
+    let held = a.held;
+    let f = a.f;
+    let z = sc.z;
+    let next = Tier1Rt {
+        prev,
+        have_prev: there | rt.have_prev,
+        trail,
+        held,
+        held_valid: a.held_valid,
+    };
+    let scores = Scores {
+        f,
+        z,
+        s: sc.s,
+        valid: a.valid,
+        fired: sc.fired,
+    };
+    Featured {
+        refusal,
+        rt: next,
+        scores,
+    }
 }

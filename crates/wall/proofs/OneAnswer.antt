@@ -58,6 +58,7 @@ use Rattle.tier0.proofs.check_chunk.Reads as check-chunk
 use Rattle.tier1.proofs.Tier1Rt.new.Reads as tier1-rt-new
 use Rattle.tier1.proofs.Tier1Rt.reset.Reads as tier1-rt-reset
 use Rattle.tier1.proofs.features.Reads as features
+use Rattle.tier1.proofs.tick_with.Reads as tick-with
 use Rattle.rollout.proofs.rows_left.Reads as rows-left
 use Rattle.rollout.proofs.rollout.Reads as rollout
 use Rattle.rollout.proofs.stop_distance.Reads as rollout-stop-distance
@@ -276,6 +277,9 @@ one-tier1-rt-reset l a r s x y = unique
 
 pub one-features : One features.Post (λ r x. r)
 one-features l a r s x y = unique
+
+pub one-tick-with : One tick-with.Post (λ r x. r)
+one-tick-with l a r s x y = unique
 
 -- ---- rollout (module 7)
 

@@ -150,19 +150,19 @@ fn generate_episode(rng: &mut Rng) -> Episode {
     Episode { cfg, ticks: (0..ticks).scan(tick, |tick, t| Some(tick(t, rng))).collect() }
 }
 
-/// The state and the scores after every tick, up to the first refusal.
+/// All of the state and of the scores after every tick, up to the first refusal.
 fn ran(push: TrailPush, f: Features, i: &Episode) -> Outcome {
     let (mut rt, mut sc) = (Tier1Rt::NEW, Scores::NEW);
     let mut seen = Shown::default();
     let mut tick = |t: &Tick| {
         push(&mut rt.trail, &t.pos, i.cfg.pos_dim)?;
         f(&i.cfg, &mut rt, &t.pos, &t.ext, t.new.as_ref().map(ChunkIn::view), &mut sc)?;
-        seen.numbers.extend(sc.f.iter().chain(&rt.held));
-        seen.counts.extend([sc.valid as u64, rt.held_valid as u64, rt.prev.t_emit as u64, rt.trail.head as u64]);
+        let s = shown(&rt, &sc);
+        seen.numbers.extend(s.numbers);
+        seen.counts.extend(s.counts);
         Ok(())
     };
     let answer = i.ticks.iter().try_for_each(&mut tick);
-    seen.numbers.extend(shown(&rt, &sc).numbers);
     Outcome { answer: answer.map(|()| seen), buffers: Shown::default() }
 }
 

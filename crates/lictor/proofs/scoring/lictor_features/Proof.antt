@@ -1,6 +1,8 @@
--- `lictor::scoring::lictor_features` meets its contract: it hands on the answer of its entry.
+-- `lictor::scoring::lictor_features` meets its contract: a refusal leaves every place, and a tick that passes puts its entry's answer there.
 use denote.Ref.{now}
-use Rattle.lictor.proofs.Alike.{featured-alike, features-alike}
+use Rattle.envelope.specs.Whole.{whole}
+use Rattle.lictor.proofs.Alike.{featured-alike}
+use Rattle.lictor.proofs.Ticked.{state-rows, refused-places, passed-places}
 use borrow.Author.Needs.{needs}
 use Rattle.lictor.proofs.scoring.lictor_features.Statement.{statement}
 use Rattle.lictor.proofs.scoring.lictor_features.Tie as tie
@@ -23,18 +25,32 @@ state-of-requires c κs = search needs
 scores-of-requires : tie.Need-scores-of-requires
 scores-of-requires c κs = search needs
 
-features-with-requires : tie.Need-features-with-requires
-features-with-requires c κs = search needs
+tick-with-requires : tie.Need-tick-with-requires
+tick-with-requires c κs = search needs
 
-put-featured-requires : tie.Need-put-featured-requires
-put-featured-requires c κs = search needs
+fitting-requires : tie.Need-fitting-requires
+fitting-requires c κs = search needs
 
 returns : tie.Need-returns
 returns c =
-    let s = c .before .before .before .before .before .before .before .before .before .before .before .before .before .before .before .before .before .before .before .before .before .before .before .before .before .before .args in
-    featured-alike (c .before .before .before .before .before .before .before .before .before .before .before .before .before .before .before .before .before .before .before .before .before .before .counts-fit .ensures) (c .before .before .before .before .before .before .before .before .before .before .before .before .before .before .before .before .before .before .before .state-fits .ensures) (c .before .before .before .before .before .before .before .before .before .before .before .before .before .before .before .before .before .marks-fit .ensures)
-    (features-alike (now (s .center)) (now (s .scale)) (now (s .pos)) (now (s .ext)) _ _ (now (s .rows)) (c .before .before .before .before .before .before .before .features-with .ensures) (c .before .before .before .before .before .before .before .before .before .before .before .before .before .before .before .before .settings-of .ensures) (c .before .before .before .before .before .before .before .before .before .before .before .state-of .ensures) (c .before .before .before .before .before .before .before .before .scores-of .ensures))
-    (c .put-featured .ensures)
+    let s = c .before .before .before .before .before .before .before .before .before .before .before .before .before .before .before .before .before .before .before .before .before .args in
+    featured-alike (now (s .center)) (now (s .scale)) (now (s .pos)) (now (s .ext)) _ _ (now (s .rows)) (c .before .before .before .before .before .before .before .before .before .before .before .before .before .before .before .before .before .counts-fit .ensures) (c .before .before .before .before .before .before .before .before .before .before .before .before .before .before .state-fits .ensures) (c .before .before .before .before .before .before .before .before .before .before .before .before .marks-fit .ensures) (c .before .before .before .before .before .before .before .before .before .before .before .settings-of .ensures) (c .before .before .before .before .before .before .state-of .ensures) (c .before .before .before .scores-of .ensures)
+    (refused-places (whole (c .before .before .before .before .before .before .before .before .before .before .before .settings-of .result) (now (s .center)) (now (s .scale))) (now (s .pos)) (now (s .ext)) _ (now (s .rows)) (c .before .before .before .before .before .before .state-of .result) (c .before .before .before .scores-of .result) _ (c .before .before .tick-with .ensures) (c .before .fitting .ensures) (c .if1 .taken))
+
+put-before-requires : tie.Need-put-before-requires
+put-before-requires c κs = search needs
+
+put-held-requires : tie.Need-put-held-requires
+put-held-requires c κs = search needs
+
+put-scores-requires : tie.Need-put-scores-requires
+put-scores-requires c κs = search needs
+
+returns-2 : tie.Need-returns-2
+returns-2 c =
+    let s = c .before .before .before .before .before .before .before .before .before .before .before .before .before .before .before .before .before .before .before .before .before .before .before .before .before .before .before .before .before .before .before .before .before .before .args in
+    featured-alike (now (s .center)) (now (s .scale)) (now (s .pos)) (now (s .ext)) _ _ (now (s .rows)) (c .before .before .before .before .before .before .before .before .before .before .before .before .before .before .before .before .before .before .before .before .before .before .before .before .before .before .before .before .before .before .counts-fit .ensures) (c .before .before .before .before .before .before .before .before .before .before .before .before .before .before .before .before .before .before .before .before .before .before .before .before .before .before .before .state-fits .ensures) (c .before .before .before .before .before .before .before .before .before .before .before .before .before .before .before .before .before .before .before .before .before .before .before .before .before .marks-fit .ensures) (c .before .before .before .before .before .before .before .before .before .before .before .before .before .before .before .before .before .before .before .before .before .before .before .before .settings-of .ensures) (c .before .before .before .before .before .before .before .before .before .before .before .before .before .before .before .before .before .before .before .state-of .ensures) (c .before .before .before .before .before .before .before .before .before .before .before .before .before .before .before .before .scores-of .ensures)
+    (passed-places (whole (c .before .before .before .before .before .before .before .before .before .before .before .before .before .before .before .before .before .before .before .before .before .before .before .before .settings-of .result) (now (s .center)) (now (s .scale))) (now (s .pos)) (now (s .ext)) _ (now (s .rows)) (c .before .before .before .before .before .before .before .before .before .before .before .before .before .before .before .before .before .before .before .state-of .result) (c .before .before .before .before .before .before .before .before .before .before .before .before .before .before .before .before .scores-of .result) _ (c .before .before .before .before .before .before .before .before .before .before .before .before .before .before .before .tick-with .ensures) (c .before .before .before .before .before .before .before .before .before .before .before .before .before .before .fitting .ensures) (c .before .before .before .before .before .before .before .before .before .before .before .before .before .if1 .left) (state-rows _ _ _ _ _ _ (c .before .before .before .before .before .before .before .before .before .before .before .before .before .before .before .before .before .before .before .state-of .ensures)) (c .before .before .before .before .before .before .before .before .before .before .put-before .ensures) (c .before .before .before .before .before .put-held .ensures) (c .put-scores .ensures))
 
 pub lictor-features-spec : {M : Type 1} → statement M
 lictor-features-spec =
@@ -46,6 +62,10 @@ lictor-features-spec =
     settings-of-requires
     state-of-requires
     scores-of-requires
-    features-with-requires
-    put-featured-requires
-    returns)
+    tick-with-requires
+    fitting-requires
+    returns
+    put-before-requires
+    put-held-requires
+    put-scores-requires
+    returns-2)
