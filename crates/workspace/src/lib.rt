@@ -104,11 +104,11 @@ struct Around {
 fn beside(lo: f64, hi: f64, p: f64) -> Sides
     ensures { λ r. ⌜ (r .near ≡ between binary64 lo hi p .value) × (r .sum ≡ add binary64 (sub binary64 p lo) (sub binary64 hi p)) ⌝ }
 {
-    let low = p - lo;
-    let high = hi - p;
+    let below = p - lo;
+    let above = hi - p;
     Sides {
-        near: fmath::min(low, high),
-        sum: low + high,
+        near: fmath::min(below, above),
+        sum: below + above,
     }
 }
 
