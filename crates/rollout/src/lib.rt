@@ -221,7 +221,7 @@ fn abreast(
     }
 }
 
-// One setpoint, held for so many substeps.
+// One setpoint, held for so many substeps. A single axis is quicker alone.
 fn hold(g: Law, w: Workspace, n: usize, a: &[f64], count: usize, run: Run, slack: &mut [f64]) -> Run
     requires { ⌜ (n ≤ 8) × (n ≤ length (now a)) × (run .done + count ≤ length (now slack)) ⌝ }
     ensures { λ r. ⌜ (r .done ≤ run .done + count) × ((t : Task) (l : List Float) (k : ℕ) → Under t g w n → Along binary64 t l k run (now (slack .entry)) → Towards binary64 t k count (now (a .entry)) run → Along binary64 t l (k + count) r (now (slack .exit))) ⌝ }

@@ -150,8 +150,8 @@ fn least_of(near: [f64; 8], n: usize) -> f64
     least
 }
 
-// The slack as above, quicker: all eight axes are measured, and one test of their sum tells mostly that each distance is finite. Where it
-// does not, the n axes are judged one by one.
+// The same slack, quicker: all eight axes are measured, and one test of a sum tells that each distance is finite. Where it does not tell,
+// the n axes are judged one by one.
 pub fn slack_abreast(w: Workspace, p: [f64; 8], n: usize) -> Distance
     ensures { λ r. ⌜ r ≡ distanceFrom (slack binary64 (wallsOf w) p n) ⌝ }
 {

@@ -1,7 +1,7 @@
 -- `rollout::abreast` meets its contract: the loop comes along one entry a turn, with the first n axes as n axes alone would move (`Wide`).
 use Prim.Native.Nat.{ℕ, _+_, _-_, _≤_, _<_}
 use mathlib.Core.Path.{_≡_, refl, sym, ap, _∙_, subst}
-use mathlib.Core.Bool.{true, false}
+use mathlib.Core.Bool.{true}
 use mathlib.Core.List.{List}
 use native.Mathlib.Omega.{arith}
 use borrow.Author.Needs.{needs}
@@ -12,7 +12,7 @@ use lib.Ieee.{Float, binary64}
 use Rattle.rollout.specs.declared.Plant.{Plant}
 use Rattle.rollout.specs.declared.Run.{Run}
 use Rattle.rollout.specs.Rule.{Task, after, forecast}
-use Rattle.rollout.specs.Of.{gainsOf, joinedOf, Along, Towards, Under}
+use Rattle.rollout.specs.Of.{gainsOf, Along, Towards, Under}
 use Rattle.rollout.proofs.Along.{towards-next, along-zero, along-sum, along-at, along-rest}
 use Rattle.rollout.proofs.Wide.{joined-itself, as-long, running, wide-fails, wide-advances, going}
 use Rattle.rollout.proofs.abreast.Statement.{statement}

@@ -1,7 +1,6 @@
 -- `workspace::slack_abreast` meets its contract: what is measured on all eight axes gives the slack of n (`slack-from`), or the axes are judged one by one.
-use mathlib.Core.Path.{_≡_, refl, sym, ap, _∙_}
+use mathlib.Core.Path.{_≡_, sym, _∙_}
 use mathlib.Core.Bool.{true, false, not}
-use native.Mathlib.Omega.{arith}
 use borrow.Author.Needs.{needs}
 use borrow.Author.Tests.{not-false, ltb-false}
 use lib.Dec.{ltb}
