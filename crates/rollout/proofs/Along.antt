@@ -146,6 +146,11 @@ module _ (t : Forecast) (stand : ℕ → State) (l : List Float) (k : ℕ) (r : 
   pub along-at : (m : ℕ) → m ≡ k → Ran t stand l m r out → Ran t stand l k r out
   along-at m e h = subst (λ (m : ℕ). Ran t stand l m r out) e h
 
+  -- a run that has stopped has come along all that is left
+  pub along-rest : r .sound ≡ false → Ran t stand l k r out → (m : ℕ) → Ran t stand l (k + m) r out
+  along-rest s h zero = along-zero h
+  along-rest s h (suc m) = subst (λ (j : ℕ). Ran t stand l j r out) (add-assoc k m 1 ∙ ap (λ (j : ℕ). k + j) (add-one m)) (along-stopped t stand l (k + m) r out (along-rest s h m) s)
+
 -- ---- the start and the end of a run
 
 module _ (t : Forecast) (stand : ℕ → State) (l : List Float) where

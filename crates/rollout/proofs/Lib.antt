@@ -1,6 +1,7 @@
 pub mod Told
 pub mod Reach
 pub mod Along
+pub mod Wide
 pub mod Rows
 pub mod Room
 pub mod Promises

@@ -21,6 +21,10 @@ use Rattle.workspace.proofs.Gaps.{between-tells}
 use Rattle.rollout.specs.Plant.{Gains, Motion, State, axis, motionAt, substep}
 use Rattle.rollout.specs.Rule.{stopDistance}
 
+-- axis j anew
+abbrev pub put : State → ℕ → Motion → State
+put r j m = record { p = set (r .p) j (m .p); v = set (r .v) j (m .v) }
+
 module _ (f : Format) (g : Gains) where
   -- a finite place at the end tells of each number on the way
   pub axis-told : (a : Float) (m : Motion) → finite (axis f g a m .value .p) ≡ true → axis f g a m .sound ≡ true
@@ -45,12 +49,12 @@ module _ (f : Format) (g : Gains) where
   module _ (a : List Float) (s : State) where
     -- one turn of a loop over the axes
     pub substep-more : (j : ℕ) (r : State) (m : Motion) → r ≡ substep f g a j s .value → m ≡ axis f g (at a j) (motionAt r j) .value
-        → _≡_ {A = State} (record { p = set (r .p) j (m .p); v = set (r .v) j (m .v) }) (substep f g a (j + 1) s .value)
+        → put r j m ≡ substep f g a (j + 1) s .value
     unfolding substep
     substep-more j r m h e = rw (add-one, e, h)
 
     -- an axis that is not reached yet is as it was
-    untouched : (n j : ℕ) → n ≤ j → motionAt (substep f g a n s .value) j ≡ motionAt s j
+    pub untouched : (n j : ℕ) → n ≤ j → motionAt (substep f g a n s .value) j ≡ motionAt s j
     unfolding substep
     untouched zero j h = refl
     untouched (suc n) j h =
@@ -68,21 +72,34 @@ module _ (f : Format) (g : Gains) where
         and-true true = refl
         and-true false = refl
 
-    length-kept : (n : ℕ) → length (substep f g a n s .value .p) ≡ length (s .p)
-    unfolding substep
-    length-kept zero = refl
-    length-kept (suc n) = simp length-set (length-kept n)
+    -- the places, or the velocities: what is put over one axis is put over one of them
+    module _ (side : State → List Float) (part : Motion → Float) (puts : (r : State) (j : ℕ) (m : Motion) → side (put r j m) ≡ set (side r) j (part m)) where
+      pub length-kept : (n : ℕ) → length (side (substep f g a n s .value)) ≡ length (side s)
+      unfolding substep
+      length-kept zero = refl
+      length-kept (suc n) =
+          let t = substep f g a n s .value in
+          let m = axis f g (at a n) (motionAt t n) .value in
+          ap length (puts t n m) ∙ length-set (side t) n (part m) ∙ length-kept n
 
-    -- where an axis stands afterwards
+      -- where an axis stands afterwards, or how fast it moves
+      pub part-at : (n j : ℕ) → j < n → n ≤ length (side s) → at (side (substep f g a n s .value)) j ≡ part (axis f g (at a j) (motionAt s j) .value)
+      unfolding substep
+      part-at zero j h l = absurd (omega arith)
+      part-at (suc n) j h l =
+          let t = substep f g a n s .value in
+          let m = axis f g (at a n) (motionAt t n) .value in
+          ap (λ (x : List Float). at x j) (puts t n m)
+          ∙ below-more (λ (i : ℕ). at (set (side t) n (part m)) i ≡ part (axis f g (at a i) (motionAt s i) .value)) n
+          (λ i b. let d : i ≡ n → ⊥ = λ e. omega arith in getD-set-other (side t) n i (part m) nan d ∙ part-at n i b (omega arith))
+          (getD-set-same (side t) n (part m) nan (rw (length-kept n) (omega arith)) ∙ ap (λ (x : Motion). part (axis f g (at a n) x .value)) (untouched n n (omega arith)))
+          j (omega arith)
+
     pub substep-at : (n j : ℕ) → j < n → n ≤ length (s .p) → at (substep f g a n s .value .p) j ≡ axis f g (at a j) (motionAt s j) .value .p
-    unfolding substep
-    substep-at zero j h l = absurd (omega arith)
-    substep-at (suc n) j h l =
-        let t = substep f g a n s .value in
-        below-more (λ (i : ℕ). at (set (t .p) n (axis f g (at a n) (motionAt t n) .value .p)) i ≡ axis f g (at a i) (motionAt s i) .value .p) n
-        (λ i b. let d : i ≡ n → ⊥ = λ e. omega arith in rw (getD-set-other (t .p) n i (axis f g (at a n) (motionAt t n) .value .p) nan d) (substep-at n i b (omega arith)))
-        (getD-set-same (t .p) n (axis f g (at a n) (motionAt t n) .value .p) nan (rw (length-kept n) (omega arith)) ∙ ap (λ (m : Motion). axis f g (at a n) m .value .p) (untouched n n (omega arith)))
-        j (omega arith)
+    substep-at n j = part-at (λ (r : State). r .p) (λ (m : Motion). m .p) (λ r i m. refl) n j
+
+    pub substep-speed : (n j : ℕ) → j < n → n ≤ length (s .v) → at (substep f g a n s .value .v) j ≡ axis f g (at a j) (motionAt s j) .value .v
+    substep-speed n j = part-at (λ (r : State). r .v) (λ (m : Motion). m .v) (λ r i m. refl) n j
 
     -- the slack's test tells of the substep before it
     pub slack-tells : (w : Walls) (n : ℕ) → n ≤ length (s .p)

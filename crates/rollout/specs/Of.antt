@@ -7,7 +7,7 @@ use lib.Dec.{leb, eqb}
 use lib.ListN.{length}
 use lib.Ieee.{Float, Format, inf}
 use Rattle.refusal.specs.Order.{if_then_else_}
-use Rattle.fmath.specs.Each.{all, over, every}
+use Rattle.fmath.specs.Each.{at, all, over, every}
 use Rattle.fmath.specs.Least.{least}
 use Rattle.fmath.specs.Checked.{Checked}
 use Rattle.envelope.specs.declared.ControlSteps.{ControlSteps}
@@ -34,6 +34,10 @@ movedFrom m = record { p = m .p; v = m .v }
 
 abbrev pub plantFrom : State → Plant
 plantFrom s = record { p = s .p; v = s .v }
+
+-- the first n axes of one plant, the rest of the other
+abbrev pub joinedOf : Plant → Plant → ℕ → Plant
+joinedOf moved still n = record { p = over (at (moved .p)) (still .p) n; v = over (at (moved .v)) (still .v) n }
 
 abbrev pub reckonedFrom : Checked Float → Reckoned
 reckonedFrom x = record { value = x .value; sound = x .sound }

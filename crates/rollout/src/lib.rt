@@ -6,11 +6,12 @@ ghost use Prim.Native.Nat.{ℕ, _+_, _-_, _*_, _≤_, _<_};
 ghost use lib.ListN.{length};
 ghost use lib.Ieee.{Float, binary64};
 ghost use Rattle.refusal.specs.Order.{if_then_else_};
+ghost use Rattle.fmath.specs.Each.{at};
 ghost use Rattle.rollout.specs.Plant.{axis, substep};
 ghost use Rattle.rollout.specs.Forecast.{writtenOf};
 ghost use Rattle.rollout.specs.Rule.{Task, after, stopDistance, forecast};
 ghost use Rattle.rollout.specs.declared.Plant.{Plant};
-ghost use Rattle.rollout.specs.Of.{gainsOf, stateOf, movedFrom, reckonedFrom, taskOf, Along, Towards, Under, roomy, noRun, runOf};
+ghost use Rattle.rollout.specs.Of.{gainsOf, stateOf, movedFrom, joinedOf, reckonedFrom, taskOf, Along, Towards, Under, roomy, noRun, runOf};
 use envelope::ControlSteps;
 use envelope::Substeps;
 use workspace::Workspace;
@@ -117,8 +118,45 @@ fn advance(g: Law, w: Workspace, n: usize, a: &[f64], run: Run, slack: &mut [f64
     }
 }
 
-// One setpoint, held for so many substeps.
-fn hold(g: Law, w: Workspace, n: usize, a: &[f64], count: usize, run: Run, slack: &mut [f64]) -> Run
+// The first n numbers of a setpoint, and 0.0 past them.
+fn padded(a: &[f64], n: usize) -> [f64; 8]
+    requires { ⌜ (n ≤ 8) × (n ≤ length (now a)) ⌝ }
+    ensures { λ r. ⌜ ((j : ℕ) → j < n → at r j ≡ at (now (a .entry)) j) ⌝ }
+{
+    let mut r = [0.0; 8];
+    let mut j = 0;
+    while j < n {
+        r[j] = a[j];
+        j += 1;
+    }
+    r
+}
+
+// The first n axes of the one, the rest of the other.
+fn joined(moved: Plant, still: Plant, n: usize) -> Plant
+    requires { ⌜ n ≤ 8 ⌝ }
+    ensures { λ r. ⌜ r ≡ joinedOf moved still n ⌝ }
+{
+    let mut r = still;
+    let mut j = 0;
+    while j < n {
+        r.p[j] = moved.p[j];
+        r.v[j] = moved.v[j];
+        j += 1;
+    }
+    r
+}
+
+// One setpoint, held for so many substeps, axis by axis.
+fn stepwise(
+    g: Law,
+    w: Workspace,
+    n: usize,
+    a: &[f64],
+    count: usize,
+    run: Run,
+    slack: &mut [f64],
+) -> Run
     requires { ⌜ (n ≤ 8) × (n ≤ length (now a)) × (run .done + count ≤ length (now slack)) ⌝ }
     ensures { λ r. ⌜ (r .done ≤ run .done + count) × ((t : Task) (l : List Float) (k : ℕ) → Under t g w n → Along binary64 t l k run (now (slack .entry)) → Towards binary64 t k count (now (a .entry)) run → Along binary64 t l (k + count) r (now (slack .exit))) ⌝ }
 {
@@ -130,6 +168,68 @@ fn hold(g: Law, w: Workspace, n: usize, a: &[f64], count: usize, run: Run, slack
         s += 1;
     }
     r
+}
+
+// The same with all eight axes abreast, so that the compiled plant stays in registers. What the axes past the first n come to is neither
+// judged nor kept.
+fn abreast(
+    g: Law,
+    w: Workspace,
+    n: usize,
+    a: &[f64],
+    count: usize,
+    run: Run,
+    slack: &mut [f64],
+) -> Run
+    requires { ⌜ (n ≤ 8) × (n ≤ length (now a)) × (run .done + count ≤ length (now slack)) ⌝ }
+    ensures { λ r. ⌜ (r .done ≤ run .done + count) × ((t : Task) (l : List Float) (k : ℕ) → Under t g w n → Along binary64 t l k run (now (slack .entry)) → Towards binary64 t k count (now (a .entry)) run → Along binary64 t l (k + count) r (now (slack .exit))) ⌝ }
+{
+    if !run.sound {
+        return run;
+    }
+    let still = run.plant;
+    let aim = padded(a, n);
+    let mut moved = run.plant;
+    let mut margin = run.margin;
+    let mut at = run.done;
+    let mut s = 0;
+    while s < count {
+        let next = substep(g, &aim, 8, moved);
+        let there = next.p;
+        let room = workspace::slack_abreast(w, there, n);
+        if !room.sound {
+            let plant = joined(moved, still, n);
+            return Run {
+                plant,
+                margin,
+                done: at,
+                sound: false,
+            };
+        }
+        slack[at] = room.least;
+        margin = fmath::min(margin, room.least);
+        moved = next;
+        at += 1;
+        s += 1;
+    }
+    let plant = joined(moved, still, n);
+    Run {
+        plant,
+        margin,
+        done: at,
+        sound: true,
+    }
+}
+
+// One setpoint, held for so many substeps. A single axis is quicker alone.
+fn hold(g: Law, w: Workspace, n: usize, a: &[f64], count: usize, run: Run, slack: &mut [f64]) -> Run
+    requires { ⌜ (n ≤ 8) × (n ≤ length (now a)) × (run .done + count ≤ length (now slack)) ⌝ }
+    ensures { λ r. ⌜ (r .done ≤ run .done + count) × ((t : Task) (l : List Float) (k : ℕ) → Under t g w n → Along binary64 t l k run (now (slack .entry)) → Towards binary64 t k count (now (a .entry)) run → Along binary64 t l (k + count) r (now (slack .exit))) ⌝ }
+{
+    if n == 1 {
+        return stepwise(g, w, n, a, count, run, slack);
+    }
+    abreast(g, w, n, a, count, run, slack)
 }
 
 // The control steps still committed from a row on: none past them.

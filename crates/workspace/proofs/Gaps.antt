@@ -6,15 +6,17 @@ use Prim.Native.Nat.{ℕ, zero, suc, _+_, _≤_, _<_, min}
 use native.Mathlib.Nat.{lt-of-not-le, le-refl}
 use native.Mathlib.Decide.{decLe}
 use native.Mathlib.Omega.{arith}
-use lib.ListN.{length, List·getD-eq-default}
-use lib.Ieee.{Float, Format, nan, inf, fin, lt, sub}
+use borrow.Author.Count.{below-more}
+use lib.ListN.{length, set, length-set, List·getD-eq-default}
+use lib.Seq.{getD-set-same, getD-set-other}
+use lib.Ieee.{Float, Format, nan, inf, fin, lt, add, sub}
 use Rattle.fmath.specs.Each.{at, some, all, over}
 use Rattle.fmath.specs.Finite.{finite}
 use Rattle.fmath.specs.Least.{lesser, least, clamped}
 use Rattle.fmath.specs.Checked.{Checked, leastOf}
-use Rattle.fmath.proofs.Each.{some-cut, over-cut, all-fails, all-more, and-left}
+use Rattle.fmath.proofs.Each.{_&&≡_, some-cut, over-cut, all-fails, all-more, all-from, and-left, and-right}
 use Rattle.fmath.proofs.Extremes.{least-missing, least-more}
-use Rattle.fmath.proofs.Absorbing.{sub-nan, nan-sub, fine-sub-left}
+use Rattle.fmath.proofs.Absorbing.{sub-nan, nan-sub, fine-sub-left, fine-add-left, fine-add-right}
 use Rattle.fmath.proofs.Told.{implied}
 use Rattle.workspace.specs.Rule.{Walls, beyond, outside, inward, between, betweenWithin, gap, gapWithin, slack, slackWithin}
 
@@ -101,3 +103,55 @@ within-slack-missing f w r p n h = least-missing-of (gapWithin f w r p) (length 
 pub least-of-more : (g : ℕ → Checked Float) (i : ℕ) (m x : Float) (s t : Bool) → (m ≡ leastOf g i .value) × (s ≡ leastOf g i .sound) → x ≡ g i .value → t ≡ g i .sound → (lesser m x ≡ leastOf g (i + 1) .value) × (s && t ≡ leastOf g (i + 1) .sound)
 unfolding leastOf
 least-of-more g i m x s t h e k = (least-more (λ (j : ℕ). g j .value) i m x (h .0) e, all-more (λ (j : ℕ). g j .sound) i s t (h .1) k)
+
+-- ---- all eight axes abreast, two a turn
+
+two-more : (P : ℕ → Type 0) (m : ℕ) → ((j : ℕ) → j < m → P j) → P m → P (m + 1) → (j : ℕ) → j < m + 1 + 1 → P j
+two-more P m h a b = below-more P (m + 1) (below-more P m h a) b
+
+pub near-more : (g : ℕ → Float) (l : List Float) (m : ℕ) (x y : Float) → m + 1 < length l → ((j : ℕ) → j < m → at l j ≡ g j) → x ≡ g m → y ≡ g (m + 1)
+    → (j : ℕ) → j < m + 1 + 1 → at (set (set l m x) (m + 1) y) j ≡ g j
+near-more g l m x y b h e k =
+    two-more (λ (j : ℕ). at (set (set l m x) (m + 1) y) j ≡ g j) m
+    (λ j c. let d : j ≡ m + 1 → ⊥ = λ z. omega arith in let e : j ≡ m → ⊥ = λ z. omega arith in getD-set-other (set l m x) (m + 1) j y nan d ∙ getD-set-other l m j x nan e ∙ h j c)
+    (let d : m ≡ m + 1 → ⊥ = λ z. omega arith in getD-set-other (set l m x) (m + 1) m y nan d ∙ getD-set-same l m x nan (omega arith) ∙ e)
+    (getD-set-same (set l m x) (m + 1) y nan (rw (length-set l m x) b) ∙ k)
+
+module _ (f : Format) (w : Walls) (p : List Float) where
+  -- both distances on axis j
+  abbrev both : ℕ → Float
+  both j = add f (sub f (at p j) (at (w .lo) j)) (sub f (at (w .hi) j) (at p j))
+
+  both-tell : (j : ℕ) → finite (both j) ≡ true → gap f w p j .sound ≡ true
+  both-tell j h = between-tells f (at (w .lo) j) (at (w .hi) j) (at p j) ∙ (fine-add-left f (sub f (at p j) (at (w .lo) j)) (sub f (at (w .hi) j) (at p j)) h &&≡ fine-add-right f (sub f (at p j) (at (w .lo) j)) (sub f (at (w .hi) j) (at p j)) h)
+
+  -- the two sums tell of two axes more
+  pub sums-tell : (m : ℕ) (even odd x y : Float) → (finite even && finite odd ≡ true → (j : ℕ) → j < m → gap f w p j .sound ≡ true) → x ≡ both m → y ≡ both (m + 1)
+      → finite (add f even x) && finite (add f odd y) ≡ true → (j : ℕ) → j < m + 1 + 1 → gap f w p j .sound ≡ true
+  sums-tell m even odd x y h e k t =
+      let a = and-left (finite (add f even x)) (finite (add f odd y)) t in
+      let b = and-right (finite (add f even x)) (finite (add f odd y)) t in
+      two-more (λ (j : ℕ). gap f w p j .sound ≡ true) m (h (fine-add-left f even x a &&≡ fine-add-left f odd y b)) (both-tell m (ap finite (sym e) ∙ fine-add-right f even x a)) (both-tell (m + 1) (ap finite (sym k) ∙ fine-add-right f odd y b))
+
+  -- what is measured on more axes gives the slack
+  pub slack-from : (near : List Float) (m n : ℕ) → n ≤ m → ((j : ℕ) → j < m → at near j ≡ gap f w p j .value) → ((j : ℕ) → j < m → gap f w p j .sound ≡ true) → (least (at near) n ≡ slack f w p n .value) × (true ≡ slack f w p n .sound)
+  unfolding slack leastOf least
+  slack-from near m n h e t = (go n h, sym (all-from (λ (j : ℕ). gap f w p j .sound) n (λ j b. t j (omega arith))))
+    where
+      go : (k : ℕ) → k ≤ m → least (at near) k ≡ least (λ (j : ℕ). gap f w p j .value) k
+      go zero b = refl
+      go (suc k) b = rw (go k (omega arith), e k (omega arith))
+
+-- ---- the slack looks at no coordinate past the first n
+
+least-of-same : (g h : ℕ → Checked Float) (n : ℕ) → ((j : ℕ) → j < n → g j ≡ h j) → leastOf g n ≡ leastOf h n
+unfolding leastOf least all
+least-of-same g h zero e = refl
+least-of-same g h (suc n) e =
+    let k = e n (omega arith) in
+    let t = least-of-same g h n (λ j b. e j (omega arith)) in
+    λ i. record { value = lesser (t i .value) (k i .value); sound = t i .sound && k i .sound }
+
+pub slack-same : (f : Format) (w : Walls) (p q : List Float) (n : ℕ) → ((j : ℕ) → j < n → at p j ≡ at q j) → slack f w p n ≡ slack f w q n
+unfolding slack
+slack-same f w p q n e = least-of-same (gap f w p) (gap f w q) n (λ j b. ap (between f (at (w .lo) j) (at (w .hi) j)) (e j b))

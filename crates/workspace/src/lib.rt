@@ -1,8 +1,12 @@
 // The workspace: whether a point is outside, a point moved inside, and the slack that is left. Nothing else reads the walls.
 ghost use mathlib.Core.Path.{_≡_};
-ghost use Prim.Native.Nat.{min};
-ghost use lib.Ieee.{binary64};
-ghost use Rattle.workspace.specs.Rule.{outside, inward, between, betweenWithin, slack, slackWithin};
+ghost use mathlib.Core.Bool.{true};
+ghost use Prim.Native.Nat.{ℕ, min, _≤_, _<_};
+ghost use lib.Ieee.{binary64, add, sub};
+ghost use Rattle.fmath.specs.Each.{at};
+ghost use Rattle.fmath.specs.Finite.{finite};
+ghost use Rattle.fmath.specs.Least.{least};
+ghost use Rattle.workspace.specs.Rule.{outside, inward, between, betweenWithin, gap, slack, slackWithin};
 ghost use Rattle.workspace.specs.Of.{wallsOf, distanceFrom};
 
 // The walls of the box, moved inward by the margin.
@@ -83,6 +87,81 @@ pub fn slack(w: Workspace, p: [f64; 8], n: usize) -> Distance
         j += 1;
     }
     Distance { least, sound }
+}
+
+// The lesser distance to the walls of one axis, and the sum of both.
+struct Sides {
+    near: f64,
+    sum: f64,
+}
+
+// The lesser distances on all eight axes, and a sum that is finite only where each distance is.
+struct Around {
+    near: [f64; 8],
+    sum: f64,
+}
+
+fn beside(lo: f64, hi: f64, p: f64) -> Sides
+    ensures { λ r. ⌜ (r .near ≡ between binary64 lo hi p .value) × (r .sum ≡ add binary64 (sub binary64 p lo) (sub binary64 hi p)) ⌝ }
+{
+    let below = p - lo;
+    let above = hi - p;
+    Sides {
+        near: fmath::min(below, above),
+        sum: below + above,
+    }
+}
+
+// Two axes a turn, each with its own sum: compiled, that is one operation for both.
+fn around_all(w: Workspace, p: [f64; 8]) -> Around
+    ensures { λ r. ⌜ ((j : ℕ) → j < 8 → at (r .near) j ≡ gap binary64 (wallsOf w) p j .value) × (finite (r .sum) ≡ true → (j : ℕ) → j < 8 → gap binary64 (wallsOf w) p j .sound ≡ true) ⌝ }
+{
+    let mut near = [0.0; 8];
+    let mut even = 0.0;
+    let mut odd = 0.0;
+    let mut i = 0;
+    while i < 4 {
+        let j = 2 * i;
+        let k = j + 1;
+        let one = beside(w.lo[j], w.hi[j], p[j]);
+        let other = beside(w.lo[k], w.hi[k], p[k]);
+        near[j] = one.near;
+        near[k] = other.near;
+        even = even + one.sum;
+        odd = odd + other.sum;
+        i += 1;
+    }
+    Around {
+        near,
+        sum: even + odd,
+    }
+}
+
+fn least_of(near: [f64; 8], n: usize) -> f64
+    requires { ⌜ n ≤ 8 ⌝ }
+    ensures { λ r. ⌜ r ≡ least (at near) n ⌝ }
+{
+    let mut least = 1.0 / 0.0;
+    let mut j = 0;
+    while j < n {
+        least = fmath::min(least, near[j]);
+        j += 1;
+    }
+    least
+}
+
+// The same slack, quicker: all eight axes are measured, and one test of a sum tells that each distance is finite. Where it does not tell,
+// the n axes are judged one by one.
+pub fn slack_abreast(w: Workspace, p: [f64; 8], n: usize) -> Distance
+    ensures { λ r. ⌜ r ≡ distanceFrom (slack binary64 (wallsOf w) p n) ⌝ }
+{
+    let r = around_all(w, p);
+    if (8 < n) | !fmath::finite(r.sum) {
+        return slack(w, p, n);
+    }
+    let near = r.near;
+    let least = least_of(near, n);
+    Distance { least, sound: true }
 }
 
 fn gap_within(r: f64, lo: f64, hi: f64, p: f64) -> Distance

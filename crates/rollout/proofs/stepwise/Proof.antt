@@ -1,4 +1,4 @@
--- `rollout::hold` meets its contract: the loop comes along one entry a turn.
+-- `rollout::stepwise` meets its contract: the loop comes along one entry a turn.
 use Prim.Native.Nat.{ℕ, _+_, _-_, _≤_, _<_}
 use mathlib.Core.Path.{_≡_, refl, ap, _∙_}
 use mathlib.Core.List.{List}
@@ -10,8 +10,8 @@ use lib.Ieee.{Float, binary64}
 use Rattle.rollout.specs.Rule.{Task, after, forecast}
 use Rattle.rollout.specs.Of.{Along, Towards, Under}
 use Rattle.rollout.proofs.Along.{towards-next, along-zero, along-sum, along-at}
-use Rattle.rollout.proofs.hold.Statement.{statement}
-use Rattle.rollout.proofs.hold.Tie as tie
+use Rattle.rollout.proofs.stepwise.Statement.{statement}
+use Rattle.rollout.proofs.stepwise.Tie as tie
 
 abbrev Inv-loop : tie.InvT-loop
 Inv-loop g w n a count slack₀ r₀ s₀ slack r s =
@@ -62,8 +62,8 @@ returns c =
     let e : i .s ≡ s .args .count = omega arith in
     (omega (arith, i .inv .1 .1 .0), λ t l k u h go. along-at (forecast binary64 t) (after binary64 t) l (k + s .args .count) _ _ (k + i .s) (ap (λ (m : ℕ). k + m) e) (i .inv .1 .1 .1 t l k u h go))
 
-pub hold-spec : {M : Type 1} → statement M
-hold-spec =
+pub stepwise-spec : {M : Type 1} → statement M
+stepwise-spec =
     tie.close
     (tie.spec
     Inv-loop

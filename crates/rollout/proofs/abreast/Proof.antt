@@ -1,0 +1,195 @@
+-- `rollout::abreast` meets its contract: the loop comes along one entry a turn, with the first n axes as n axes alone would move (`Wide`).
+use Prim.Native.Nat.{ℕ, _+_, _-_, _≤_, _<_}
+use mathlib.Core.Path.{_≡_, refl, sym, ap, _∙_, subst}
+use mathlib.Core.Bool.{true}
+use mathlib.Core.List.{List}
+use native.Mathlib.Omega.{arith}
+use borrow.Author.Needs.{needs}
+use borrow.Author.Tests.{not-true, not-false}
+use denote.Ref.{now}
+use lib.ListN.{length, length-set}
+use lib.Ieee.{Float, binary64}
+use Rattle.rollout.specs.declared.Plant.{Plant}
+use Rattle.rollout.specs.declared.Run.{Run}
+use Rattle.rollout.specs.Rule.{Task, after, forecast}
+use Rattle.rollout.specs.Of.{gainsOf, Along, Towards, Under}
+use Rattle.rollout.proofs.Along.{towards-next, along-zero, along-sum, along-at, along-rest}
+use Rattle.rollout.proofs.Wide.{joined-itself, as-long, running, wide-fails, wide-advances, going}
+use Rattle.rollout.proofs.abreast.Statement.{statement}
+use Rattle.rollout.proofs.abreast.Tie as tie
+
+-- the run as it starts
+abbrev first : Plant → Float → ℕ → Run
+first still margin done = record { plant = still; margin = margin; done = done; sound = true }
+
+abbrev Inv-loop : tie.InvT-loop
+Inv-loop g w n a count slack₀ still aim moved₀ margin₀ at₀ s₀ slack moved margin at s =
+    (s ≤ count)
+    × ((length slack ≡ length slack₀)
+    × ((at ≤ at₀ + s)
+    × ((length (moved .p) ≡ 8)
+    × ((length (moved .v) ≡ 8)
+    × ((t : Task) (l : List Float) (k : ℕ) → Under t g w n → Along binary64 t l k (first still margin₀ at₀) slack₀ → Towards binary64 t k count a (first still margin₀ at₀) → Along binary64 t l (k + s) (running moved still n margin at) slack)))))
+
+abbrev μ-loop : tie.MeasureT-loop
+μ-loop g w n a count slack₀ still aim moved₀ margin₀ at₀ s₀ slack moved margin at s = count - s
+
+returns : tie.Need-returns Inv-loop μ-loop
+returns c = (omega arith, λ t l k u h go. along-rest (forecast binary64 t) (after binary64 t) l k _ _ (not-true _ (c .if1 .taken)) h (c .before .before .before .before .args .count))
+
+-- the plant's arrays are eight long
+long : (s : tie.Start Inv-loop μ-loop) → (length (s .args .run .plant .p) ≡ 8) × (length (s .args .run .plant .v) ≡ 8)
+long s = (search needs, search needs)
+
+padded-requires : tie.Need-padded-requires Inv-loop μ-loop
+padded-requires c κs = search needs
+
+loop-holds : tie.Need-loop-holds Inv-loop μ-loop
+loop-holds c =
+    let s = c .before .before .before .before .before .before .before .args in (
+      omega arith,
+      (
+        refl,
+        (
+          omega arith,
+          (
+            search needs,
+            (
+              search needs,
+              λ t l k u h go.
+                  along-zero (forecast binary64 t) (after binary64 t) l k _ _
+                  (subst (λ (q : Plant). Along binary64 t l k (first q (s .run .margin) (s .run .done)) (now (s .slack))) (sym (joined-itself (s .run .plant) (s .n))) h),
+            ),
+          ),
+        ),
+      ),
+    )
+
+slice-aggregate-substep : tie.Need-slice-aggregate-substep Inv-loop μ-loop
+slice-aggregate-substep c = search needs
+
+substep-requires : tie.Need-substep-requires Inv-loop μ-loop
+substep-requires c κs = (omega arith, search needs)
+
+slack-abreast-requires : tie.Need-slack-abreast-requires Inv-loop μ-loop
+slack-abreast-requires c κs = search needs
+
+joined-requires : tie.Need-joined-requires Inv-loop μ-loop
+joined-requires c κs = search needs
+
+same-length : tie.Need-same-length Inv-loop μ-loop
+same-length c = c .before .before .before .before .before .before .before .before .loop .inv .1 .0
+
+returns-2 : tie.Need-returns-2 Inv-loop μ-loop
+returns-2 c =
+    let s = c .before .before .before .before .before .before .before .before .before .before .before .before .before .before .before .before in
+    let i = c .before .before .before .before .before .before .before .before .loop in
+    let sound : s .args .run .sound ≡ true = not-false _ (c .before .before .before .before .before .before .before .before .before .before .before .before .if1 .left) in (
+      omega (arith, i .inv .1 .1 .0),
+      λ t l k u r towards.
+          let h = subst (λ (q : Run). Along binary64 t l k q (now (s .args .slack))) (going (s .args .run) sound) r in
+          let go : Towards binary64 t k (s .args .count) (now (s .args .a)) (first (s .args .run .plant) (s .args .run .margin) (s .args .run .done)) = λ _. towards sound in
+          rw (c .joined .ensures)
+          (along-at (forecast binary64 t) (after binary64 t) l (k + s .args .count) _ _ (k + i .s + 1 + (s .args .count - i .s - 1)) (omega arith)
+          (along-rest (forecast binary64 t) (after binary64 t) l (k + i .s + 1) _ _ refl
+          (wide-fails binary64 t l (k + i .s) (i .moved) (s .args .run .plant) (s .args .n) (i .margin) (i .at) (i .slack) (s .args .g) (s .args .w) (now (s .args .a)) (c .before .before .before .before .before .before .before .before .before .before .padded .result) u
+          (i .inv .1 .1 .1 .1 .1 t l k u h go)
+          (towards-next binary64 t l k (s .args .count) (i .s) (now (s .args .a)) (first (s .args .run .plant) (s .args .run .margin) (s .args .run .done)) (running (i .moved) (s .args .run .plant) (s .args .n) (i .margin) (i .at)) (now (s .args .slack)) (i .slack) h go (i .inv .1 .1 .1 .1 .1 t l k u h go) (omega arith))
+          (s .pre .0) (i .inv .1 .1 .1 .0) (i .inv .1 .1 .1 .1 .0) (long s .0) (long s .1) (c .before .before .before .before .before .before .before .before .before .before .padded .ensures) (c .before .before .before .before .before .substep .result) (c .before .before .before .before .before .substep .ensures) (c .before .before .before .slack-abreast .result) (c .before .before .before .slack-abreast .ensures) (not-true _ (c .before .if2 .taken)))
+          (s .args .count - i .s - 1))),
+    )
+
+mul-slack : tie.Need-mul-slack Inv-loop μ-loop
+mul-slack c =
+    let i = c .before .before .before .before .before .before .before .loop in
+    let e : i .at < length (now (c .before .before .before .before .before .before .before .before .before .before .before .before .before .before .before .args .slack)) = omega (arith, i .inv .1 .1 .0, c .before .before .before .before .before .before .loop-test .taken, c .before .before .before .before .before .before .before .before .before .before .before .before .before .before .before .pre .2) in
+    search (needs, e, c .before .before .before .before .before .before .before .before .before .before .before .before .before .before .before .good .1 .1 .1 .1 .1 .1 .0)
+
+slice-write-slack : tie.Need-slice-write-slack Inv-loop μ-loop
+slice-write-slack c = let i = c .before .before .before .before .before .before .before .loop in omega (arith, i .inv .1 .0, i .inv .1 .1 .0, c .before .before .before .before .before .before .loop-test .taken, c .before .before .before .before .before .before .before .before .before .before .before .before .before .before .before .pre .2)
+
+min-requires : tie.Need-min-requires Inv-loop μ-loop
+min-requires c κs = search needs
+
+add-at : tie.Need-add-at Inv-loop μ-loop
+add-at c =
+    let i = c .before .before .before .before .before .before .before .before .loop in
+    let e : i .at < length (now (c .before .before .before .before .before .before .before .before .before .before .before .before .before .before .before .before .args .slack)) = omega (arith, i .inv .1 .1 .0, c .before .before .before .before .before .before .before .loop-test .taken, c .before .before .before .before .before .before .before .before .before .before .before .before .before .before .before .before .pre .2) in
+    search (needs, e, c .before .before .before .before .before .before .before .before .before .before .before .before .before .before .before .before .good .1 .1 .1 .1 .1 .1 .0)
+
+add-s : tie.Need-add-s Inv-loop μ-loop
+add-s c = search needs
+
+loop-less : tie.Need-loop-less Inv-loop μ-loop
+loop-less c = search needs
+
+loop-again : tie.Need-loop-again Inv-loop μ-loop
+loop-again c =
+    let s = c .before .before .before .before .before .before .before .before .before .before .before .before .before .before .before .before in
+    let kept = as-long binary64 (gainsOf (s .args .g)) (c .before .before .before .before .before .before .before .before .before .before .padded .result) 8 (c .before .before .before .before .before .before .before .before .loop .moved) (c .before .before .before .before .before .substep .result) (c .before .before .before .before .before .substep .ensures) in
+    let i = c .before .before .before .before .before .before .before .before .loop in (
+      omega arith,
+      (
+        length-set (i .slack) (i .at) (c .before .before .before .slack-abreast .result .least) ∙ i .inv .1 .0,
+        (
+          omega (arith, i .inv .1 .1 .0),
+          (
+            kept .0 ∙ i .inv .1 .1 .1 .0,
+            (
+              kept .1 ∙ i .inv .1 .1 .1 .1 .0,
+              λ t l k u h go.
+                  along-sum (forecast binary64 t) (after binary64 t) l k _ _ (i .s) 1
+                  (wide-advances binary64 t l (k + i .s) (i .moved) (s .args .run .plant) (s .args .n) (i .margin) (i .at) (i .slack) (s .args .g) (s .args .w) (now (s .args .a)) (c .before .before .before .before .before .before .before .before .before .before .padded .result) u
+                  (i .inv .1 .1 .1 .1 .1 t l k u h go)
+                  (towards-next binary64 t l k (s .args .count) (i .s) (now (s .args .a)) (first (s .args .run .plant) (s .args .run .margin) (s .args .run .done)) (running (i .moved) (s .args .run .plant) (s .args .n) (i .margin) (i .at)) (now (s .args .slack)) (i .slack) h go (i .inv .1 .1 .1 .1 .1 t l k u h go) (omega arith))
+                  (s .pre .0) (i .inv .1 .1 .1 .0) (i .inv .1 .1 .1 .1 .0) (long s .0) (long s .1) (c .before .before .before .before .before .before .before .before .before .before .padded .ensures) (c .before .before .before .before .before .substep .result) (c .before .before .before .before .before .substep .ensures) (c .before .before .before .slack-abreast .result) (c .before .before .before .slack-abreast .ensures) (not-false _ (c .before .if2 .left)) _ (c .min .ensures)),
+            ),
+          ),
+        ),
+      ),
+    )
+
+joined-requires-2 : tie.Need-joined-requires-2 Inv-loop μ-loop
+joined-requires-2 c κs = search needs
+
+same-length-2 : tie.Need-same-length-2 Inv-loop μ-loop
+same-length-2 c = c .before .before .loop .inv .1 .0
+
+returns-3 : tie.Need-returns-3 Inv-loop μ-loop
+returns-3 c =
+    let s = c .before .before .before .before .before .before .before .before .before .before in
+    let i = c .before .before .loop in
+    let sound : s .args .run .sound ≡ true = not-false _ (c .before .before .before .before .before .before .if1 .left) in
+    let e : i .s ≡ s .args .count = omega arith in (
+      omega (arith, i .inv .1 .1 .0),
+      λ t l k u r towards.
+          rw (c .joined2 .ensures)
+          (along-at (forecast binary64 t) (after binary64 t) l (k + s .args .count) _ _ (k + i .s) (ap (λ (m : ℕ). k + m) e)
+          (i .inv .1 .1 .1 .1 .1 t l k u (subst (λ (q : Run). Along binary64 t l k q (now (s .args .slack))) (going (s .args .run) sound) r) (λ _. towards sound))),
+    )
+
+pub abreast-spec : {M : Type 1} → statement M
+abreast-spec =
+    tie.close
+    (tie.spec
+    Inv-loop
+    μ-loop
+    returns
+    padded-requires
+    loop-holds
+    slice-aggregate-substep
+    substep-requires
+    slack-abreast-requires
+    joined-requires
+    same-length
+    returns-2
+    mul-slack
+    slice-write-slack
+    min-requires
+    add-at
+    add-s
+    loop-less
+    loop-again
+    joined-requires-2
+    same-length-2
+    returns-3)
