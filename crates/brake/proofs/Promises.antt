@@ -19,7 +19,7 @@ use Rattle.envelope.specs.declared.FuseConfig.{FuseConfig}
 use Rattle.envelope.proofs.Accepted.{accepted, dim-most, walls-ordered}
 use Rattle.workspace.proofs.Inside.{inward-inside}
 use Rattle.rollout.specs.Forecast.{Forecast, fine, slackAt, placeOf, marginOf, feasibleOf, writtenOf}
-use Rattle.rollout.specs.Rule.{after, forecast}
+use Rattle.rollout.specs.Rule.{forecast}
 use Rattle.rollout.proofs.Promises.{Whole, whole-reached, written-in-order, others-kept, first-failing-place, failing-at-the-end}
 use Rattle.brake.specs.declared.BrakeOut.{BrakeOut}
 use Rattle.brake.specs.declared.BrakeOut.the-variants as out

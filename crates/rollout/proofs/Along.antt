@@ -21,7 +21,7 @@ use Rattle.rollout.specs.declared.Plant.{Plant}
 use Rattle.rollout.specs.declared.Run.{Run}
 use Rattle.rollout.specs.Plant.{Gains, State, substep}
 use Rattle.rollout.specs.Forecast.{Forecast, fine, slackAt, reach, writtenOf}
-use Rattle.rollout.specs.Rule.{Task, total, aim, after, entry, forecast}
+use Rattle.rollout.specs.Rule.{Task, aim, after, entry, forecast}
 use Rattle.rollout.specs.Of.{gainsOf, stateOf, plantFrom, Ran, Along, Towards, Under, runOf}
 use Rattle.rollout.proofs.Told.{slack-tells}
 use Rattle.rollout.proofs.Reach.{all-next, reach-whole, reach-more, reach-stays}

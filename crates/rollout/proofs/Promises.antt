@@ -9,12 +9,12 @@ use native.Mathlib.Omega.{arith}
 use borrow.Author.Tests.{not-true}
 use lib.Dec.{T, ltb}
 use lib.ListN.{length}
-use lib.Ieee.{Float, Format, nan, inf, fin, lt, le, fits, sub, isNan}
+use lib.Ieee.{Float, Format, inf, lt, fits, sub, isNan}
 use Rattle.refusal.specs.Order.{if_then_else_}
-use Rattle.fmath.specs.Each.{at, all, over}
+use Rattle.fmath.specs.Each.{at, all}
 use Rattle.fmath.specs.Finite.{finite, +0}
 use Rattle.fmath.specs.Least.{lesser, least}
-use Rattle.fmath.specs.Checked.{Checked, leastOf}
+use Rattle.fmath.specs.Checked.{leastOf}
 use Rattle.fmath.proofs.Each.{all-at, all-fails, and-left, and-right, over-at, over-keeps}
 use Rattle.fmath.proofs.Ordered.{Real, finite-real, le-not-above, lt-not-below, lt-irrefl}
 use Rattle.fmath.proofs.Extremes.{least-real, least-bounds, least-attained, lesser-left, lesser-right, lesser-real}
@@ -23,8 +23,8 @@ use Rattle.fmath.proofs.Sign.{difference-below-zero}
 use Rattle.workspace.specs.Rule.{Walls, between, gap, slack, inward}
 use Rattle.rollout.specs.Plant.{State, substep}
 use Rattle.rollout.specs.Forecast.{Forecast, fine, slackAt, reach, reached, placeOf, marginOf, feasibleOf, writtenOf}
-use Rattle.rollout.specs.Rule.{Task, rowsLeft, pushes, rowAt, total, pushed, setpoint, aim, after, entry, stop, forecast}
-use Rattle.rollout.proofs.Reach.{reach-whole, reach-le}
+use Rattle.rollout.specs.Rule.{Task, pushes, rowAt, total, pushed, setpoint, aim, after, entry, stop, forecast}
+use Rattle.rollout.proofs.Reach.{reach-whole}
 
 infinite-not-negative : lt (inf false) +0 ≡ false
 unfolding lt
@@ -135,10 +135,10 @@ module _ (f : Format) (t : Task) where
   unfolding entry after
   entry-is-slack k = refl
 
-  -- so the start itself is not inspected: the walls may lie anywhere round it
-  pub start-not-inspected : after f t 0 ≡ t .start
+  -- counted from the given start, which has no entry of its own
+  pub starts-there : after f t 0 ≡ t .start
   unfolding after
-  start-not-inspected = refl
+  starts-there = refl
 
   fine-slack : (k : ℕ) → fine (forecast f t) k ≡ true → slack f (t .walls) (after f t (suc k) .p) (t .n) .sound ≡ true
   unfolding entry after

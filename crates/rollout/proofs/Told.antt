@@ -11,9 +11,9 @@ use lib.Seq.{getD-set-same, getD-set-other}
 use lib.Ieee.{Float, Format, nan, add, sub, mul}
 use Rattle.fmath.specs.Each.{at, all}
 use Rattle.fmath.specs.Finite.{finite, +0}
-use Rattle.fmath.specs.Checked.{Checked, leastOf}
+use Rattle.fmath.specs.Checked.{leastOf}
 use Rattle.fmath.specs.Norm.{dist}
-use Rattle.fmath.proofs.Each.{_&&≡_, and-left, and-right, all-at, all-from}
+use Rattle.fmath.proofs.Each.{_&&≡_, and-left, all-at, all-from}
 use Rattle.fmath.proofs.Absorbing.{fine-add-left, fine-add-right, fine-sub-left, fine-sub-right, fine-mul-left, fine-mul-right}
 use Rattle.fmath.proofs.Told.{Tells, implied, dist-tells}
 use Rattle.workspace.specs.Rule.{Walls, between, gap, slack}

@@ -1,16 +1,13 @@
 -- The rules at the declared structs, and what the contracts of the run cite.
 use mathlib.Core.Path.{_≡_}
-use mathlib.Core.Bool.{Bool, true, false, _&&_}
+use mathlib.Core.Bool.{Bool, true, false}
 use mathlib.Core.List.{List, [], _∷_}
 use Prim.Native.Nat.{ℕ, _+_, _-_, _*_, _<_}
 use lib.Dec.{leb, eqb}
-use lib.ListN.{length}
 use lib.Ieee.{Float, Format, inf}
-use Rattle.refusal.specs.Order.{if_then_else_}
 use Rattle.fmath.specs.Each.{at, all, over, every}
 use Rattle.fmath.specs.Least.{least}
 use Rattle.fmath.specs.Checked.{Checked}
-use Rattle.envelope.specs.declared.ControlSteps.{ControlSteps}
 use Rattle.workspace.specs.declared.Workspace.{Workspace}
 use Rattle.workspace.specs.Of.{wallsOf}
 use Rattle.rollout.specs.declared.Moved.{Moved}
@@ -20,8 +17,8 @@ use Rattle.rollout.specs.declared.Plant.{Plant}
 use Rattle.rollout.specs.declared.Run.{Run}
 use Rattle.rollout.specs.declared.Reckoned.{Reckoned}
 use Rattle.rollout.specs.Plant.{Gains, Motion, State}
-use Rattle.rollout.specs.Forecast.{Forecast, fine, slackAt, reach, reached, marginOf}
-use Rattle.rollout.specs.Rule.{Task, total, aim, after, forecast}
+use Rattle.rollout.specs.Forecast.{Forecast, fine, slackAt, reach, reached}
+use Rattle.rollout.specs.Rule.{Task, aim, after, forecast}
 
 abbrev pub gainsOf : Law → Gains
 gainsOf g = record { kp = g .«k_p»; kv = g .«k_v»; dt = g .dt }

@@ -50,6 +50,7 @@ use Rattle.envelope.proofs.config_refusal.Reads as config-refusal
 use Rattle.workspace.proofs.outside.Reads as outside
 use Rattle.workspace.proofs.inward.Reads as inward
 use Rattle.workspace.proofs.slack.Reads as slack
+use Rattle.workspace.proofs.slack_abreast.Reads as slack-abreast
 use Rattle.workspace.proofs.slack_within.Reads as slack-within
 use Rattle.tier0.proofs.check_action_with.Reads as check-action-with
 use Rattle.tier0.proofs.check_action.Reads as check-action
@@ -249,6 +250,9 @@ one-inward l a r s x y = unique
 
 pub one-slack : One slack.Post (λ r x. r)
 one-slack l a r s x y = unique
+
+pub one-slack-abreast : One slack-abreast.Post (λ r x. r)
+one-slack-abreast l a r s x y = unique
 
 pub one-slack-within : One slack-within.Post (λ r x. r)
 one-slack-within l a r s x y = unique

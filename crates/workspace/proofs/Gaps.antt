@@ -1,6 +1,6 @@
 -- Laws of the workspace: what lies past the eight axes, what one test tells of a gap, and that a point moved inward lies between its walls.
 use mathlib.Core.Path.{_≡_, refl, sym, ap, _∙_}
-use mathlib.Core.Bool.{Bool, true, false, _&&_, _||_}
+use mathlib.Core.Bool.{Bool, true, false, _&&_}
 use mathlib.Core.List.{List}
 use Prim.Native.Nat.{ℕ, zero, suc, _+_, _≤_, _<_, min}
 use native.Mathlib.Nat.{lt-of-not-le, le-refl}

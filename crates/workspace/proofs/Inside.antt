@@ -1,5 +1,5 @@
 -- A point that was moved inside lies inside: each coordinate that was moved is beyond neither of its walls.
-use Prim.Native.Nat.{ℕ, _≤_, _<_}
+use Prim.Native.Nat.{ℕ, _<_}
 use mathlib.Core.Path.{_≡_}
 use mathlib.Core.Bool.{false}
 use mathlib.Core.List.{List}

@@ -1,5 +1,5 @@
 -- `rollout::axis` meets its contract: its operations are the rule's, in the rule's order.
-use mathlib.Core.Path.{_≡_, refl}
+use mathlib.Core.Path.{refl}
 use Rattle.rollout.specs.Plant.{axis}
 use Rattle.rollout.proofs.axis.Statement.{statement}
 use Rattle.rollout.proofs.axis.Tie as tie

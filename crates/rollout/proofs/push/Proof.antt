@@ -10,8 +10,8 @@ use lib.ListN.{length}
 use lib.Ieee.{Float, binary64}
 use Rattle.chunk.proofs.Rows.{row-long}
 use Rattle.rollout.specs.declared.Plant.{Plant}
-use Rattle.rollout.specs.Rule.{Task, after, forecast}
-use Rattle.rollout.specs.Of.{taskOf, Along, Towards, Under}
+use Rattle.rollout.specs.Rule.{after, forecast}
+use Rattle.rollout.specs.Of.{taskOf, Along}
 use Rattle.rollout.proofs.Along.{along-at}
 use Rattle.rollout.proofs.Rows.{row-more, row-fits, aims-row}
 use Rattle.rollout.proofs.push.Statement.{statement}

@@ -1,20 +1,19 @@
 -- `rollout::rollout` meets its contract: the committed rows, then the setpoint that they leave, come along all N entries (`Along`).
-use Prim.Native.Nat.{ℕ, zero, _+_, _-_, _*_, _≤_, _<_}
-use mathlib.Core.Path.{_≡_, refl, sym, ap, _∙_, subst}
-use mathlib.Core.Bool.{Bool, true, false}
-use mathlib.Core.List.{List}
+use Prim.Native.Nat.{ℕ, _+_, _-_, _*_}
+use mathlib.Core.Path.{_≡_, refl, sym, ap, _∙_}
+use mathlib.Core.Bool.{true}
 use native.Mathlib.Nat.{add-mul, zero-add}
 use native.Mathlib.Omega.{arith}
 use borrow.Author.Needs.{needs}
 use borrow.Author.Tests.{not-true, not-false}
 use denote.Ref.{now}
 use lib.ListN.{length}
-use lib.Ieee.{Float, binary64, ofBits, div}
+use lib.Ieee.{binary64, ofBits, div}
 use Rattle.workspace.specs.Rule.{inward}
 use Rattle.workspace.specs.Of.{wallsOf}
 use Rattle.rollout.specs.Plant.{State}
 use Rattle.rollout.specs.Rule.{Task, total, after, forecast}
-use Rattle.rollout.specs.Of.{stateOf, taskOf, Along, Towards, roomy, runOf}
+use Rattle.rollout.specs.Of.{taskOf, Along, Towards, roomy}
 use Rattle.rollout.proofs.Along.{along-start, along-at, stands-at, run-is, written-is}
 use Rattle.rollout.proofs.Room.{Room, room-of}
 use Rattle.rollout.proofs.Rows.{aims-setpoint}

@@ -1,6 +1,4 @@
 -- `rollout::roomy` meets its contract: its tests are the definition's, and N is the one product of control steps and substeps.
-use Prim.Native.Nat.{ℕ, _+_, _*_}
-use mathlib.Core.Path.{_≡_, ap, _∙_}
 use native.Mathlib.Omega.{arith}
 use borrow.Author.Needs.{needs}
 use Rattle.fmath.specs.Each.{every}

@@ -1,14 +1,12 @@
 -- `rollout::substep` meets its contract: the loop takes one axis a turn.
-use Prim.Native.Nat.{ℕ, suc, _+_, _-_, _≤_, _<_}
-use mathlib.Core.Path.{_≡_, refl, sym, ap, _∙_}
-use mathlib.Core.List.{List}
-use native.Mathlib.Numerals.{add-one}
+use Prim.Native.Nat.{_-_, _≤_}
+use mathlib.Core.Path.{_≡_, refl, ap, _∙_}
 use native.Mathlib.Omega.{arith}
 use borrow.Author.Needs.{needs}
 use denote.Ref.{now}
 use lib.ListN.{length, length-set}
 use lib.Ieee.{binary64}
-use Rattle.rollout.specs.Plant.{Gains, Motion, State, substep}
+use Rattle.rollout.specs.Plant.{Motion, substep}
 use Rattle.rollout.specs.declared.Moved.{Moved}
 use Rattle.rollout.specs.Of.{gainsOf, stateOf}
 use Rattle.rollout.proofs.Told.{substep-more}

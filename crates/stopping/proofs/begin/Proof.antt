@@ -1,5 +1,4 @@
 -- `stopping::begin` meets its contract: the start's entry is written, or a number on the way to it isn't finite.
-use Prim.Native.Nat.{_-_}
 use mathlib.Core.Path.{refl}
 use native.Mathlib.Omega.{arith}
 use borrow.Author.Needs.{needs}

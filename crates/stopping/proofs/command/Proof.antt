@@ -10,9 +10,6 @@ use Rattle.fmath.proofs.Told.{each-value}
 use Rattle.stopping.specs.Rule.{commanded, command}
 use Rattle.stopping.proofs.command.Statement.{statement}
 use Rattle.stopping.proofs.command.Tie as tie
-use Rattle.stopping.proofs.command.Reads as reads
-use Rattle.stopping.proofs.command.Lts as lts
-use Rattle.stopping.proofs.commanded.Reads as commanded-reads
 
 abbrev Inv-loop : tie.InvT-loop
 Inv-loop arm g a n kind p r₀ j₀ r j = (j ≤ n) × (r ≡ each (λ (i : ℕ). commanded binary64 (arm .kind) (arm .dt) g (at a i) (at p i)) r₀ j .value) × (kind ≡ arm .kind)

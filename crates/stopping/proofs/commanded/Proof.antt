@@ -6,8 +6,6 @@ use Rattle.stopping.specs.Rule.{commanded}
 use borrow.Author.Needs.{needs}
 use Rattle.stopping.proofs.commanded.Statement.{statement}
 use Rattle.stopping.proofs.commanded.Tie as tie
-use Rattle.stopping.proofs.commanded.Reads as reads
-use Rattle.stopping.proofs.commanded.Lts as lts
 
 enum-told : tie.Need-enum-told
 enum-told c = search needs

@@ -5,9 +5,6 @@ use Rattle.stopping.proofs.Told.{ease-tells}
 use borrow.Author.Needs.{needs}
 use Rattle.stopping.proofs.ease.Statement.{statement}
 use Rattle.stopping.proofs.ease.Tie as tie
-use Rattle.stopping.proofs.ease.Reads as reads
-use Rattle.stopping.proofs.ease.Lts as lts
-use Rattle.fmath.proofs.finite.Reads as finite-reads
 
 finite-requires : tie.Need-finite-requires
 finite-requires c κs = search needs

@@ -7,12 +7,6 @@ use Rattle.rollout.specs.Of.{reckonedFrom}
 use borrow.Author.Needs.{needs}
 use Rattle.stopping.proofs.glide.Statement.{statement}
 use Rattle.stopping.proofs.glide.Tie as tie
-use Rattle.stopping.proofs.glide.Reads as reads
-use Rattle.stopping.proofs.glide.Lts as lts
-use Rattle.stopping.proofs.ease.Reads as ease-reads
-use Rattle.stopping.proofs.quotient.Reads as quotient-reads
-use Rattle.stopping.proofs.ramp.Reads as ramp-reads
-use Rattle.stopping.proofs.sum.Reads as sum-reads
 
 enum-known-brake : tie.Need-enum-known-brake
 enum-known-brake c = search needs

@@ -2,9 +2,6 @@
 use borrow.Author.Needs.{needs}
 use Rattle.stopping.proofs.quotient.Statement.{statement}
 use Rattle.stopping.proofs.quotient.Tie as tie
-use Rattle.stopping.proofs.quotient.Reads as reads
-use Rattle.stopping.proofs.quotient.Lts as lts
-use Rattle.fmath.proofs.finite.Reads as finite-reads
 
 finite-requires : tie.Need-finite-requires
 finite-requires c κs = search needs

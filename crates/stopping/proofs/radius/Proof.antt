@@ -7,11 +7,6 @@ use Rattle.stopping.specs.Rule.{radius}
 use Rattle.stopping.proofs.Told.{radius-tells}
 use Rattle.stopping.proofs.radius.Statement.{statement}
 use Rattle.stopping.proofs.radius.Tie as tie
-use Rattle.stopping.proofs.radius.Reads as reads
-use Rattle.stopping.proofs.radius.Lts as lts
-use Rattle.fmath.proofs.finite.Reads as finite-reads
-use Rattle.fmath.proofs.magnitude.Reads as magnitude-reads
-use Rattle.stopping.proofs.glide.Reads as glide-reads
 
 slice-aggregate-magnitude : tie.Need-slice-aggregate-magnitude
 slice-aggregate-magnitude c = search needs

@@ -5,9 +5,6 @@ use Rattle.stopping.proofs.Told.{ramp-tells}
 use borrow.Author.Needs.{needs}
 use Rattle.stopping.proofs.ramp.Statement.{statement}
 use Rattle.stopping.proofs.ramp.Tie as tie
-use Rattle.stopping.proofs.ramp.Reads as reads
-use Rattle.stopping.proofs.ramp.Lts as lts
-use Rattle.fmath.proofs.finite.Reads as finite-reads
 
 finite-requires : tie.Need-finite-requires
 finite-requires c κs = search needs

@@ -7,9 +7,6 @@ use Rattle.rollout.specs.Of.{reckonedFrom}
 use borrow.Author.Needs.{needs}
 use Rattle.stopping.proofs.ratio.Statement.{statement}
 use Rattle.stopping.proofs.ratio.Tie as tie
-use Rattle.stopping.proofs.ratio.Reads as reads
-use Rattle.stopping.proofs.ratio.Lts as lts
-use Rattle.stopping.proofs.quotient.Reads as quotient-reads
 
 enum-known-brake : tie.Need-enum-known-brake
 enum-known-brake c = search needs

@@ -11,9 +11,6 @@ use Rattle.stopping.specs.Rule.{moved, step}
 use Rattle.stopping.proofs.Told.{moved-tells}
 use Rattle.stopping.proofs.step.Statement.{statement}
 use Rattle.stopping.proofs.step.Tie as tie
-use Rattle.stopping.proofs.step.Reads as reads
-use Rattle.stopping.proofs.step.Lts as lts
-use Rattle.fmath.proofs.finite.Reads as finite-reads
 
 abbrev Inv-loop : tie.InvT-loop
 Inv-loop dt n v p r₀ sound₀ j₀ r sound j = (j ≤ n) × (r ≡ each (λ (i : ℕ). moved binary64 dt (at v i) (at p i)) p j .value) × (sound ≡ each (λ (i : ℕ). moved binary64 dt (at v i) (at p i)) p j .sound)

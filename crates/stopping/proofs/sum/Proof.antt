@@ -2,9 +2,6 @@
 use borrow.Author.Needs.{needs}
 use Rattle.stopping.proofs.sum.Statement.{statement}
 use Rattle.stopping.proofs.sum.Tie as tie
-use Rattle.stopping.proofs.sum.Reads as reads
-use Rattle.stopping.proofs.sum.Lts as lts
-use Rattle.fmath.proofs.finite.Reads as finite-reads
 
 finite-requires : tie.Need-finite-requires
 finite-requires c κs = search needs

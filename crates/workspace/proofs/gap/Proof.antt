@@ -1,5 +1,4 @@
 -- `workspace::gap` meets its contract: its two tests tell of each number on the way.
-use mathlib.Core.Path.{_≡_}
 use borrow.Author.Needs.{needs}
 use lib.Ieee.{binary64}
 use Rattle.workspace.specs.Rule.{between}

@@ -1,19 +1,13 @@
 -- `workspace::inward` meets its contract: nothing is put past the eighth axis, and the loop puts one coordinate a turn.
-use Prim.Native.Nat.{ℕ, _+_, _-_, _≤_, _<_, min}
+use Prim.Native.Nat.{ℕ, _-_, _≤_, min}
 use mathlib.Core.Path.{_≡_, refl, sym, ap, _∙_}
-use mathlib.Core.Bool.{Bool, true, false, _&&_, _||_}
 use native.Mathlib.Omega.{arith}
 use borrow.Author.Needs.{needs}
-use denote.Ref.{now}
-use lib.ListN.{length, length-set}
-use lib.Ieee.{Float, binary64, ofBits, div}
-use Rattle.fmath.specs.Each.{at, all, some, over}
-use Rattle.fmath.specs.Least.{least, clamped}
-use Rattle.fmath.specs.Checked.{leastOf}
-use Rattle.fmath.proofs.Each.{some-more, over-more, length-over}
-use Rattle.workspace.specs.Rule.{Walls, beyond, outside, inward, between, betweenWithin, gap, gapWithin, slack, slackWithin}
+use Rattle.fmath.specs.Each.{at, over}
+use Rattle.fmath.specs.Least.{clamped}
+use Rattle.fmath.proofs.Each.{over-more}
 use Rattle.workspace.specs.Of.{wallsOf}
-use Rattle.workspace.proofs.Gaps.{outside-cut, inward-cut, slack-missing, within-slack-missing, least-of-more}
+use Rattle.workspace.proofs.Gaps.{inward-cut}
 use Rattle.workspace.proofs.inward.Statement.{statement}
 use Rattle.workspace.proofs.inward.Tie as tie
 

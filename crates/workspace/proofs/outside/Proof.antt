@@ -1,19 +1,15 @@
 -- `workspace::outside` meets its contract: from the eighth axis and the last coordinate on none lies beyond, and the loop keeps the answer so far.
-use Prim.Native.Nat.{ℕ, _+_, _-_, _≤_, _<_, min}
+use Prim.Native.Nat.{_-_, _≤_, min}
 use mathlib.Core.Path.{_≡_, refl, sym, ap, _∙_}
-use mathlib.Core.Bool.{Bool, true, false, _&&_, _||_}
 use native.Mathlib.Omega.{arith}
 use borrow.Author.Needs.{needs}
 use denote.Ref.{now}
-use lib.ListN.{length, length-set}
-use lib.Ieee.{Float, binary64, ofBits, div}
-use Rattle.fmath.specs.Each.{at, all, some, over}
-use Rattle.fmath.specs.Least.{least, clamped}
-use Rattle.fmath.specs.Checked.{leastOf}
-use Rattle.fmath.proofs.Each.{some-more, over-more, length-over}
-use Rattle.workspace.specs.Rule.{Walls, beyond, outside, inward, between, betweenWithin, gap, gapWithin, slack, slackWithin}
+use lib.ListN.{length}
+use Rattle.fmath.specs.Each.{some}
+use Rattle.fmath.proofs.Each.{some-more}
+use Rattle.workspace.specs.Rule.{beyond}
 use Rattle.workspace.specs.Of.{wallsOf}
-use Rattle.workspace.proofs.Gaps.{outside-cut, inward-cut, slack-missing, within-slack-missing, least-of-more}
+use Rattle.workspace.proofs.Gaps.{outside-cut}
 use Rattle.workspace.proofs.outside.Statement.{statement}
 use Rattle.workspace.proofs.outside.Tie as tie
 

@@ -1,20 +1,17 @@
 -- `workspace::slack_within` meets its contract: a point with fewer coordinates has no slack, and the loop keeps the least so far.
-use Prim.Native.Nat.{ℕ, _+_, _-_, _≤_, _<_, min}
-use mathlib.Core.Path.{_≡_, refl, sym, ap, _∙_}
-use mathlib.Core.Bool.{Bool, true, false, _&&_, _||_}
+use Prim.Native.Nat.{_-_, _≤_, min}
+use mathlib.Core.Path.{_≡_, refl, ap, _∙_}
 use native.Mathlib.Omega.{arith}
 use borrow.Author.Needs.{needs}
-use denote.Ref.{now}
-use lib.ListN.{length, length-set}
-use lib.Ieee.{Float, binary64, ofBits, div}
-use Rattle.fmath.specs.Each.{at, all, some, over}
-use Rattle.fmath.specs.Least.{least, clamped}
+use lib.ListN.{length}
+use lib.Ieee.{binary64, ofBits, div}
+use Rattle.fmath.specs.Each.{all}
+use Rattle.fmath.specs.Least.{least}
 use Rattle.fmath.specs.Checked.{leastOf}
-use Rattle.fmath.proofs.Each.{some-more, over-more, length-over}
-use Rattle.workspace.specs.Rule.{Walls, beyond, outside, inward, between, betweenWithin, gap, gapWithin, slack, slackWithin}
+use Rattle.workspace.specs.Rule.{gapWithin, slackWithin}
 use Rattle.workspace.specs.declared.Distance.{Distance}
 use Rattle.workspace.specs.Of.{wallsOf}
-use Rattle.workspace.proofs.Gaps.{outside-cut, inward-cut, slack-missing, within-slack-missing, least-of-more}
+use Rattle.workspace.proofs.Gaps.{within-slack-missing, least-of-more}
 use Rattle.workspace.proofs.slack_within.Statement.{statement}
 use Rattle.workspace.proofs.slack_within.Tie as tie
 
