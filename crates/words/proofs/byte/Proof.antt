@@ -1,11 +1,11 @@
--- `card::record::byte` meets its contract: by whether the byte is there.
+-- `words::byte` meets its contract: by whether the byte is there.
 use mathlib.Core.Path.{sym}
 use native.Mathlib.Omega.{arith}
 use lib.ListN.{List·getD-eq-default}
 use denote.Ref.{now}
 use borrow.Author.Needs.{needs}
-use Rattle.card.proofs.record.byte.Statement.{statement}
-use Rattle.card.proofs.record.byte.Tie as tie
+use Rattle.words.proofs.byte.Statement.{statement}
+use Rattle.words.proofs.byte.Tie as tie
 
 shared-slice-read-wide : tie.Need-shared-slice-read-wide
 shared-slice-read-wide c = search needs

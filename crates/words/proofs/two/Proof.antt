@@ -1,10 +1,10 @@
--- `card::record::pair` meets its contract: two bytes side by side.
-use Rattle.card.proofs.Little.{two}
+-- `words::two` meets its contract: two bytes side by side.
+use Rattle.words.proofs.Beside.{two as two-bytes}
 use denote.Ref.{now}
 use native.Mathlib.Omega.{arith}
 use borrow.Author.Needs.{needs}
-use Rattle.card.proofs.record.pair.Statement.{statement}
-use Rattle.card.proofs.record.pair.Tie as tie
+use Rattle.words.proofs.two.Statement.{statement}
+use Rattle.words.proofs.two.Tie as tie
 
 byte-requires : tie.Need-byte-requires
 byte-requires c κs = search needs
@@ -22,8 +22,8 @@ add-result : tie.Need-add-result
 add-result c = search needs
 
 returns : tie.Need-returns
-returns c = let s = c .before .before .before in (omega (arith, two (now (s .args .b)) (s .args .at)), search needs)
+returns c = let s = c .before .before .before in (omega (arith, two-bytes (now (s .args .b)) (s .args .at)), search needs)
 
-pub pair-spec : {M : Type 1} → statement M
-pair-spec =
+pub two-spec : {M : Type 1} → statement M
+two-spec =
     tie.close (tie.spec byte-requires add-byte byte-requires-2 mul-result add-result returns)

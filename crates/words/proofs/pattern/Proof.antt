@@ -1,12 +1,12 @@
--- `card::record::pattern` meets its contract: a float differs from itself and is a NaN, or `to_bits` is defined there.
+-- `words::pattern` meets its contract: a float differs from itself and is a NaN, or `to_bits` is defined there.
 use mathlib.Core.Path.{subst, _≡_, sym, _∙_}
 use lib.Ieee.Compare.{differs-from-itself, nan-differs}
 use mathlib.Core.Bool.{true, false, not, true≢false}
 use lib.Dec.{T}
 use lib.Ieee.{Float, nan, inf, fin, isNan, ne, toBits, binary64}
 use borrow.Author.Needs.{needs}
-use Rattle.card.proofs.record.pattern.Statement.{statement}
-use Rattle.card.proofs.record.pattern.Tie as tie
+use Rattle.words.proofs.pattern.Statement.{statement}
+use Rattle.words.proofs.pattern.Tie as tie
 
 -- a float that does not differ from itself is no NaN
 not-nan : (x : Float) → ne x x ≡ false → T (not (isNan x))

@@ -1,4 +1,4 @@
--- `card::record::number` meets its contract: a pattern is a NaN's, or `from_bits` is defined there.
+-- `words::number` meets its contract: a pattern is a NaN's, or `from_bits` is defined there.
 use Prim.Native.Nat.{ℕ}
 use native.Mathlib.Omega.{arith}
 use mathlib.Core.Path.{_≡_, refl, sym, _∙_}
@@ -7,8 +7,8 @@ use lib.Dec.{T}
 use lib.Ieee.{Float, nan, inf, fin, isNan, ofBits, nanBits, div, binary64}
 use lib.Ieee.Bits.{nanBits-is}
 use borrow.Author.Needs.{needs}
-use Rattle.card.proofs.record.number.Statement.{statement}
-use Rattle.card.proofs.record.number.Tie as tie
+use Rattle.words.proofs.number.Statement.{statement}
+use Rattle.words.proofs.number.Tie as tie
 
 nan-of : (x : Float) → isNan x ≡ true → nan ≡ x
 unfolding isNan
