@@ -1,0 +1,27 @@
+// The fixed sample of the Rust's answers: a record is decoded, the port's own entry is called, and its answer is compared with the Rust's.
+ghost use mathlib.Core.Path.{_≡_};
+ghost use Rattle.sample.specs.Agrees.{agrees};
+use crate::arithmetic::dist_agrees;
+use crate::arithmetic::norm_agrees;
+use crate::arithmetic::sqrt_agrees;
+
+mod arithmetic;
+mod record;
+
+// The entries, in the order of the sample.
+pub enum Entry {
+    Sqrt,
+    Norm,
+    Dist,
+}
+
+// Whether the port answers what a record of an entry has as the Rust's answer.
+pub fn agrees(entry: Entry, b: &[u8]) -> bool
+    ensures { λ r. ⌜ r ≡ agrees entry (now (b .entry)) ⌝ }
+{
+    match entry {
+        Entry::Sqrt => sqrt_agrees(b),
+        Entry::Norm => norm_agrees(b),
+        Entry::Dist => dist_agrees(b),
+    }
+}
