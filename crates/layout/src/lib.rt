@@ -1,6 +1,6 @@
 // The flat arrays that C lends, taken apart into the port's structs and laid out again. Taking apart is total; whether each code
 // is one of its kind and each count fits its field is judged by a test of its own.
 pub mod config;
-mod places;
+pub mod places;
 pub mod scores;
 pub mod trails;

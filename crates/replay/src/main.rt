@@ -89,10 +89,11 @@ fn records(buf: &mut [u8]) -> u64
     if read(buf, 8) { words::word(buf, 0) } else { 0 }
 }
 
-// Replays the records of an entry, each of n bytes, as far as the input has them.
-fn replay(entry: Entry, n: usize, buf: &mut [u8]) -> Tally
-    requires { ⌜ (n ≤ length (now buf)) × (8 ≤ length (now buf)) ⌝ }
+// Replays the records of an entry, each of so many words, as far as the input has them.
+fn replay(entry: Entry, words: usize, buf: &mut [u8]) -> Tally
+    requires { ⌜ (words ≤ 358) × (length (now buf) ≡ 4096) ⌝ }
 {
+    let n = 8 * words;
     let count = records(buf);
     let mut t = Tally::NONE;
     let mut k = 0;
@@ -130,21 +131,38 @@ fn say(name: &[u8], t: Tally) {
 }
 
 // Replays an entry, says its line, and gives the tally of all entries so far.
-fn next(name: &[u8], entry: Entry, n: usize, buf: &mut [u8], all: Tally) -> Tally
-    requires { ⌜ (n ≤ length (now buf)) × (8 ≤ length (now buf)) ⌝ }
+fn next(name: &[u8], entry: Entry, words: usize, buf: &mut [u8], all: Tally) -> Tally
+    requires { ⌜ (words ≤ 358) × (length (now buf) ≡ 4096) ⌝ }
 {
-    let t = replay(entry, n, buf);
+    let t = replay(entry, words, buf);
     say(name, t);
     joined(all, t)
+}
+
+// The entries in the order of the sample, which tests/oracle-sample/README.md gives with their words.
+fn arithmetic(buf: &mut [u8]) -> Tally
+    requires { ⌜ length (now buf) ≡ 4096 ⌝ }
+{
+    let a = next(b"sqrt", Entry::Sqrt, 2, buf, Tally::NONE);
+    let b = next(b"norm", Entry::Norm, 13, buf, a);
+    let c = next(b"dist", Entry::Dist, 24, buf, b);
+    next(b"time_bin", Entry::TimeBin, 3, buf, c)
+}
+
+fn checks(buf: &mut [u8], all: Tally) -> Tally
+    requires { ⌜ length (now buf) ≡ 4096 ⌝ }
+{
+    let a = next(b"standardise, aggregate, trip", Entry::Gate, 64, buf, all);
+    let b = next(b"derive", Entry::Derive, 86, buf, a);
+    let c = next(b"check_chunk", Entry::CheckChunk, 144, buf, b);
+    next(b"check_action", Entry::CheckAction, 102, buf, c)
 }
 
 fn main() {
     let mut space = io::buffer();
     let buf: &mut [u8] = &mut space;
-    let mut all = Tally::NONE;
-    all = next(b"sqrt", Entry::Sqrt, 8 * 2, buf, all);
-    all = next(b"norm", Entry::Norm, 8 * 13, buf, all);
-    all = next(b"dist", Entry::Dist, 8 * 24, buf, all);
-    say(b"in all", all);
+    let a = arithmetic(buf);
+    let b = checks(buf, a);
+    say(b"in all", b);
     put(b"the entries after these are not replayed yet\n");
 }

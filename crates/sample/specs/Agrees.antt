@@ -3,10 +3,18 @@ use Prim.Native.Nat.{ℕ}
 use mathlib.Core.Bool.{Bool}
 use mathlib.Core.List.{List}
 use Rattle.sample.specs.declared.Entry.{Entry}
-use Rattle.sample.specs.declared.Entry.the-variants.{Sqrt, Norm, Dist}
-use Rattle.sample.specs.Arithmetic.{sqrtAgrees, normAgrees, distAgrees}
+use Rattle.sample.specs.declared.Entry.the-variants.{Sqrt, Norm, Dist, TimeBin, Gate, Derive, CheckChunk, CheckAction}
+use Rattle.sample.specs.Arithmetic.{sqrtAgrees, normAgrees, distAgrees, timeBinAgrees}
+use Rattle.sample.specs.Gate.{gateAgrees}
+use Rattle.sample.specs.Config.{deriveAgrees}
+use Rattle.sample.specs.Checks.{actionAgrees, chunkAgrees}
 
 unfoldable pub agrees : Entry → List ℕ → Bool
 agrees Sqrt b = sqrtAgrees b
 agrees Norm b = normAgrees b
 agrees Dist b = distAgrees b
+agrees TimeBin b = timeBinAgrees b
+agrees Gate b = gateAgrees b
+agrees Derive b = deriveAgrees b
+agrees CheckChunk b = chunkAgrees b
+agrees CheckAction b = actionAgrees b

@@ -2,10 +2,15 @@
 use Prim.Native.Nat.{ℕ}
 use mathlib.Core.Bool.{Bool, false}
 use mathlib.Core.List.{List}
+use lib.Dec.{eqb}
 use lib.Ieee.{Float, binary64, eq}
 use Rattle.fmath.specs.declared.Number.{Number}
 use Rattle.fmath.specs.declared.Number.the-variants.{Value, Refused}
 use Rattle.fmath.specs.Answer.{sqrtAnswer, normAnswer, distAnswer}
+use Rattle.conformal.specs.declared.TimeBin.{TimeBin}
+use Rattle.conformal.specs.declared.TimeBin.the-variants.{Bin, NoBin}
+use Rattle.conformal.specs.Answer.{timeBinOf}
+use Rattle.layout.specs.Places.{in32}
 use Rattle.sample.specs.Record.{count, num, list}
 
 -- the answer is the number x
@@ -24,3 +29,12 @@ normAgrees b = isNumber (normAnswer binary64 (list b 1 10) (count b 0)) (num b 1
 -- n, two lists; their distance
 unfoldable pub distAgrees : List ℕ → Bool
 distAgrees b = isNumber (distAnswer binary64 (list b 1 10) (list b 12 10) (count b 0)) (num b 23)
+
+-- the answer is the bin n
+unfoldable pub isBin : TimeBin → ℕ → Bool
+isBin (Bin k) n = eqb k n
+isBin (NoBin r) n = false
+
+-- t, horizon_ticks; the bin
+unfoldable pub timeBinAgrees : List ℕ → Bool
+timeBinAgrees b = isBin (timeBinOf (in32 (count b 0)) (in32 (count b 1))) (count b 2)

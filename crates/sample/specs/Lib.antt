@@ -1,3 +1,6 @@
 pub mod Record
 pub mod Arithmetic
+pub mod Gate
+pub mod Config
+pub mod Checks
 pub mod Agrees

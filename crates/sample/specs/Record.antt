@@ -24,6 +24,10 @@ numbers b start n = over (λ (j : ℕ). num b (start + j)) (replicate n +0) n
 unfoldable pub list : List ℕ → ℕ → ℕ → List Float
 list b start n = take (min (count b start) n) (numbers b (suc start) n)
 
+-- a chunk's h rows of d numbers, in room for 32
+unfoldable pub rowsAt : List ℕ → ℕ → ℕ → ℕ → List Float
+rowsAt b start h d = take (min (h * d) 32) (numbers b start 32)
+
 -- the floats are the same numbers as those from word start on: the two zeros are the same, a NaN is the same as none
 unfoldable pub sameFrom : List Float → List ℕ → ℕ → Bool
 sameFrom l b start = all (λ (j : ℕ). eq (at l j) (num b (start + j))) (length l)

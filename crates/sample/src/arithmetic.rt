@@ -1,11 +1,13 @@
 // Records of the float helpers and of the time bin.
 ghost use mathlib.Core.Path.{_≡_};
-ghost use Rattle.sample.specs.Arithmetic.{isNumber, sqrtAgrees, normAgrees, distAgrees};
+ghost use Rattle.sample.specs.Arithmetic.{isNumber, sqrtAgrees, normAgrees, distAgrees, isBin, timeBinAgrees};
 use crate::record::count;
+use crate::record::long;
 use crate::record::num;
 use crate::record::same;
 use crate::record::ten;
 use crate::record::within;
+use conformal::TimeBin;
 use fmath::Number;
 
 // Whether an answer is the number x.
@@ -43,4 +45,21 @@ pub(crate) fn dist_agrees(b: &[u8]) -> bool
     let n = within(count(b, 12), 10);
     let a = fmath::dist(&u[..m], &v[..n], count(b, 0) as usize);
     is_number(a, num(b, 23))
+}
+
+// Whether an answer is the time bin n.
+fn is_bin(a: TimeBin, n: u64) -> bool
+    ensures { λ r. ⌜ r ≡ isBin a n ⌝ }
+{
+    match a {
+        TimeBin::Bin(k) => k as u64 == n,
+        TimeBin::NoBin(_) => false,
+    }
+}
+
+pub(crate) fn time_bin_agrees(b: &[u8]) -> bool
+    ensures { λ r. ⌜ r ≡ timeBinAgrees (now (b .entry)) ⌝ }
+{
+    let a = conformal::time_bin(long(b, 0), long(b, 1));
+    is_bin(a, count(b, 2))
 }

@@ -4,8 +4,16 @@ ghost use Rattle.sample.specs.Agrees.{agrees};
 use crate::arithmetic::dist_agrees;
 use crate::arithmetic::norm_agrees;
 use crate::arithmetic::sqrt_agrees;
+use crate::arithmetic::time_bin_agrees;
+use crate::checks::check_action_agrees;
+use crate::checks::check_chunk_agrees;
+use crate::config::derive_agrees;
+use crate::gate::gate_agrees;
 
 mod arithmetic;
+mod checks;
+mod config;
+mod gate;
 mod record;
 
 // The entries, in the order of the sample.
@@ -13,6 +21,11 @@ pub enum Entry {
     Sqrt,
     Norm,
     Dist,
+    TimeBin,
+    Gate,
+    Derive,
+    CheckChunk,
+    CheckAction,
 }
 
 // Whether the port answers what a record of an entry has as the Rust's answer.
@@ -23,5 +36,10 @@ pub fn agrees(entry: Entry, b: &[u8]) -> bool
         Entry::Sqrt => sqrt_agrees(b),
         Entry::Norm => norm_agrees(b),
         Entry::Dist => dist_agrees(b),
+        Entry::TimeBin => time_bin_agrees(b),
+        Entry::Gate => gate_agrees(b),
+        Entry::Derive => derive_agrees(b),
+        Entry::CheckChunk => check_chunk_agrees(b),
+        Entry::CheckAction => check_action_agrees(b),
     }
 }

@@ -1,18 +1,21 @@
 -- `replay::replay` meets its contract: the count of records falls, and the buffer keeps its length.
-use borrow.Author.Needs.{needs}
-use lib.Seq.{length-take-le}
-use lib.ListN.{length}
-use native.Mathlib.Omega.{arith}
-use Prim.Native.Nat.{_≤_, _-_}
 use mathlib.Core.Path.{_≡_, refl, sym}
+use Prim.Native.Nat.{_≤_, _-_}
+use native.Mathlib.Omega.{arith}
+use lib.ListN.{length}
+use lib.Seq.{length-take-le}
+use borrow.Author.Needs.{needs}
 use Rattle.replay.proofs.replay.Statement.{statement}
 use Rattle.replay.proofs.replay.Tie as tie
 
 abbrev Inv-loop : tie.InvT-loop
-Inv-loop entry n buf₀ count t₀ k₀ buf t k = (k ≤ count) × (length buf ≡ length buf₀)
+Inv-loop entry words buf₀ n count t₀ k₀ buf t k = (k ≤ count) × (length buf ≡ length buf₀)
 
 abbrev μ-loop : tie.MeasureT-loop
-μ-loop entry n buf₀ count t₀ k₀ buf t k = count - k
+μ-loop entry words buf₀ n count t₀ k₀ buf t k = count - k
+
+mul-n : tie.Need-mul-n Inv-loop μ-loop
+mul-n c = search needs
 
 records-requires : tie.Need-records-requires Inv-loop μ-loop
 records-requires c κs = search needs
@@ -62,6 +65,7 @@ replay-spec =
     (tie.spec
     Inv-loop
     μ-loop
+    mul-n
     records-requires
     loop-holds
     read-requires

@@ -22,6 +22,36 @@ enum-told-3 c = search needs
 dist-agrees-requires : tie.Need-dist-agrees-requires
 dist-agrees-requires c κs = search needs
 
+enum-told-4 : tie.Need-enum-told-4
+enum-told-4 c = search needs
+
+time-bin-agrees-requires : tie.Need-time-bin-agrees-requires
+time-bin-agrees-requires c κs = search needs
+
+enum-told-5 : tie.Need-enum-told-5
+enum-told-5 c = search needs
+
+gate-agrees-requires : tie.Need-gate-agrees-requires
+gate-agrees-requires c κs = search needs
+
+enum-told-6 : tie.Need-enum-told-6
+enum-told-6 c = search needs
+
+derive-agrees-requires : tie.Need-derive-agrees-requires
+derive-agrees-requires c κs = search needs
+
+enum-told-7 : tie.Need-enum-told-7
+enum-told-7 c = search needs
+
+check-chunk-agrees-requires : tie.Need-check-chunk-agrees-requires
+check-chunk-agrees-requires c κs = search needs
+
+enum-told-8 : tie.Need-enum-told-8
+enum-told-8 c = search needs
+
+check-action-agrees-requires : tie.Need-check-action-agrees-requires
+check-action-agrees-requires c κs = search needs
+
 returns : tie.Need-returns
 unfolding agrees
 returns c = rw (c .before .enum-told .given .1, c .sqrt-agrees .ensures)
@@ -34,6 +64,26 @@ returns-3 : tie.Need-returns-3
 unfolding agrees
 returns-3 c = rw (c .before .enum-told3 .given .1, c .dist-agrees .ensures)
 
+returns-4 : tie.Need-returns-4
+unfolding agrees
+returns-4 c = rw (c .before .enum-told4 .given .1, c .time-bin-agrees .ensures)
+
+returns-5 : tie.Need-returns-5
+unfolding agrees
+returns-5 c = rw (c .before .enum-told5 .given .1, c .gate-agrees .ensures)
+
+returns-6 : tie.Need-returns-6
+unfolding agrees
+returns-6 c = rw (c .before .enum-told6 .given .1, c .derive-agrees .ensures)
+
+returns-7 : tie.Need-returns-7
+unfolding agrees
+returns-7 c = rw (c .before .enum-told7 .given .1, c .check-chunk-agrees .ensures)
+
+returns-8 : tie.Need-returns-8
+unfolding agrees
+returns-8 c = rw (c .before .enum-told8 .given .1, c .check-action-agrees .ensures)
+
 pub agrees-spec : {M : Type 1} → statement M
 agrees-spec =
     tie.close
@@ -44,6 +94,21 @@ agrees-spec =
     norm-agrees-requires
     enum-told-3
     dist-agrees-requires
+    enum-told-4
+    time-bin-agrees-requires
+    enum-told-5
+    gate-agrees-requires
+    enum-told-6
+    derive-agrees-requires
+    enum-told-7
+    check-chunk-agrees-requires
+    enum-told-8
+    check-action-agrees-requires
     returns
     returns-2
-    returns-3)
+    returns-3
+    returns-4
+    returns-5
+    returns-6
+    returns-7
+    returns-8)
