@@ -158,11 +158,19 @@ fn checks(buf: &mut [u8], all: Tally) -> Tally
     next(b"check_action", Entry::CheckAction, 102, buf, c)
 }
 
+fn stops(buf: &mut [u8], all: Tally) -> Tally
+    requires { ⌜ length (now buf) ≡ 4096 ⌝ }
+{
+    let a = next(b"brake_feasible", Entry::Forecast, 146, buf, all);
+    let b = next(b"brake_action, hold_action", Entry::Rows, 91, buf, a);
+    next(b"features", Entry::Features, 358, buf, b)
+}
+
 fn main() {
     let mut space = io::buffer();
     let buf: &mut [u8] = &mut space;
     let a = arithmetic(buf);
     let b = checks(buf, a);
-    say(b"in all", b);
-    put(b"the entries after these are not replayed yet\n");
+    let c = stops(buf, b);
+    say(b"in all", c);
 }

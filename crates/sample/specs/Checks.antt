@@ -1,5 +1,5 @@
 -- What the contracts of `sample::checks` cite: when a record of tier 0 agrees with the port's answer.
-use Prim.Native.Nat.{ℕ, _*_, min}
+use Prim.Native.Nat.{ℕ, min}
 use mathlib.Core.Bool.{Bool, false, _&&_}
 use mathlib.Core.List.{List, [], _∷_}
 use lib.Dec.{eqb}
@@ -32,5 +32,7 @@ actionAgrees b =
 -- a configuration, position, aux, chunk; trips, clamped dims, peak speed and the rows
 unfoldable pub chunkAgrees : List ℕ → Bool
 chunkAgrees b =
-    isCheck (chunkAnswer (configAt b) (list b 57 8) (list b 66 8) (rowsAt b 77 (in16 (count b 76)) (in16 (count b 0))) (in16 (count b 76)) (in16 (count b 0)) 0 32) (count b 109) (count b 110) (num b 111)
-    && sameFrom (chunkOut (configAt b) (list b 57 8) (list b 66 8) (rowsAt b 77 (in16 (count b 76)) (in16 (count b 0))) (in16 (count b 76)) (in16 (count b 0)) 0 (replicate 32 +0)) b 112
+    let h = in16 (count b 76) in
+    let d = in16 (count b 0) in
+    isCheck (chunkAnswer (configAt b) (list b 57 8) (list b 66 8) (rowsAt b 77 h d) h d 0 32) (count b 109) (count b 110) (num b 111)
+    && sameFrom (chunkOut (configAt b) (list b 57 8) (list b 66 8) (rowsAt b 77 h d) h d 0 (replicate 32 +0)) b 112

@@ -8,13 +8,18 @@ use crate::arithmetic::time_bin_agrees;
 use crate::checks::check_action_agrees;
 use crate::checks::check_chunk_agrees;
 use crate::config::derive_agrees;
+use crate::features::features_agree;
 use crate::gate::gate_agrees;
+use crate::stops::forecast_agrees;
+use crate::stops::rows_agree;
 
 mod arithmetic;
 mod checks;
 mod config;
+mod features;
 mod gate;
 mod record;
+mod stops;
 
 // The entries, in the order of the sample.
 pub enum Entry {
@@ -26,6 +31,9 @@ pub enum Entry {
     Derive,
     CheckChunk,
     CheckAction,
+    Forecast,
+    Rows,
+    Features,
 }
 
 // Whether the port answers what a record of an entry has as the Rust's answer.
@@ -41,5 +49,8 @@ pub fn agrees(entry: Entry, b: &[u8]) -> bool
         Entry::Derive => derive_agrees(b),
         Entry::CheckChunk => check_chunk_agrees(b),
         Entry::CheckAction => check_action_agrees(b),
+        Entry::Forecast => forecast_agrees(b),
+        Entry::Rows => rows_agree(b),
+        Entry::Features => features_agree(b),
     }
 }

@@ -52,6 +52,24 @@ enum-told-8 c = search needs
 check-action-agrees-requires : tie.Need-check-action-agrees-requires
 check-action-agrees-requires c κs = search needs
 
+enum-told-9 : tie.Need-enum-told-9
+enum-told-9 c = search needs
+
+forecast-agrees-requires : tie.Need-forecast-agrees-requires
+forecast-agrees-requires c κs = search needs
+
+enum-told-10 : tie.Need-enum-told-10
+enum-told-10 c = search needs
+
+rows-agree-requires : tie.Need-rows-agree-requires
+rows-agree-requires c κs = search needs
+
+enum-told-11 : tie.Need-enum-told-11
+enum-told-11 c = search needs
+
+features-agree-requires : tie.Need-features-agree-requires
+features-agree-requires c κs = search needs
+
 returns : tie.Need-returns
 unfolding agrees
 returns c = rw (c .before .enum-told .given .1, c .sqrt-agrees .ensures)
@@ -84,6 +102,18 @@ returns-8 : tie.Need-returns-8
 unfolding agrees
 returns-8 c = rw (c .before .enum-told8 .given .1, c .check-action-agrees .ensures)
 
+returns-9 : tie.Need-returns-9
+unfolding agrees
+returns-9 c = rw (c .before .enum-told9 .given .1, c .forecast-agrees .ensures)
+
+returns-10 : tie.Need-returns-10
+unfolding agrees
+returns-10 c = rw (c .before .enum-told10 .given .1, c .rows-agree .ensures)
+
+returns-11 : tie.Need-returns-11
+unfolding agrees
+returns-11 c = rw (c .before .enum-told11 .given .1, c .features-agree .ensures)
+
 pub agrees-spec : {M : Type 1} → statement M
 agrees-spec =
     tie.close
@@ -104,6 +134,12 @@ agrees-spec =
     check-chunk-agrees-requires
     enum-told-8
     check-action-agrees-requires
+    enum-told-9
+    forecast-agrees-requires
+    enum-told-10
+    rows-agree-requires
+    enum-told-11
+    features-agree-requires
     returns
     returns-2
     returns-3
@@ -111,4 +147,7 @@ agrees-spec =
     returns-5
     returns-6
     returns-7
-    returns-8)
+    returns-8
+    returns-9
+    returns-10
+    returns-11)
