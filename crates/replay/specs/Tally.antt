@@ -1,6 +1,6 @@
 -- What the contracts of `replay` cite: records counted.
-use Prim.Native.Nat.{ℕ, zero, suc, _+_, min}
 use mathlib.Core.Bool.{Bool, true, false}
+use Prim.Native.Nat.{ℕ, zero, suc, _+_, min}
 use Rattle.replay.specs.declared.Tally.{Tally}
 
 -- a sum in 64 bits; one that does not fit is the greatest number

@@ -1,7 +1,7 @@
 -- What the contract of `sample::agrees` cites: when the port answers what a record has as the Rust's answer.
-use Prim.Native.Nat.{ℕ}
 use mathlib.Core.Bool.{Bool}
 use mathlib.Core.List.{List}
+use Prim.Native.Nat.{ℕ}
 use Rattle.sample.specs.declared.Entry.{Entry}
 use Rattle.sample.specs.declared.Entry.the-variants.{Sqrt, Norm, Dist, TimeBin, Gate, Derive, CheckChunk, CheckAction, Forecast, Rows, Features}
 use Rattle.sample.specs.Arithmetic.{sqrtAgrees, normAgrees, distAgrees, timeBinAgrees}

@@ -1,7 +1,7 @@
 -- What the contracts of `sample::arithmetic` cite: when a record of the float helpers, or of the time bin, agrees with the port's answer.
-use Prim.Native.Nat.{ℕ}
 use mathlib.Core.Bool.{Bool, false}
 use mathlib.Core.List.{List}
+use Prim.Native.Nat.{ℕ}
 use lib.Dec.{eqb}
 use lib.Ieee.{Float, binary64, eq}
 use Rattle.fmath.specs.declared.Number.{Number}

@@ -1,7 +1,7 @@
 -- What the contracts of `sample::checks` cite: when a record of tier 0 agrees with the port's answer.
-use Prim.Native.Nat.{ℕ, min}
 use mathlib.Core.Bool.{Bool, false, _&&_}
 use mathlib.Core.List.{List, [], _∷_}
+use Prim.Native.Nat.{ℕ, min}
 use lib.Dec.{eqb}
 use lib.ListN.{take, replicate}
 use lib.Ieee.{Float, eq}

@@ -1,7 +1,7 @@
 -- What the contracts of `sample::config` cite: the configuration that a record's first 57 words stand for.
-use Prim.Native.Nat.{ℕ, _+_, _-_}
 use mathlib.Core.Bool.{Bool}
-use mathlib.Core.List.{List, [], _∷_, _++_}
+use mathlib.Core.List.{List, [], _∷_}
+use Prim.Native.Nat.{ℕ, _+_, _-_}
 use lib.Dec.{ltb}
 use lib.ListN.{replicate}
 use lib.Ieee.{Float, binary64}

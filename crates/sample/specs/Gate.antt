@@ -1,11 +1,11 @@
 -- What the contracts of `sample::gate` cite: when a record of the gate agrees with the port's answers.
-use Prim.Native.Nat.{ℕ, zero, suc, _+_, _%_}
 use mathlib.Core.Bool.{Bool, false}
 use mathlib.Core.List.{List, [], _∷_}
+use Prim.Native.Nat.{ℕ, _+_, _%_}
 use lib.Dec.{eqb}
-use mir.Val.{boolByte}
 use lib.ListN.{replicate}
 use lib.Ieee.{Float, binary64, eq}
+use mir.Val.{boolByte}
 use Rattle.fmath.specs.Each.{every, over}
 use Rattle.fmath.specs.Finite.{+0}
 use Rattle.conformal.specs.declared.Calibration.{Calibration}

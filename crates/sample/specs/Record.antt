@@ -1,7 +1,7 @@
 -- What the contracts of `sample::record` cite: a record's words, numbers and lists, by their places in tests/oracle-sample/README.md.
-use Prim.Native.Nat.{ℕ, suc, _+_, _*_, min}
 use mathlib.Core.Bool.{Bool}
 use mathlib.Core.List.{List}
+use Prim.Native.Nat.{ℕ, suc, _+_, _*_, min}
 use lib.ListN.{length, take, replicate}
 use lib.Ieee.{Float, binary64, ofBits, eq}
 use Rattle.fmath.specs.Each.{at, all, over}

@@ -1,7 +1,7 @@
 -- `replay::add` meets its contract: by whether the sum fits.
-use Rattle.replay.specs.Tally.{sum}
 use native.Mathlib.Omega.{arith}
 use borrow.Author.Needs.{needs}
+use Rattle.replay.specs.Tally.{sum}
 use Rattle.replay.proofs.add.Statement.{statement}
 use Rattle.replay.proofs.add.Tie as tie
 

@@ -1,7 +1,7 @@
 -- `replay::first_of` meets its contract: by whether the first is 0.
-use Rattle.replay.specs.Tally.{firstOf}
-use Prim.Native.Nat.{ℕ, zero, suc}
 use mathlib.Core.Path.{_≡_, refl}
+use Prim.Native.Nat.{ℕ, zero, suc}
+use Rattle.replay.specs.Tally.{firstOf}
 use Rattle.replay.proofs.first_of.Statement.{statement}
 use Rattle.replay.proofs.first_of.Tie as tie
 

@@ -1,6 +1,6 @@
 -- `replay::joined` meets its contract: sum by sum.
-use Rattle.replay.specs.Tally.{joined}
 use borrow.Author.Needs.{needs}
+use Rattle.replay.specs.Tally.{joined}
 use Rattle.replay.proofs.joined.Statement.{statement}
 use Rattle.replay.proofs.joined.Tie as tie
 

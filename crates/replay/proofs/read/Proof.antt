@@ -1,6 +1,6 @@
 -- `replay::read` meets its contract: the part that is read fits the buffer.
-use lib.Seq.{length-take-le}
 use mathlib.Core.Path.{sym}
+use lib.Seq.{length-take-le}
 use borrow.Author.Needs.{needs}
 use Rattle.replay.proofs.read.Statement.{statement}
 use Rattle.replay.proofs.read.Tie as tie

@@ -1,6 +1,6 @@
 -- `replay::told` meets its contract: by whether the record agrees.
-use Rattle.replay.specs.Tally.{told}
 use borrow.Author.Needs.{needs}
+use Rattle.replay.specs.Tally.{told}
 use Rattle.replay.proofs.told.Statement.{statement}
 use Rattle.replay.proofs.told.Tie as tie
 

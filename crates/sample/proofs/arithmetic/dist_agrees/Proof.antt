@@ -1,8 +1,8 @@
 -- `sample::arithmetic::dist_agrees` meets its contract: the calls, one after the other.
-use Rattle.sample.proofs.Lists.{lent, listed}
-use Rattle.sample.specs.Arithmetic.{distAgrees}
-use denote.Ref.{now}
 use borrow.Author.Needs.{needs}
+use denote.Ref.{now}
+use Rattle.sample.specs.Arithmetic.{distAgrees}
+use Rattle.sample.proofs.Lists.{lent, listed}
 use Rattle.sample.proofs.arithmetic.dist_agrees.Statement.{statement}
 use Rattle.sample.proofs.arithmetic.dist_agrees.Tie as tie
 

@@ -1,6 +1,6 @@
 -- `sample::arithmetic::is_bin` meets its contract: by cases of the answer.
-use Rattle.sample.specs.Arithmetic.{isBin}
 use borrow.Author.Needs.{needs}
+use Rattle.sample.specs.Arithmetic.{isBin}
 use Rattle.sample.proofs.arithmetic.is_bin.Statement.{statement}
 use Rattle.sample.proofs.arithmetic.is_bin.Tie as tie
 

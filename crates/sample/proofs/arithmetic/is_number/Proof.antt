@@ -1,6 +1,6 @@
 -- `sample::arithmetic::is_number` meets its contract: by cases of the answer.
-use Rattle.sample.specs.Arithmetic.{isNumber}
 use borrow.Author.Needs.{needs}
+use Rattle.sample.specs.Arithmetic.{isNumber}
 use Rattle.sample.proofs.arithmetic.is_number.Statement.{statement}
 use Rattle.sample.proofs.arithmetic.is_number.Tie as tie
 

@@ -1,8 +1,8 @@
 -- `sample::arithmetic::norm_agrees` meets its contract: the calls, one after the other.
-use Rattle.sample.proofs.Lists.{lent, listed}
-use Rattle.sample.specs.Arithmetic.{normAgrees}
-use denote.Ref.{now}
 use borrow.Author.Needs.{needs}
+use denote.Ref.{now}
+use Rattle.sample.specs.Arithmetic.{normAgrees}
+use Rattle.sample.proofs.Lists.{lent, listed}
 use Rattle.sample.proofs.arithmetic.norm_agrees.Statement.{statement}
 use Rattle.sample.proofs.arithmetic.norm_agrees.Tie as tie
 

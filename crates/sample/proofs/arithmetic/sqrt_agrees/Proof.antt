@@ -1,6 +1,6 @@
 -- `sample::arithmetic::sqrt_agrees` meets its contract: the calls, one after the other.
-use Rattle.sample.specs.Arithmetic.{sqrtAgrees}
 use borrow.Author.Needs.{needs}
+use Rattle.sample.specs.Arithmetic.{sqrtAgrees}
 use Rattle.sample.proofs.arithmetic.sqrt_agrees.Statement.{statement}
 use Rattle.sample.proofs.arithmetic.sqrt_agrees.Tie as tie
 

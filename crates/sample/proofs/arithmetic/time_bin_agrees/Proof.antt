@@ -1,6 +1,6 @@
 -- `sample::arithmetic::time_bin_agrees` meets its contract: the calls, one after the other.
-use Rattle.sample.specs.Arithmetic.{timeBinAgrees}
 use borrow.Author.Needs.{needs}
+use Rattle.sample.specs.Arithmetic.{timeBinAgrees}
 use Rattle.sample.proofs.arithmetic.time_bin_agrees.Statement.{statement}
 use Rattle.sample.proofs.arithmetic.time_bin_agrees.Tie as tie
 

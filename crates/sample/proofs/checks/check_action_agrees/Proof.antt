@@ -1,6 +1,6 @@
 -- `sample::checks::check_action_agrees` meets its contract: the calls, one after the other.
-use borrow.Author.Needs.{needs}
 use lib.Ieee.{ofBits}
+use borrow.Author.Needs.{needs}
 use denote.Ref.{now}
 use Rattle.sample.specs.Checks.{actionAgrees}
 use Rattle.sample.proofs.Lists.{lent, listed, acted}

@@ -1,8 +1,8 @@
 -- `sample::config::derive_agrees` meets its contract: the calls, one after the other.
-use borrow.Author.Needs.{needs}
 use mathlib.Core.Path.{_≡_, refl, sym, ap, _∙_}
 use native.Mathlib.Omega.{arith}
 use lib.ListN.{length}
+use borrow.Author.Needs.{needs}
 use Rattle.fmath.specs.Each.{table}
 use Rattle.envelope.specs.declared.Derived.{Derived}
 use Rattle.layout.specs.Config.{derivedFlat}

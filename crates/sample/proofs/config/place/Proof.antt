@@ -1,6 +1,6 @@
 -- `sample::config::place` meets its contract: by the range that the number lies in.
-use borrow.Author.Needs.{needs}
 use native.Mathlib.Omega.{arith}
+use borrow.Author.Needs.{needs}
 use borrow.Author.Tests.{lt-ltb, le-ltb}
 use Rattle.sample.specs.Config.{placeOf}
 use Rattle.sample.proofs.config.place.Statement.{statement}

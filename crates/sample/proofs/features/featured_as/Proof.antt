@@ -1,8 +1,8 @@
 -- `sample::features::featured_as` meets its contract: test by test.
-use borrow.Author.Needs.{needs}
 use mathlib.Core.Path.{_≡_}
 use native.Mathlib.Omega.{arith}
 use lib.ListN.{length}
+use borrow.Author.Needs.{needs}
 use Rattle.fmath.specs.Each.{every, every-from}
 use Rattle.sample.specs.Features.{featuredAs}
 use Rattle.sample.proofs.features.featured_as.Statement.{statement}

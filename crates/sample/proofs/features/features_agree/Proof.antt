@@ -1,5 +1,4 @@
 -- `sample::features::features_agree` meets its contract: the calls, one after the other.
-use borrow.Author.Needs.{needs}
 use mathlib.Core.Path.{_≡_, ap, _∙_}
 use mathlib.Core.Bool.{Bool, true}
 use mathlib.Core.List.{List}
@@ -7,6 +6,7 @@ use Prim.Native.Nat.{ℕ}
 use native.Mathlib.Omega.{arith}
 use lib.ListN.{length}
 use lib.Ieee.{Float}
+use borrow.Author.Needs.{needs}
 use denote.Ref.{now}
 use Rattle.conformal.specs.declared.Scores.{Scores}
 use Rattle.envelope.specs.declared.FuseConfig.{FuseConfig}

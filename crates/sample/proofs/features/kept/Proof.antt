@@ -1,8 +1,8 @@
 -- `sample::features::kept` meets its contract: by whether there is a chunk.
-use borrow.Author.Needs.{needs}
 use mathlib.Core.Path.{_≡_, sym, _∙_}
 use mathlib.Core.List.{List}
 use Prim.Native.Nat.{ℕ}
+use borrow.Author.Needs.{needs}
 use borrow.Author.Tests.{eq-eqb, ne-eqb}
 use denote.Ref.{now}
 use Rattle.chunk.specs.Of.{newChunk, fillOf}

@@ -1,6 +1,6 @@
 -- `sample::features::state` meets its contract: field by field.
-use borrow.Author.Needs.{needs}
 use lib.Ieee.{ofBits}
+use borrow.Author.Needs.{needs}
 use Rattle.sample.specs.Features.{stateAt}
 use Rattle.sample.proofs.features.state.Statement.{statement}
 use Rattle.sample.proofs.features.state.Tie as tie

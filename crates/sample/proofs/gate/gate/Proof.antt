@@ -1,6 +1,6 @@
 -- `sample::gate::gate` meets its contract: field by field.
-use Rattle.sample.specs.Gate.{gateAt}
 use borrow.Author.Needs.{needs}
+use Rattle.sample.specs.Gate.{gateAt}
 use Rattle.sample.proofs.gate.gate.Statement.{statement}
 use Rattle.sample.proofs.gate.gate.Tie as tie
 

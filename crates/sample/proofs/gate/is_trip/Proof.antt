@@ -1,6 +1,6 @@
 -- `sample::gate::is_trip` meets its contract: by cases of the answer.
-use Rattle.sample.specs.Gate.{isTrip}
 use borrow.Author.Needs.{needs}
+use Rattle.sample.specs.Gate.{isTrip}
 use Rattle.sample.proofs.gate.is_trip.Statement.{statement}
 use Rattle.sample.proofs.gate.is_trip.Tie as tie
 

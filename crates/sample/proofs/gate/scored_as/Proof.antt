@@ -1,8 +1,8 @@
 -- `sample::gate::scored_as` meets its contract: test by test.
-use borrow.Author.Needs.{needs}
 use mathlib.Core.Path.{_≡_}
 use native.Mathlib.Omega.{arith}
 use lib.ListN.{length}
+use borrow.Author.Needs.{needs}
 use Rattle.fmath.specs.Each.{every, every-from}
 use Rattle.sample.specs.Gate.{scoredAs}
 use Rattle.sample.proofs.gate.scored_as.Statement.{statement}

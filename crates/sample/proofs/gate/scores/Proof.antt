@@ -1,7 +1,7 @@
 -- `sample::gate::scores` meets its contract: field by field.
-use Rattle.sample.specs.Gate.{scoresAt}
 use lib.Ieee.{ofBits}
 use borrow.Author.Needs.{needs}
+use Rattle.sample.specs.Gate.{scoresAt}
 use Rattle.sample.proofs.gate.scores.Statement.{statement}
 use Rattle.sample.proofs.gate.scores.Tie as tie
 

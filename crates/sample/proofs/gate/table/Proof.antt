@@ -1,17 +1,16 @@
 -- `sample::gate::table` meets its contract: the loop puts one number a turn.
-use Rattle.sample.specs.Gate.{tableAt}
-use Rattle.sample.specs.Record.{num}
+use mathlib.Core.Path.{_≡_, refl}
+use Prim.Native.Nat.{ℕ, _≤_, _+_, _-_, _%_}
+use native.Mathlib.Omega.{arith}
+use native.Mathlib.Nat.{le-antisymm}
+use lib.Ieee.{ofBits}
+use lib.ListN.{replicate}
+use borrow.Author.Needs.{needs}
 use Rattle.fmath.proofs.Each.{over-more}
 use Rattle.fmath.specs.Finite.{+0}
 use Rattle.fmath.specs.Each.{over}
-use denote.Ref.{now}
-use borrow.Author.Needs.{needs}
-use lib.Ieee.{ofBits}
-use lib.ListN.{replicate}
-use native.Mathlib.Omega.{arith}
-use native.Mathlib.Nat.{le-antisymm}
-use Prim.Native.Nat.{ℕ, _≤_, _+_, _-_, _%_}
-use mathlib.Core.Path.{_≡_, refl}
+use Rattle.sample.specs.Gate.{tableAt}
+use Rattle.sample.specs.Record.{num}
 use Rattle.sample.proofs.gate.table.Statement.{statement}
 use Rattle.sample.proofs.gate.table.Tie as tie
 

@@ -1,6 +1,6 @@
 -- `sample::record::area` meets its contract: the product of two short counts fits.
-use borrow.Author.Needs.{needs}
 use native.Mathlib.Nat.{lt-of-lt-of-le}
+use borrow.Author.Needs.{needs}
 use Rattle.chunk.proofs.Rows.{place-small}
 use Rattle.sample.proofs.record.area.Statement.{statement}
 use Rattle.sample.proofs.record.area.Tie as tie

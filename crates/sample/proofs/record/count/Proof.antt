@@ -1,6 +1,6 @@
 -- `sample::record::count` meets its contract: the word at eight bytes for each before it.
-use Rattle.sample.specs.Record.{count}
 use borrow.Author.Needs.{needs}
+use Rattle.sample.specs.Record.{count}
 use Rattle.sample.proofs.record.count.Statement.{statement}
 use Rattle.sample.proofs.record.count.Tie as tie
 

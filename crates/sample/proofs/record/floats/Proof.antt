@@ -1,13 +1,13 @@
 -- `sample::record::floats` meets its contract: the loop puts one float a turn and keeps the length.
-use Rattle.sample.specs.Record.{num}
-use Rattle.fmath.proofs.Each.{over-more}
-use Rattle.fmath.specs.Each.{over}
-use lib.ListN.{length, length-set}
-use denote.Ref.{now}
-use borrow.Author.Needs.{needs}
-use native.Mathlib.Omega.{arith}
 use mathlib.Core.Path.{_≡_, refl, _∙_}
 use Prim.Native.Nat.{ℕ, _≤_, _+_, _-_}
+use native.Mathlib.Omega.{arith}
+use lib.ListN.{length, length-set}
+use borrow.Author.Needs.{needs}
+use denote.Ref.{now}
+use Rattle.fmath.proofs.Each.{over-more}
+use Rattle.fmath.specs.Each.{over}
+use Rattle.sample.specs.Record.{num}
 use Rattle.sample.proofs.record.floats.Statement.{statement}
 use Rattle.sample.proofs.record.floats.Tie as tie
 

@@ -1,6 +1,6 @@
 -- `sample::record::num` meets its contract: the word's float.
-use Rattle.sample.specs.Record.{num}
 use borrow.Author.Needs.{needs}
+use Rattle.sample.specs.Record.{num}
 use Rattle.sample.proofs.record.num.Statement.{statement}
 use Rattle.sample.proofs.record.num.Tie as tie
 

@@ -1,14 +1,14 @@
 -- `sample::record::same_from` meets its contract: the loop keeps the answer so far.
-use Rattle.sample.specs.Record.{num, sameFrom}
+use mathlib.Core.Path.{_≡_, refl}
+use Prim.Native.Nat.{ℕ, _≤_, _+_, _-_}
+use native.Mathlib.Omega.{arith}
+use lib.Ieee.{eq}
+use lib.ListN.{length}
+use borrow.Author.Needs.{needs}
+use denote.Ref.{now}
 use Rattle.fmath.proofs.Each.{all-more}
 use Rattle.fmath.specs.Each.{all, at as item}
-use lib.Ieee.{Float, eq}
-use lib.ListN.{length}
-use denote.Ref.{now}
-use borrow.Author.Needs.{needs}
-use native.Mathlib.Omega.{arith}
-use mathlib.Core.Path.{_≡_, refl, _∙_, ap}
-use Prim.Native.Nat.{ℕ, _≤_, _+_, _-_}
+use Rattle.sample.specs.Record.{num, sameFrom}
 use Rattle.sample.proofs.record.same_from.Statement.{statement}
 use Rattle.sample.proofs.record.same_from.Tie as tie
 

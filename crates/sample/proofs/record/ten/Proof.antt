@@ -1,7 +1,7 @@
 -- `sample::record::ten` meets its contract: its numbers over zeros.
-use Rattle.sample.specs.Record.{numbers}
 use lib.Ieee.{ofBits}
 use borrow.Author.Needs.{needs}
+use Rattle.sample.specs.Record.{numbers}
 use Rattle.sample.proofs.record.ten.Statement.{statement}
 use Rattle.sample.proofs.record.ten.Tie as tie
 

@@ -1,7 +1,7 @@
 -- `sample::record::thirty_two` meets its contract: its numbers over zeros.
-use Rattle.sample.specs.Record.{numbers}
 use lib.Ieee.{ofBits}
 use borrow.Author.Needs.{needs}
+use Rattle.sample.specs.Record.{numbers}
 use Rattle.sample.proofs.record.thirty_two.Statement.{statement}
 use Rattle.sample.proofs.record.thirty_two.Tie as tie
 

@@ -1,6 +1,6 @@
 -- `sample::stops::rows_agree` meets its contract: the calls, one after the other.
-use borrow.Author.Needs.{needs}
 use lib.Ieee.{ofBits}
+use borrow.Author.Needs.{needs}
 use denote.Ref.{now}
 use Rattle.sample.specs.Stops.{rowsAgree}
 use Rattle.sample.proofs.Lists.{lent, listed}
