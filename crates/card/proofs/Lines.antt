@@ -18,7 +18,7 @@ use Rattle.card.specs.Text.{Put, line}
 use Rattle.card.specs.Block.{lineOf, lineAt, lines, rest, text}
 use Rattle.card.proofs.Digits.{joined}
 use Rattle.card.proofs.Lengths.{line-most}
-use Rattle.card.proofs.Little.{part-card}
+use Rattle.card.proofs.Part.{part-card}
 
 -- the line of the record that is the part of k bytes from `from` on
 pub line-is : (n : ℕ) (l : List ℕ) (from k : ℕ) {c : Card} {o : BrakeOut} {a : Answer} {room : ℕ}

@@ -6,7 +6,8 @@ use native.Mathlib.Nat.{add-assoc, add-zero, add-suc}
 use native.Mathlib.Omega.{arith}
 use lib.ListN.{length, getD, length-append, List·getD-append}
 use lib.Seq.{getD-append-add}
-use Rattle.card.specs.Record.{little, cardAt}
+use Rattle.words.specs.Little.{little}
+use Rattle.card.specs.Record.{cardAt}
 use Rattle.card.specs.Block.{lineAt, lines, rest, text}
 
 module _ (a b : List ℕ) where

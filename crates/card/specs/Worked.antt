@@ -8,7 +8,8 @@ use lib.Ieee.{inf, fin, toBits}
 use Rattle.fmath.specs.Finite.{+0}
 use Rattle.brake.specs.declared.BrakeOut.the-variants.{Accepted}
 use Rattle.card.specs.declared.record.Card.{Card}
-use Rattle.card.specs.Record.{little, cardAt}
+use Rattle.words.specs.Little.{little}
+use Rattle.card.specs.Record.{cardAt}
 use Rattle.card.specs.Desk.{answerFor}
 use Rattle.card.specs.Text.{glyph, digits, widthOf, decimal, hex, word, numbers, line}
 use Rattle.card.specs.Block.{lineOf}

@@ -5,8 +5,6 @@ ghost use lib.ListN.{length, replicate};
 ghost use Rattle.envelope.specs.Derive.{one};
 ghost use Rattle.card.specs.Desk.{calibrationOf, brakeOf, wallsOf, limitsOf, normOf, configOf, outcomeOf, slacksOf, countOf, answerFor};
 use crate::record::Card;
-use crate::record::number;
-use crate::record::pattern;
 use brake::BrakeOut;
 use conformal::Calibration;
 use conformal::GateSpec;
@@ -22,6 +20,8 @@ use envelope::Limits;
 use envelope::Norm;
 use envelope::Substeps;
 use refusal::Refusal;
+use words::number;
+use words::pattern;
 
 // What a line says: the answer's number, the count and, where it is accepted, the bits of the margin and of the stop distance.
 pub struct Answer {

@@ -12,5 +12,3 @@ pub use desk::configure;
 pub use desk::run;
 pub use record::Card;
 pub use record::decode;
-pub use record::number;
-pub use record::pattern;

@@ -1,9 +1,8 @@
-// A record's bytes, the card that they spell, and its numbers as floats.
+// A record's bytes and the card that they spell.
 ghost use mathlib.Core.Path.{_≡_};
-ghost use Prim.Native.Nat.{_+_, _≤_, _<_};
-ghost use lib.ListN.{getD};
-ghost use lib.Ieee.{binary64, ofBits, toBits};
-ghost use Rattle.card.specs.Record.{little, cardAt};
+ghost use Rattle.card.specs.Record.{cardAt};
+use words::pair;
+use words::word;
 
 // A record's eleven numbers, each as its 64 bits, and its four counts.
 pub struct Card {
@@ -24,57 +23,6 @@ pub struct Card {
     pub from: u16,
 }
 
-fn wide(b: u8) -> u64
-    ensures { λ r. ⌜ (r ≡ b) × (r < 256) ⌝ }
-{
-    b as u64
-}
-
-// Byte i, 0 where there is none.
-fn byte(b: &[u8], i: usize) -> u64
-    ensures { λ r. ⌜ (r ≡ getD (now (b .entry)) i 0) × (r < 256) ⌝ }
-{
-    if i < b.len() { wide(b[i]) } else { 0 }
-}
-
-// The number that two bytes from at on spell, the least first.
-fn pair(b: &[u8], at: usize) -> u64
-    requires { ⌜ at + 2 ≤ 96 ⌝ }
-    ensures { λ r. ⌜ (r ≡ little 2 (now (b .entry)) at) × (r < 65536) ⌝ }
-{
-    let low = byte(b, at);
-    let high = byte(b, at + 1);
-    low + high * 256
-}
-
-// .. four bytes
-fn half(b: &[u8], at: usize) -> u64
-    requires { ⌜ at + 4 ≤ 96 ⌝ }
-    ensures { λ r. ⌜ (r ≡ little 4 (now (b .entry)) at) × (r < 4294967296) ⌝ }
-{
-    let low = pair(b, at);
-    let high = pair(b, at + 2);
-    low + high * 65536
-}
-
-// .. eight bytes
-fn word(b: &[u8], at: usize) -> u64
-    requires { ⌜ at + 8 ≤ 96 ⌝ }
-    ensures { λ r. ⌜ r ≡ little 8 (now (b .entry)) at ⌝ }
-{
-    let low = half(b, at);
-    let high = half(b, at + 4);
-    low + high * 4294967296
-}
-
-fn count(b: &[u8], at: usize) -> u16
-    requires { ⌜ at + 2 ≤ 96 ⌝ }
-    ensures { λ r. ⌜ r ≡ little 2 (now (b .entry)) at ⌝ }
-{
-    let x = pair(b, at);
-    x as u16
-}
-
 // The card that the first 96 bytes spell; a byte that is not there counts as 0.
 pub fn decode(b: &[u8]) -> Card
     ensures { λ r. ⌜ r ≡ cardAt (now (b .entry)) 0 ⌝ }
@@ -91,31 +39,9 @@ pub fn decode(b: &[u8]) -> Card
         row1: word(b, 64),
         row2: word(b, 72),
         row3: word(b, 80),
-        substeps: count(b, 88),
-        commit: count(b, 90),
-        brake_steps: count(b, 92),
-        from: count(b, 94),
+        substeps: pair(b, 88),
+        commit: pair(b, 90),
+        brake_steps: pair(b, 92),
+        from: pair(b, 94),
     }
-}
-
-// The float of a pattern. Each pattern of a NaN gives the one NaN, which is made by 0.0 / 0.0.
-pub fn number(bits: u64) -> f64
-    ensures { λ r. ⌜ r ≡ ofBits binary64 bits ⌝ }
-{
-    let field = bits % 0x8000_0000_0000_0000 / 0x10_0000_0000_0000;
-    let digits = bits % 0x10_0000_0000_0000;
-    if (field == 2047) & (digits != 0) {
-        return 0.0 / 0.0;
-    }
-    f64::from_bits(bits)
-}
-
-// The pattern of a float, 7ff8000000000000 for a NaN.
-pub fn pattern(x: f64) -> u64
-    ensures { λ r. ⌜ r ≡ toBits binary64 x ⌝ }
-{
-    if x != x {
-        return 0x7ff8_0000_0000_0000;
-    }
-    f64::to_bits(x)
 }

@@ -2,7 +2,7 @@
 // is one of its kind and each count fits its field is judged by a test of its own.
 pub mod chunks;
 pub mod config;
-mod places;
+pub mod places;
 pub mod scores;
 pub mod states;
 pub mod trails;

@@ -4,7 +4,7 @@ use std::fs;
 
 #[test]
 fn the_sample_is_the_rusts() {
-    let kept = fs::read("../oracle-sample/sample.bin").expect("the sample is kept beside the oracle");
+    let kept = fs::read("../../crates/replay/stdin").expect("the sample is the standard input of the replay");
     let made: Vec<u8> = differential::sample::words().iter().flat_map(|w| w.to_le_bytes()).collect();
     assert!(kept == made, "make the sample again, as tests/oracle-sample/README.md says");
 }

@@ -37,21 +37,21 @@ word-requires-10 c κs = search needs
 word-requires-11 : tie.Need-word-requires-11
 word-requires-11 c κs = search needs
 
-count-requires : tie.Need-count-requires
-count-requires c κs = search needs
+pair-requires : tie.Need-pair-requires
+pair-requires c κs = search needs
 
-count-requires-2 : tie.Need-count-requires-2
-count-requires-2 c κs = search needs
+pair-requires-2 : tie.Need-pair-requires-2
+pair-requires-2 c κs = search needs
 
-count-requires-3 : tie.Need-count-requires-3
-count-requires-3 c κs = search needs
+pair-requires-3 : tie.Need-pair-requires-3
+pair-requires-3 c κs = search needs
 
-count-requires-4 : tie.Need-count-requires-4
-count-requires-4 c κs = search needs
+pair-requires-4 : tie.Need-pair-requires-4
+pair-requires-4 c κs = search needs
 
 returns : tie.Need-returns
 unfolding cardAt
-returns c = rw (c .before .before .before .before .before .before .before .before .before .before .before .before .before .before .word .ensures, c .before .before .before .before .before .before .before .before .before .before .before .before .before .word2 .ensures, c .before .before .before .before .before .before .before .before .before .before .before .before .word3 .ensures, c .before .before .before .before .before .before .before .before .before .before .before .word4 .ensures, c .before .before .before .before .before .before .before .before .before .before .word5 .ensures, c .before .before .before .before .before .before .before .before .before .word6 .ensures, c .before .before .before .before .before .before .before .before .word7 .ensures, c .before .before .before .before .before .before .before .word8 .ensures, c .before .before .before .before .before .before .word9 .ensures, c .before .before .before .before .before .word10 .ensures, c .before .before .before .before .word11 .ensures, c .before .before .before .count .ensures, c .before .before .count2 .ensures, c .before .count3 .ensures, c .count4 .ensures)
+returns c = rw (c .before .before .before .before .before .before .before .before .before .before .before .before .before .before .word .ensures, c .before .before .before .before .before .before .before .before .before .before .before .before .before .word2 .ensures, c .before .before .before .before .before .before .before .before .before .before .before .before .word3 .ensures, c .before .before .before .before .before .before .before .before .before .before .before .word4 .ensures, c .before .before .before .before .before .before .before .before .before .before .word5 .ensures, c .before .before .before .before .before .before .before .before .before .word6 .ensures, c .before .before .before .before .before .before .before .before .word7 .ensures, c .before .before .before .before .before .before .before .word8 .ensures, c .before .before .before .before .before .before .word9 .ensures, c .before .before .before .before .before .word10 .ensures, c .before .before .before .before .word11 .ensures, c .before .before .before .pair .ensures, c .before .before .pair2 .ensures, c .before .pair3 .ensures, c .pair4 .ensures)
 
 pub decode-spec : {M : Type 1} → statement M
 decode-spec =
@@ -68,8 +68,8 @@ decode-spec =
     word-requires-9
     word-requires-10
     word-requires-11
-    count-requires
-    count-requires-2
-    count-requires-3
-    count-requires-4
+    pair-requires
+    pair-requires-2
+    pair-requires-3
+    pair-requires-4
     returns)
