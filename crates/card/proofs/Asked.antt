@@ -1,7 +1,6 @@
 -- What the forecast is asked for a card is what the rule asks.
 use mathlib.Core.Path.{_≡_}
 use mathlib.Core.List.{List, [], _∷_}
-use Prim.Native.Nat.{ℕ}
 use lib.ListN.{length}
 use lib.Ieee.{Float}
 use Rattle.envelope.specs.declared.FuseConfig.{FuseConfig}

@@ -3,7 +3,7 @@ use Prim.Native.Nat.{ℕ, _-_}
 use mathlib.Core.Bool.{false}
 use mathlib.Core.List.{List, [], _∷_}
 use lib.Dec.{eqb}
-use lib.ListN.{length, replicate}
+use lib.ListN.{replicate}
 use lib.Ieee.{Float, binary64, ofBits, toBits}
 use Rattle.refusal.specs.Order.{if_then_else_}
 use Rattle.fmath.specs.Finite.{+0}

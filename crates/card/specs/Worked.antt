@@ -3,11 +3,10 @@ use mathlib.Core.Path.{_≡_, refl}
 use mathlib.Core.Bool.{true, false}
 use mathlib.Core.List.{List, [], _∷_}
 use Prim.Native.Nat.{ℕ}
-use lib.IntN.{pos, negsuc}
+use lib.IntN.{negsuc}
 use lib.Ieee.{inf, fin, toBits}
 use Rattle.fmath.specs.Finite.{+0}
 use Rattle.brake.specs.declared.BrakeOut.the-variants.{Accepted}
-use Rattle.card.specs.declared.record.Card.{Card}
 use Rattle.words.specs.Little.{little}
 use Rattle.card.specs.Record.{cardAt}
 use Rattle.card.specs.Desk.{answerFor}

@@ -1,5 +1,5 @@
 -- A struct whose taken-apart parts are right is right: one law for each struct of many parts.
-use mathlib.Core.Path.{_≡_, refl}
+use mathlib.Core.Path.{_≡_}
 use mathlib.Core.List.{List, [], _∷_}
 use Prim.Native.Nat.{ℕ}
 use lib.Dec.{eqb}

@@ -31,7 +31,6 @@ use Rattle.tier0.specs.declared.Check.{Check}
 use Rattle.tier0.specs.Of.{actionAnswer, actionOut, chunkAnswer, chunkOut}
 use Rattle.tier1.specs.declared.Head.{Head}
 use Rattle.tier1.specs.declared.Tier1Rt.{Tier1Rt}
-use Rattle.tier1.specs.declared.Featured.{Featured}
 use Rattle.tier1.specs.declared.Cleared.{Cleared}
 use Rattle.tier1.specs.Of.{featuresOf, resetOf}
 use Rattle.brake.specs.declared.BrakeOut.{BrakeOut}

@@ -19,7 +19,6 @@ use Rattle.conformal.proofs.Bits.{bit-where, no-bit-past}
 use Rattle.envelope.specs.Derive.{kept}
 use Rattle.window.specs.declared.Trail.{Trail}
 use Rattle.envelope.specs.declared.FuseConfig.{FuseConfig}
-use Rattle.tier1.specs.declared.Manifest.{Manifest}
 use Rattle.tier1.specs.declared.Head.{Head}
 use Rattle.tier1.specs.declared.Tier1Rt.{Tier1Rt}
 use Rattle.tier1.specs.declared.Featured.{Featured}

@@ -1,13 +1,13 @@
 -- Four beliefs that do not hold, answered of the entries: an empty contact box slows nothing, the two camera channels of an arm are never one,
 -- a limit that is touched does not trip, and a forecast does not inspect where the arm stands now.
 use Prim.Native.Nat.{ℕ, zero, suc}
-use mathlib.Core.Path.{_≡_, refl, sym, ap, _∙_}
+use mathlib.Core.Path.{_≡_, refl, sym, _∙_}
 use mathlib.Core.Bool.{true, false, true≢false}
 use mathlib.Core.List.{List, _++_}
 use borrow.Author.Tests.{eq-eqb}
 use lib.ListN.{length, replicate}
 use lib.Ieee.{Float, binary64, inf, lt, le}
-use Rattle.refusal.specs.Order.{Reason, channels, among, refusal}
+use Rattle.refusal.specs.Order.{channels, among, refusal}
 use Rattle.refusal.specs.Exactly.{exactly-none}
 use Rattle.fmath.specs.Finite.{+0}
 use Rattle.fmath.specs.Each.{all}

@@ -1,5 +1,4 @@
 -- `lictor::answer::put_emptiness` meets its contract: by the cases of the answer.
-use mathlib.Core.Path.{refl}
 use borrow.Author.Tests.{not-true, not-false}
 use Rattle.lictor.specs.Answer.{emptinessNumber, emptinessValue}
 use borrow.Author.Needs.{needs}
