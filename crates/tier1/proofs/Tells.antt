@@ -1,6 +1,6 @@
 -- A number that tells is finite exactly where each number on the way to it is. Sums over rows tell, so one test at the end of a chain is enough;
 -- a divisor does not, and has a test of its own.
-use Prim.Native.Nat.{ℕ, zero, suc, _+_}
+use Prim.Native.Nat.{ℕ, zero, suc, _+_, _-_}
 use mathlib.Core.Path.{_≡_, refl, sym, _∙_}
 use mathlib.Core.Bool.{Bool, true, false, _&&_}
 use mathlib.Core.List.{List}
@@ -12,7 +12,7 @@ use Rattle.fmath.proofs.Absorbing.{Fine, fine-add-left, fine-add-right, fine-su
 use Rattle.fmath.proofs.Each.{and-left, and-right}
 use Rattle.fmath.proofs.Told.{Tells, implied, sum-tells}
 use Rattle.tier1.specs.declared.Manifest.{Manifest}
-use Rattle.tier1.specs.Rule.{3!, 20!, stallPart, row, squared, rooted, sumRows, normal, gap, jolt, gaps, steps, jolts, stepLength, stallReach}
+use Rattle.tier1.specs.Rule.{3!, 20!, stallPart, row, _⊕_, _⊖_, _⊗_, _⊘_, squared, rooted, sumRows, normal, gap, jolt, gaps, steps, jolts, stepLength, stallReach}
 
 -- where the value is finite, so is each number on the way to it
 pub record Shows (x : Checked Float) : Type 0 where
