@@ -3,8 +3,8 @@
  * Every pointer is to memory of the caller's that nothing else writes during the call; what is written overlaps nothing
  * else that is passed, and no pointer is kept. A slice is a pointer to its first number and a count of numbers; the
  * pointer is not null and is aligned for a double also where the count is 0. An entry that can refuse returns the number of the refusal, 0
- * where it accepts; a refusal leaves every output as it was, save that a forecast refused with LICTOR_COMPUTED keeps the
- * entries before its place.
+ * where it accepts; a refusal leaves every output as it was, save that a forecast's sets its place and, with
+ * LICTOR_COMPUTED, keeps the entries before it.
  */
 #ifndef LICTOR_H
 #define LICTOR_H

@@ -1,4 +1,4 @@
-// Answers, put where C reads them: the number is returned, and a refusal leaves every place as it was.
+// Answers, put where C reads them: the number is returned, and a refusal leaves every place as it was, but for the place that a forecast names.
 ghost use mathlib.Core.Path.{_≡_};
 ghost use Rattle.lictor.specs.Answer.{fitting, NumberGiven, FilledGiven, MaskGiven, RecordedGiven, TrailNumberGiven, CountGiven, EmptinessGiven, DerivedGiven, CheckPut, ClearedGiven, ForecastPut, sentNumber, ScoredGiven, VerdictGiven, BinGiven};
 use brake::BrakeOut;

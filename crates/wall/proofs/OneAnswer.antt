@@ -1,4 +1,4 @@
--- One answer for each input: of every public function of modules 1 to 8 that the prover reads, two answers that meet its contract for the same
+-- One answer for each input: of every public function below the static library that the prover reads, two answers that meet its contract for the same
 -- arguments are the same, and so are two states of what it is lent to write. `Post` is the contract as the prover reads it.
 use mathlib.Core.Path.{_≡_, sym, _∙_}
 use Rattle.root.proofs.sqrt.Reads as root-sqrt
@@ -75,6 +75,37 @@ use Rattle.conformal.proofs.standardise.Reads as standardise
 use Rattle.conformal.proofs.aggregate.Reads as aggregate
 use Rattle.conformal.proofs.trip.Reads as trip
 use Rattle.conformal.proofs.time_bin.Reads as time-bin
+use Rattle.refusal.proofs.Refusal.of.Reads as refusal-of
+use Rattle.words.proofs.pair.Reads as pair
+use Rattle.words.proofs.word.Reads as word
+use Rattle.words.proofs.number.Reads as word-number
+use Rattle.words.proofs.pattern.Reads as pattern
+use Rattle.layout.proofs.config.settings_of.Reads as layout-settings-of
+use Rattle.layout.proofs.config.config_of.Reads as config-of
+use Rattle.layout.proofs.config.counts_fit.Reads as counts-fit
+use Rattle.layout.proofs.config.put_derived.Reads as layout-put-derived
+use Rattle.layout.proofs.chunks.header_fits.Reads as header-fits
+use Rattle.layout.proofs.chunks.chunk_of.Reads as chunk-of
+use Rattle.layout.proofs.chunks.put_header.Reads as put-header
+use Rattle.layout.proofs.chunks.put_chunk.Reads as put-chunk
+use Rattle.layout.proofs.states.state_fits.Reads as state-fits
+use Rattle.layout.proofs.states.state_of.Reads as state-of
+use Rattle.layout.proofs.states.put_held.Reads as put-held
+use Rattle.layout.proofs.trails.trail_fits.Reads as trail-fits
+use Rattle.layout.proofs.trails.trail_of.Reads as trail-of
+use Rattle.layout.proofs.trails.put_trail.Reads as put-trail
+use Rattle.layout.proofs.scores.marks_fit.Reads as marks-fit
+use Rattle.layout.proofs.scores.scores_of.Reads as scores-of
+use Rattle.layout.proofs.scores.put_scores.Reads as put-scores
+use Rattle.layout.proofs.places.to_u8.Reads as to-u8
+use Rattle.layout.proofs.places.to_u16.Reads as to-u16
+use Rattle.layout.proofs.places.to_u32.Reads as to-u32
+use Rattle.card.proofs.decode.Reads as decode
+use Rattle.card.proofs.configure.Reads as configure
+use Rattle.card.proofs.run.Reads as run
+use Rattle.card.proofs.answer_of.Reads as answer-of
+use Rattle.card.proofs.answer_block.Reads as answer-block
+use Rattle.sample.proofs.agrees.Reads as agrees
 
 -- an equation admits no second answer
 unique : {A : Type 0} {a b c : A} → a ≡ c → b ≡ c → a ≡ b
@@ -91,6 +122,10 @@ One {L} {A} {R} {E} Post told = (l : L) (a : A) (r s : R) (x y : E) → Post l a
 -- .. and so are the answer, and what was lent to be written
 abbrev OneWithLent : {L A R E B : Type 0} → (L → A → R → E → Type 0) → (E → B) → Type 0
 OneWithLent {L} {A} {R} {E} Post lent = (l : L) (a : A) (r s : R) (x y : E) → Post l a r x → Post l a s y → (r ≡ s) × (lent x ≡ lent y)
+
+-- .. and so are two buffers that are lent to be written
+abbrev BothLent : {L A R E B C : Type 0} → (L → A → R → E → Type 0) → (E → B) → (E → C) → Type 0
+BothLent {L} {A} {R} {E} Post first second = (l : L) (a : A) (r s : R) (x y : E) → Post l a r x → Post l a s y → (first x ≡ first y) × (second x ≡ second y)
 
 -- ---- root (module 1)
 
@@ -337,3 +372,106 @@ one-trip l a r s x y = unique
 
 pub one-time-bin : One time-bin.Post (λ r x. r)
 one-time-bin l a r s x y = unique
+
+-- ---- refusal
+
+pub one-refusal-of : One refusal-of.Post (λ r x. r)
+one-refusal-of l a r s x y = unique
+
+-- ---- words
+
+pub one-pair : One pair.Post (λ r x. r)
+one-pair l a r s x y = unique
+
+pub one-word : One word.Post (λ r x. r)
+one-word l a r s x y = unique
+
+pub one-word-number : One word-number.Post (λ r x. r)
+one-word-number l a r s x y = unique
+
+pub one-pattern : One pattern.Post (λ r x. r)
+one-pattern l a r s x y = unique
+
+-- ---- layout
+
+pub one-layout-settings-of : One layout-settings-of.Post (λ r x. r)
+one-layout-settings-of l a r s x y = unique
+
+pub one-config-of : One config-of.Post (λ r x. r)
+one-config-of l a r s x y = unique
+
+pub one-counts-fit : One counts-fit.Post (λ r x. r)
+one-counts-fit l a r s x y = unique
+
+pub one-layout-put-derived : One layout-put-derived.Post (λ r x. x .1 .0 .now)
+one-layout-put-derived l a r s x y = unique
+
+pub one-header-fits : One header-fits.Post (λ r x. r)
+one-header-fits l a r s x y = unique
+
+pub one-chunk-of : One chunk-of.Post (λ r x. r)
+one-chunk-of l a r s x y = unique
+
+pub one-put-header : One put-header.Post (λ r x. x .1 .1 .1 .1 .1 .1 .0 .now)
+one-put-header l a r s x y = unique
+
+pub one-put-chunk : BothLent put-chunk.Post (λ x. x .1 .0 .now) (λ x. x .1 .1 .0 .now)
+one-put-chunk l a r s x y = both
+
+pub one-state-fits : One state-fits.Post (λ r x. r)
+one-state-fits l a r s x y = unique
+
+pub one-state-of : One state-of.Post (λ r x. r)
+one-state-of l a r s x y = unique
+
+pub one-put-held : BothLent put-held.Post (λ x. x .1 .1 .1 .0 .now) (λ x. x .1 .1 .1 .1 .0 .now)
+one-put-held l a r s x y = both
+
+pub one-trail-fits : One trail-fits.Post (λ r x. r)
+one-trail-fits l a r s x y = unique
+
+pub one-trail-of : One trail-of.Post (λ r x. r)
+one-trail-of l a r s x y = unique
+
+pub one-put-trail : BothLent put-trail.Post (λ x. x .1 .0 .now) (λ x. x .1 .1 .0 .now)
+one-put-trail l a r s x y = both
+
+pub one-marks-fit : One marks-fit.Post (λ r x. r)
+one-marks-fit l a r s x y = unique
+
+pub one-scores-of : One scores-of.Post (λ r x. r)
+one-scores-of l a r s x y = unique
+
+pub one-put-scores : BothLent put-scores.Post (λ x. x .1 .0 .now) (λ x. x .1 .1 .0 .now)
+one-put-scores l a r s x y = both
+
+pub one-to-u8 : One to-u8.Post (λ r x. r)
+one-to-u8 l a r s x y = unique
+
+pub one-to-u16 : One to-u16.Post (λ r x. r)
+one-to-u16 l a r s x y = unique
+
+pub one-to-u32 : One to-u32.Post (λ r x. r)
+one-to-u32 l a r s x y = unique
+
+-- ---- card (the desk)
+
+pub one-decode : One decode.Post (λ r x. r)
+one-decode l a r s x y = unique
+
+pub one-configure : One configure.Post (λ r x. r)
+one-configure l a r s x y = unique
+
+pub one-run : OneWithLent run.Post (λ x. x .1 .0 .now)
+one-run l a r s x y = both
+
+pub one-answer-of : One answer-of.Post (λ r x. r)
+one-answer-of l a r s x y = unique
+
+pub one-answer-block : OneWithLent answer-block.Post (λ x. x .1 .1 .0 .now)
+one-answer-block l a r s x y p q = (unique (p .0) (q .0), unique (p .1) (q .1))
+
+-- ---- sample
+
+pub one-agrees : One agrees.Post (λ r x. r)
+one-agrees l a r s x y = unique
