@@ -215,6 +215,14 @@ fn a_copy_of_a_short_view() {
 }
 
 #[test]
+fn a_view_of_no_chunk() {
+    let buf = ChunkBuf { seq: 3, ..ChunkBuf::NEW };
+    assert!(oracle::view(&buf).is_none());
+    let seen = chunk::view(&buf);
+    assert_eq!((seen.seq, seen.horizon, seen.dim, seen.data.len()), (3, 0, 0, 0));
+}
+
+#[test]
 fn a_chunk_of_another_width() {
     let cfg = FuseConfig { armed: WORKSPACE, ..boxed(2) };
     assert_eq!(checked(&cfg, &[0.0, 0.0], &[], rows(1, &[0.0])), (0, refused(10)));
