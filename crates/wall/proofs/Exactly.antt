@@ -14,10 +14,10 @@ use Rattle.refusal.specs.Exactly.{First, here, later, exactly-first, exactly-no
 use Rattle.fmath.specs.Checked.{root}
 use Rattle.fmath.specs.Norm.{norm, dist}
 use Rattle.fmath.specs.Answer.{someNotFinite, numberOr, sqrtAnswer, normAnswer, distAnswer}
-use Rattle.chunk.specs.Refusals.{chunkReasons, lentReasons}
+use Rattle.chunk.specs.Refusals.{chunkReasons, lentReasons, heldReasons}
 use Rattle.chunk.specs.declared.ChunkBuf.{ChunkBuf}
 use Rattle.chunk.specs.declared.Filled.{Filled}
-use Rattle.chunk.specs.Of.{fillOf}
+use Rattle.chunk.specs.Of.{fillOf, heldRefusalOf}
 use Rattle.window.specs.declared.Trail.{Trail}
 use Rattle.window.specs.declared.Recorded.{Recorded}
 use Rattle.window.specs.Rule.{maskRefusal, net, path}
@@ -34,12 +34,12 @@ use Rattle.tier0.specs.Refusals as checks
 use Rattle.tier0.specs.Of.{lentToAction, lentToChunk, actionRuling, actionRefusal, actionAnswer, chunkRuling, chunkRefusal, chunkAnswer}
 use Rattle.tier1.specs.declared.Head.{Head}
 use Rattle.tier1.specs.declared.Tier1Rt.{Tier1Rt}
-use Rattle.tier1.specs.Refusals.{_or_, stateJudged}
+use Rattle.tier1.specs.Refusals.{_or_, none, prevJudged, stateJudged}
 use Rattle.tier1.specs.Of as tier1
 use Rattle.rollout.specs.Forecast.{Forecast, placeOf}
 use Rattle.brake.specs.declared.BrakeOut.the-variants as out
 use Rattle.brake.specs.Answer.{plan, lentJudged, rowLent, eachFinite, outcome, answerAt, sentAt, forecastRefusal, forecastAnswer, brakeSent, brakeRefusal, brakeAnswer, holdRefusal, holdAnswer}
-use Rattle.wall.specs.Numbers.{numberIn, maskedIn, countIn, emptinessIn, verdictIn, binIn, checkIn, forecastIn, sentIn}
+use Rattle.lictor.specs.Answer.{numberOf as numberIn, maskNumber, countNumber, emptinessNumber, verdictNumber, binNumber, checkNumber, forecastNumber, sentNumber}
 
 -- n is the number of a call to which these reasons apply
 abbrev pub Exactly : ℕ → (Reason → Bool) → Type 0
@@ -58,6 +58,7 @@ chosen told (suc k) a b p q = rw (ne-eqb (suc k) 0 (λ z. omega arith)) q
 -- ---- module 1
 
 number-told : (n : ℕ) (x : Float) → numberIn (numberOr n x) ≡ n
+unfolding numberIn
 number-told zero x = refl
 number-told (suc k) x = refl
 
@@ -72,14 +73,29 @@ dist-exactly f a b n = exactly _ (number-told _ _)
 
 -- ---- module 2
 
+pub chunk-refusal-exactly : (h d e n : ℕ) → Exactly (refusal (chunkReasons h d e n)) (among (chunkReasons h d e n))
+chunk-refusal-exactly h d e n = exactly _ refl
+
+pub held-refusal-exactly : (b : ChunkBuf) → Exactly (heldRefusalOf b) (prevJudged b)
+unfolding heldRefusalOf
+held-refusal-exactly b = exactly _ (go (b .filled))
+  where
+    held : List Judged
+    held = heldReasons (b .«data») (b .horizon) (b .dim) (b .«exec_steps»)
+
+    go : (filled : Bool) → (if filled then refusal held else 0) ≡ given (if filled then among held else none)
+    go true = refl
+    go false = refl
+
 pub fill-exactly : (b : ChunkBuf) (s t h d e : ℕ) (l : List Float) → Exactly (fillOf b s t h d e l .number) (among (lentReasons l h d e))
 unfolding fillOf
 fill-exactly b s t h d e l = exactly _ (chosen (λ (r : Filled). r .number) (refusal (lentReasons l h d e)) _ _ refl refl)
 
 -- ---- module 3
 
-pub mask-exactly : (n : ℕ) → Exactly (maskedIn (maskOf n)) (among (size when (ltb n 1 || ltb 63 n) ∷ []))
-mask-exactly n = exactly _ (chosen maskedIn (maskRefusal n) _ _ refl refl)
+pub mask-exactly : (n : ℕ) → Exactly (maskNumber (maskOf n)) (among (size when (ltb n 1 || ltb 63 n) ∷ []))
+unfolding maskNumber
+mask-exactly n = exactly _ (chosen maskNumber (maskRefusal n) _ _ refl refl)
 
 pub push-exactly : (t : Trail) (p : List Float) (d : ℕ) → Exactly (pushOf t p d .number) (among (size when outOfSize t ∷ notFinite when (unfit t || someNotFinite p) ∷ []))
 unfolding pushOf
@@ -97,13 +113,13 @@ pub path-exactly : (f : Format) (t : Trail) (d w : ℕ) → Exactly (numberIn (p
 unfolding pathOf
 path-exactly f t d w = exactly _ (number-told _ _)
 
-pub len-exactly : (t : Trail) → Exactly (countIn (countOf t)) (among (trailReasons t))
-unfolding countOf
-len-exactly t = exactly _ (chosen countIn (refusal (trailReasons t)) _ _ refl refl)
+pub len-exactly : (t : Trail) → Exactly (countNumber (countOf t)) (among (trailReasons t))
+unfolding countNumber countOf
+len-exactly t = exactly _ (chosen countNumber (refusal (trailReasons t)) _ _ refl refl)
 
-pub is-empty-exactly : (t : Trail) → Exactly (emptinessIn (emptinessOf t)) (among (trailReasons t))
-unfolding emptinessOf
-is-empty-exactly t = exactly _ (chosen emptinessIn (refusal (trailReasons t)) _ _ refl refl)
+pub is-empty-exactly : (t : Trail) → Exactly (emptinessNumber (emptinessOf t)) (among (trailReasons t))
+unfolding emptinessNumber emptinessOf
+is-empty-exactly t = exactly _ (chosen emptinessNumber (refusal (trailReasons t)) _ _ refl refl)
 
 -- ---- module 4
 
@@ -112,19 +128,20 @@ config-exactly c = exactly _ refl
 
 -- ---- module 5
 
-check-told : (n : ℕ) (j : Judgement) → checkIn (checks.answerAt n j) ≡ n
+check-told : (n : ℕ) (j : Judgement) → checkNumber (checks.answerAt n j) ≡ n
+unfolding checkNumber
 check-told zero j = refl
 check-told (suc k) j = refl
 
 pub check-action-exactly :
     (c : FuseConfig) (p aux prev a : List Float) (room : ℕ)
-    → Exactly (checkIn (actionAnswer c p aux prev a room)) (among (configJudged c ++ lentToAction c p aux prev a room ((computed when not (actionRuling c p aux prev a .sound)) ∷ [])))
+    → Exactly (checkNumber (actionAnswer c p aux prev a room)) (among (configJudged c ++ lentToAction c p aux prev a room ((computed when not (actionRuling c p aux prev a .sound)) ∷ [])))
 unfolding actionAnswer actionRefusal
 check-action-exactly c p aux prev a room = exactly _ (check-told _ _)
 
 pub check-chunk-exactly :
     (c : FuseConfig) (p aux rows : List Float) (h d e room : ℕ)
-    → Exactly (checkIn (chunkAnswer c p aux rows h d e room)) (among (configJudged c ++ (chunkReasons h d e (length rows) ++ lentToChunk c p aux rows h d e room ((computed when not (chunkRuling c p aux rows h d e .sound)) ∷ []))))
+    → Exactly (checkNumber (chunkAnswer c p aux rows h d e room)) (among (configJudged c ++ (chunkReasons h d e (length rows) ++ lentToChunk c p aux rows h d e room ((computed when not (chunkRuling c p aux rows h d e .sound)) ∷ []))))
 unfolding chunkAnswer chunkRefusal
 check-chunk-exactly c p aux rows h d e room = exactly _ (check-told _ _)
 
@@ -158,11 +175,11 @@ opposite : (b : Bool) {c : Bool} → not b ≡ c → b ≡ not c
 opposite true e = ap not e
 opposite false e = ap not e
 
-forecast-told : (t : Forecast) (n : ℕ) → (n ≡ 0 → not (eqb (placeOf t) 0) ≡ false) → (n ≡ 13 → not (eqb (placeOf t) 0) ≡ true) → forecastIn (answerAt n t) ≡ n
-unfolding outcome
+forecast-told : (t : Forecast) (n : ℕ) → (n ≡ 0 → not (eqb (placeOf t) 0) ≡ false) → (n ≡ 13 → not (eqb (placeOf t) 0) ≡ true) → forecastNumber (answerAt n t) ≡ n
+unfolding forecastNumber outcome
 forecast-told t n fine fails = go (eqb n 0) (eqb n 13) refl refl
   where
-    go : (z f : Bool) → eqb n 0 ≡ z → eqb n 13 ≡ f → forecastIn (if z || f then outcome t else out.Refused (refusedFor n)) ≡ n
+    go : (z f : Bool) → eqb n 0 ≡ z → eqb n 13 ≡ f → forecastNumber (if z || f then outcome t else out.Refused (refusedFor n)) ≡ n
     go true f a b = let e = eqb-true n 0 a in rw (opposite (eqb (placeOf t) 0) (fine e)) (sym e)
     go false true a b = let e = eqb-true n 13 b in rw (opposite (eqb (placeOf t) 0) (fails e)) (sym e)
     go false false a b = refl
@@ -171,24 +188,25 @@ module _ (c : FuseConfig) (p v rows : List Float) (h d e from room : ℕ) where
   abbrev forecastJudged : List Judged
   forecastJudged = configJudged c ++ (chunkReasons h d e (length rows) ++ (lentJudged c p v rows h d e from room ++ (computed when not (eqb (placeOf (plan c p v rows h d e from)) 0) ∷ [])))
 
-  pub brake-feasible-exactly : Exactly (forecastIn (forecastAnswer c p v rows h d e from room)) (among forecastJudged)
+  pub brake-feasible-exactly : Exactly (forecastNumber (forecastAnswer c p v rows h d e from room)) (among forecastJudged)
   unfolding forecastAnswer forecastRefusal
   brake-feasible-exactly =
       let none = exactly-none (among forecastJudged) .1 in
       let last = exactly-first (among forecastJudged) computed .1 in
       exactly _ (forecast-told (plan c p v rows h d e from) (refusal forecastJudged) (λ z. none z computed) (λ z. applied _ _ _ (last z)))
 
-sent-told : (n : ℕ) → sentIn (sentAt n) ≡ n
+sent-told : (n : ℕ) → sentNumber (sentAt n) ≡ n
+unfolding sentNumber
 sent-told zero = refl
 sent-told (suc k) = refl
 
 pub brake-action-exactly :
     (c : FuseConfig) (p v : List Float) (room : ℕ)
-    → Exactly (sentIn (brakeAnswer c p v room)) (among (configJudged c ++ (rowLent c (eachFinite p && eachFinite v) room ++ (computed when not (brakeSent c p v .sound) ∷ []))))
+    → Exactly (sentNumber (brakeAnswer c p v room)) (among (configJudged c ++ (rowLent c (eachFinite p && eachFinite v) room ++ (computed when not (brakeSent c p v .sound) ∷ []))))
 unfolding brakeAnswer brakeRefusal
 brake-action-exactly c p v room = exactly _ (sent-told _)
 
-pub hold-action-exactly : (c : FuseConfig) (p : List Float) (room : ℕ) → Exactly (sentIn (holdAnswer c p room)) (among (configJudged c ++ rowLent c (eachFinite p) room))
+pub hold-action-exactly : (c : FuseConfig) (p : List Float) (room : ℕ) → Exactly (sentNumber (holdAnswer c p room)) (among (configJudged c ++ rowLent c (eachFinite p) room))
 unfolding holdAnswer holdRefusal
 hold-action-exactly c p room = exactly _ (sent-told _)
 
@@ -210,10 +228,10 @@ pub aggregate-exactly : (cal : Calibration) (sc : Scores) → Exactly (aggregate
 unfolding aggregated judged
 aggregate-exactly cal sc = exactly _ refl
 
-pub trip-exactly : (cal : Calibration) (sc : Scores) → Exactly (verdictIn (tripped cal sc)) (among (scoresJudged cal sc true))
-unfolding tripped judged
-trip-exactly cal sc = exactly _ (chosen verdictIn (refusal (scoresJudged cal sc true)) _ _ refl refl)
+pub trip-exactly : (cal : Calibration) (sc : Scores) → Exactly (verdictNumber (tripped cal sc)) (among (scoresJudged cal sc true))
+unfolding verdictNumber tripped judged
+trip-exactly cal sc = exactly _ (chosen verdictNumber (refusal (scoresJudged cal sc true)) _ _ refl refl)
 
-pub time-bin-exactly : (t horizon : ℕ) → Exactly (binIn (timeBinOf t horizon)) (among (steps when eqb horizon 0 ∷ []))
-unfolding timeBinOf
-time-bin-exactly t horizon = exactly _ (chosen binIn (refusal (steps when eqb horizon 0 ∷ [])) _ _ refl refl)
+pub time-bin-exactly : (t horizon : ℕ) → Exactly (binNumber (timeBinOf t horizon)) (among (steps when eqb horizon 0 ∷ []))
+unfolding binNumber timeBinOf
+time-bin-exactly t horizon = exactly _ (chosen binNumber (refusal (steps when eqb horizon 0 ∷ [])) _ _ refl refl)

@@ -1,4 +1,5 @@
 pub mod Wall
 pub mod OneAnswer
+pub mod Exported
 pub mod Exactly
 pub mod Beliefs

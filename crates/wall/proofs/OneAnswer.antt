@@ -108,7 +108,7 @@ use Rattle.card.proofs.answer_block.Reads as answer-block
 use Rattle.sample.proofs.agrees.Reads as agrees
 
 -- an equation admits no second answer
-unique : {A : Type 0} {a b c : A} → a ≡ c → b ≡ c → a ≡ b
+pub unique : {A : Type 0} {a b c : A} → a ≡ c → b ≡ c → a ≡ b
 unique p q = p ∙ sym q
 
 -- .. nor do two

@@ -1,3 +1,2 @@
 pub mod Inputs
 pub mod Wall
-pub mod Numbers
