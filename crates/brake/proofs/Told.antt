@@ -7,6 +7,7 @@ use lib.Dec.{ltb}
 use lib.ListN.{length}
 use lib.Ieee.{Float, Format, add, sub, mul, div}
 use Rattle.refusal.specs.Order.{if_then_else_}
+use Rattle.fmath.specs.Constants.{1!, eps}
 use Rattle.fmath.specs.Each.{at}
 use Rattle.fmath.specs.Finite.{finite, +0}
 use Rattle.fmath.specs.Checked.{times, pure}
@@ -14,14 +15,14 @@ use Rattle.fmath.specs.Norm.{norm}
 use Rattle.fmath.proofs.Absorbing.{fine-add-left, fine-sub-right, fine-div-left}
 use Rattle.fmath.proofs.Each.{and-left, and-right}
 use Rattle.fmath.proofs.Told.{Tells, implied, norm-tells}
-use Rattle.brake.specs.Rule.{one, eps, ramp, scaledAt}
+use Rattle.brake.specs.Rule.{ramp, scaledAt}
 
 module _ (f : Format) (a dt : Float) (v : List Float) (n : ℕ) where
   abbrev pub most : Float
   most = add f (norm f v (min n (length v)) .value) eps
 
   abbrev pub left : Float
-  left = sub f one (div f (mul f a dt) most)
+  left = sub f 1! (div f (mul f a dt) most)
 
   pub ramp-tells : ramp f a dt v n .sound ≡ finite most && finite left
   unfolding ramp
@@ -30,8 +31,8 @@ module _ (f : Format) (a dt : Float) (v : List Float) (n : ℕ) where
       let loss = mul f a dt in
       let part = div f loss most in
       ap (λ (x : Bool). s .sound && (finite loss && (finite most && (finite part && x)))) (and-true (finite left))
-      ∙ ap (λ (x : Bool). s .sound && (finite loss && (finite most && x))) (implied (finite part) (finite left) (fine-sub-right f one part))
-      ∙ ap (λ (x : Bool). s .sound && x) (implied (finite loss) (finite most && finite left) (λ h. fine-div-left f loss most (fine-sub-right f one part (and-right (finite most) (finite left) h))))
+      ∙ ap (λ (x : Bool). s .sound && (finite loss && (finite most && x))) (implied (finite part) (finite left) (fine-sub-right f 1! part))
+      ∙ ap (λ (x : Bool). s .sound && x) (implied (finite loss) (finite most && finite left) (λ h. fine-div-left f loss most (fine-sub-right f 1! part (and-right (finite most) (finite left) h))))
       ∙ implied (s .sound) (finite most && finite left) (λ h. norm-tells f v (min n (length v)) ∙ fine-add-left f (s .value) eps (and-left (finite most) (finite left) h))
 
 pub scaled-tells : (f : Format) (k : Float) (v : List Float) (j : ℕ) → Tells (scaledAt f k v j)

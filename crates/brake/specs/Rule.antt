@@ -1,12 +1,11 @@
 -- Module 7 at a configuration: the forecast of its brake, and the rows that brake and hold send. Over the format.
 use Prim.Native.Nat.{ℕ, min}
-use mathlib.Core.Bool.{false}
 use mathlib.Core.List.{List}
 use lib.Dec.{ltb}
-use lib.IntN.{pos, negsuc}
 use lib.ListN.{length, getD, replicate}
-use lib.Ieee.{Float, Format, fin}
+use lib.Ieee.{Float, Format}
 use Rattle.refusal.specs.Order.{if_then_else_}
+use Rattle.fmath.specs.Constants.{1!, eps}
 use Rattle.fmath.specs.Each.{at, over}
 use Rattle.fmath.specs.Finite.{+0}
 use Rattle.fmath.specs.Least.{greater}
@@ -93,13 +92,6 @@ module _ (f : Format) (c : FuseConfig) (p v rows : List Float) (h d from : ℕ) 
 unfoldable pub setpoint : Walls → List Float → ℕ → List Float
 setpoint w p n = inward w (eight p 8) n
 
-abbrev pub one : Float
-one = fin false 1 (pos 0)
-
--- 1e-9, as a binary64
-abbrev pub eps : Float
-eps = fin false 4835703278458517 (negsuc 81)
-
 -- the part of the velocity that one step of braking leaves: max(0, 1 - a_max dt / (|v| + eps))
 unfoldable pub ramp : Format → Float → Float → List Float → ℕ → Checked Float
 ramp f a dt v n = do
@@ -107,7 +99,7 @@ ramp f a dt v n = do
   loss ← times f a dt
   most ← plus f s eps
   part ← divided f loss most
-  left ← minus f one part
+  left ← minus f 1! part
   pure (greater +0 left)
 
 -- coordinate j of the velocity times k, 0.0 where there is none

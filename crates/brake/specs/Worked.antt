@@ -4,8 +4,9 @@ use mathlib.Core.Bool.{true, false}
 use mathlib.Core.List.{[], _∷_}
 use lib.IntN.{pos}
 use lib.ListN.{replicate}
-use lib.Ieee.{Float, fin, binary64, round, add, sub, mul, div, lt, le, eq}
+use lib.Ieee.{fin, binary64, round, add, sub, mul, div, lt, le, eq}
 use Rattle.root.specs.Root.{floorRoot, nearRoot, half, rootExponent, scaled, number, rootOf}
+use Rattle.fmath.specs.Constants.{1!, 2! }
 use Rattle.fmath.specs.Each.{over}
 use Rattle.fmath.specs.Finite.{finite, +0}
 use Rattle.fmath.specs.Least.{greater, clamped}
@@ -13,26 +14,23 @@ use Rattle.fmath.specs.Checked.{sumFrom, each, pure}
 use Rattle.fmath.specs.Norm.{squareAt, norm}
 use Rattle.envelope.specs.declared.ActionKind.the-variants.{EePosition, EeDelta, JointVelocity}
 use Rattle.workspace.specs.Rule.{Walls, inward}
-use Rattle.brake.specs.Rule.{eight, one, setpoint, ramp, scaledAt, slowed, slower, shorter, brakeRow, holdRow}
-
-abbrev two : Float
-two = fin false 1 (pos 1)
+use Rattle.brake.specs.Rule.{eight, setpoint, ramp, scaledAt, slowed, slower, shorter, brakeRow, holdRow}
 
 abbrev walls : Walls
-walls = record { lo = fin true 1 (pos 0) ∷ fin true 1 (pos 0) ∷ []; hi = two ∷ two ∷ [] }
+walls = record { lo = fin true 1 (pos 0) ∷ fin true 1 (pos 0) ∷ []; hi = 2! ∷ 2! ∷ [] }
 
-sent-to-the-wall : holdRow EePosition walls (fin false 5 (pos 0) ∷ []) 2 ≡ two ∷ replicate 7 +0
+sent-to-the-wall : holdRow EePosition walls (fin false 5 (pos 0) ∷ []) 2 ≡ 2! ∷ replicate 7 +0
 unfolding holdRow setpoint eight inward over clamped lt
 sent-to-the-wall = refl
 
-braked-like-held : brakeRow binary64 EePosition one one walls (fin false 5 (pos 0) ∷ []) [] 2 ≡ pure (two ∷ replicate 7 +0)
+braked-like-held : brakeRow binary64 EePosition 1! 1! walls (fin false 5 (pos 0) ∷ []) [] 2 ≡ pure (2! ∷ replicate 7 +0)
 unfolding brakeRow setpoint eight inward over clamped lt
 braked-like-held = refl
 
-stops : brakeRow binary64 JointVelocity two one walls [] (one ∷ []) 2 ≡ pure (replicate 8 +0)
+stops : brakeRow binary64 JointVelocity 2! 1! walls [] (1! ∷ []) 2 ≡ pure (replicate 8 +0)
 unfolding brakeRow slower ramp slowed scaledAt each norm squareAt sumFrom rootOf nearRoot floorRoot scaled rootExponent half number greater round lt le eq add sub mul div finite
 stops = refl
 
-stops-in-place : brakeRow binary64 EeDelta two one walls [] (one ∷ []) 2 ≡ pure (replicate 8 +0)
+stops-in-place : brakeRow binary64 EeDelta 2! 1! walls [] (1! ∷ []) 2 ≡ pure (replicate 8 +0)
 unfolding brakeRow shorter ramp slowed scaledAt each norm squareAt sumFrom rootOf nearRoot floorRoot scaled rootExponent half number greater round lt le eq add sub mul div finite
 stops-in-place = refl

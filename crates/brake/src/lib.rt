@@ -56,12 +56,6 @@ struct Row {
     sound: bool,
 }
 
-fn lesser(a: usize, b: usize) -> usize
-    ensures { λ r. ⌜ r ≡ min a b ⌝ }
-{
-    if a < b { a } else { b }
-}
-
 fn or_zero(l: &[f64], j: usize) -> f64
     ensures { λ r. ⌜ r ≡ getD (now (l .entry)) j +0 ⌝ }
 {
@@ -97,7 +91,7 @@ fn workspace_of(c: FuseConfig) -> Workspace
 fn course_of(c: FuseConfig, horizon: u16, dim: u16, from: usize) -> Course
     ensures { λ r. ⌜ r ≡ courseFor c horizon dim from ⌝ }
 {
-    let live = lesser(c.dim, c.pos_dim);
+    let live = fmath::fewer(c.dim, c.pos_dim);
     let model = c.brake;
     let commit = model.commit;
     let brake = model.brake_steps;
@@ -133,7 +127,7 @@ fn start_of(c: FuseConfig, pos: &[f64], vel: &[f64]) -> Plant
     requires { ⌜ c .dim ≤ 8 ⌝ }
     ensures { λ r. ⌜ r ≡ startFor c (now (pos .entry)) (now (vel .entry)) ⌝ }
 {
-    let n = lesser(c.dim, c.pos_dim);
+    let n = fmath::fewer(c.dim, c.pos_dim);
     let p = eight(pos, n);
     let v = eight(vel, n);
     Plant { p, v }
@@ -355,7 +349,7 @@ fn setpoint(w: Workspace, pos: &[f64], n: usize) -> [f64; 8]
 fn ramp(a_max: f64, dt: f64, vel: &[f64], n: usize) -> Reckoned
     ensures { λ r. ⌜ r ≡ rolled.reckonedFrom (ramp binary64 «a_max» dt (now (vel .entry)) n) ⌝ }
 {
-    let s = fmath::magnitude(vel, lesser(n, vel.len()));
+    let s = fmath::magnitude(vel, fmath::fewer(n, vel.len()));
     let most = s + 1e-9;
     let left = 1.0 - a_max * dt / most;
     let value = fmath::max(0.0, left);

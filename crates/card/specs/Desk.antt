@@ -6,9 +6,9 @@ use lib.Dec.{eqb}
 use lib.ListN.{replicate}
 use lib.Ieee.{Float, binary64, ofBits, toBits}
 use Rattle.refusal.specs.Order.{if_then_else_}
+use Rattle.fmath.specs.Constants.{1! }
 use Rattle.fmath.specs.Finite.{+0}
 use Rattle.conformal.specs.declared.Calibration.{Calibration}
-use Rattle.envelope.specs.Derive.{one}
 use Rattle.envelope.specs.declared.ActionKind.the-variants.{EePosition}
 use Rattle.envelope.specs.declared.ClampMode.the-variants.{Off}
 use Rattle.envelope.specs.declared.BrakeKind.the-variants.{PdSecondOrder}
@@ -32,18 +32,18 @@ num b = ofBits binary64 b
 
 unfoldable pub calibrationOf : Calibration
 calibrationOf = record {
-  center = replicate 192 one;
-  scale = replicate 192 one;
+  center = replicate 192 1!;
+  scale = replicate 192 1!;
   mask = 0;
   gate = record { «n_terms» = 0; terms = replicate 8 0 };
-  tau = one;
+  tau = 1!;
 }
 
 unfoldable pub limitsOf : Limits
-limitsOf = record { dt = one; «v_max» = one; «a_max» = one; «j_max» = one; «reach_max» = one; margin = +0 }
+limitsOf = record { dt = 1!; «v_max» = 1!; «a_max» = 1!; «j_max» = 1!; «reach_max» = 1!; margin = +0 }
 
 unfoldable pub normOf : Norm
-normOf = record { center = replicate 8 one; scale = replicate 8 one }
+normOf = record { center = replicate 8 1!; scale = replicate 8 1! }
 
 unfoldable pub wallsOf : Card → Box
 wallsOf c = record { lo = replicate 8 (num (c .lo)); hi = replicate 8 (num (c .hi)) }

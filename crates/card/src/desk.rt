@@ -2,7 +2,7 @@
 ghost use mathlib.Core.Path.{_≡_};
 ghost use Prim.Native.Nat.{_-_};
 ghost use lib.ListN.{length, replicate};
-ghost use Rattle.envelope.specs.Derive.{one};
+ghost use Rattle.fmath.specs.Constants.{1! };
 ghost use Rattle.card.specs.Desk.{calibrationOf, brakeOf, wallsOf, limitsOf, normOf, configOf, outcomeOf, slacksOf, countOf, answerFor};
 use crate::record::Card;
 use brake::BrakeOut;
@@ -34,7 +34,7 @@ pub struct Answer {
 // ---- the configuration
 
 fn table() -> [f64; 192]
-    ensures { λ r. ⌜ r ≡ replicate 192 one ⌝ }
+    ensures { λ r. ⌜ r ≡ replicate 192 1! ⌝ }
 {
     [1.0; 192]
 }

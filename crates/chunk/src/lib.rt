@@ -189,13 +189,6 @@ impl ChunkBuf {
     }
 }
 
-// The lesser of two indices.
-fn lesser(a: usize, b: usize) -> usize
-    ensures { λ r. ⌜ r ≡ min a b ⌝ }
-{
-    if a < b { a } else { b }
-}
-
 // Row i as a part of the rows, the last row at or past the horizon; empty where there are no rows or it runs past the data.
 fn row_of(data: &[f64], horizon: u16, dim: u16, i: usize) -> &[f64]
     ensures { λ r. ⌜ now r ≡ rowOf (now («data» .entry)) horizon dim i ⌝ }
@@ -205,7 +198,7 @@ fn row_of(data: &[f64], horizon: u16, dim: u16, i: usize) -> &[f64]
     if h == 0 {
         return &data[..0];
     }
-    let start = lesser(i, h - 1) * d;
+    let start = fmath::fewer(i, h - 1) * d;
     let end = start + d;
     if end <= data.len() {
         &data[start..end]
@@ -223,7 +216,7 @@ pub fn row_mut(data: &mut [f64], horizon: u16, dim: u16, i: usize) -> &mut [f64]
     if h == 0 {
         return &mut data[..0];
     }
-    let start = lesser(i, h - 1) * d;
+    let start = fmath::fewer(i, h - 1) * d;
     let end = start + d;
     if end <= data.len() {
         return &mut data[start..end];
@@ -240,11 +233,11 @@ pub fn set_row(data: &mut [f64], horizon: u16, dim: u16, i: usize, row: &[f64])
     if h == 0 {
         return;
     }
-    let start = lesser(i, h - 1) * d;
+    let start = fmath::fewer(i, h - 1) * d;
     if data.len() < start + d {
         return;
     }
-    let n = lesser(d, row.len());
+    let n = fmath::fewer(d, row.len());
     let mut c = 0;
     while c < n {
         data[start + c] = row[c];

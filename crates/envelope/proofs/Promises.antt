@@ -8,11 +8,12 @@ use borrow.Author.Tests.{ltb-true}
 use lib.Dec.{ltb}
 use lib.Ieee.{Float, Format, binary64, add, sub, div}
 use Rattle.refusal.specs.Order.{refusal}
+use Rattle.fmath.specs.Constants.{1! }
 use Rattle.fmath.specs.Each.{at, all, every, table}
 use Rattle.fmath.specs.Finite.{finite, aboveZero, allFinite, allAboveZero}
 use Rattle.fmath.specs.Least.{least}
 use Rattle.conformal.specs.declared.Calibration.{Calibration}
-use Rattle.envelope.specs.Derive.{one, kept, lowWalls, highWalls, inverses, isotropic, derivedFrom, derived}
+use Rattle.envelope.specs.Derive.{kept, lowWalls, highWalls, inverses, isotropic, derivedFrom, derived}
 use Rattle.envelope.specs.Refusals.{sizesOk, numbersOk, countsOk, stepsOk, normOk, boxOk, configJudged}
 use Rattle.envelope.specs.declared.FuseConfig.{FuseConfig}
 use Rattle.envelope.specs.declared.BrakeModel.{BrakeModel}
@@ -124,7 +125,7 @@ module _ (c : FuseConfig) (n : Norm) (w : Box) (scales : Agree (c .dim) (n .scal
   unread-past f =
       let lo-same = kept-each (w .lo) (c .walls .lo) (c .«pos_dim») lows (λ (x : Float). add f x (c .limits .margin)) in
       let hi-same = kept-each (w .hi) (c .walls .hi) (c .«pos_dim») highs (λ (x : Float). sub f x (c .limits .margin)) in
-      let inv-same = kept-each (n .scale) (c .norm .scale) (c .dim) scales (div f one) in
+      let inv-same = kept-each (n .scale) (c .norm .scale) (c .dim) scales (div f 1!) in
       rw (lo-same, hi-same, inv-same, least-each (n .scale) (c .norm .scale) (c .dim) scales)
 
   -- .. and unjudged

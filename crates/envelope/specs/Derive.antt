@@ -1,11 +1,11 @@
 -- What document 01's module 4 derives from a configuration, over the format, in the source's operation order.
 use Prim.Native.Nat.{ℕ, min}
-use mathlib.Core.Bool.{Bool, false}
+use mathlib.Core.Bool.{Bool}
 use mathlib.Core.List.{List}
 use lib.Dec.{ltb}
-use lib.IntN.{pos}
-use lib.Ieee.{Float, Format, fin, add, sub, mul, div}
+use lib.Ieee.{Float, Format, add, sub, mul, div}
 use Rattle.refusal.specs.Order.{if_then_else_}
+use Rattle.fmath.specs.Constants.{1! }
 use Rattle.fmath.specs.Each.{at, table}
 use Rattle.fmath.specs.Finite.{+0}
 use Rattle.fmath.specs.Least.{least}
@@ -15,9 +15,6 @@ use Rattle.envelope.specs.declared.Box.{Box}
 use Rattle.envelope.specs.declared.Derived.{Derived}
 use Rattle.envelope.specs.declared.FuseConfig.{FuseConfig}
 
-abbrev pub one : Float
-one = fin false 1 (pos 0)
-
 -- x where a test holds, else 0.0
 abbrev pub kept : Bool → Float → Float
 kept t x = if t then x else +0
@@ -26,7 +23,7 @@ kept t x = if t then x else +0
 
 -- 1 / dt, and its second and third power
 unfoldable pub invDt : Format → Float → Float
-invDt f dt = div f one dt
+invDt f dt = div f 1! dt
 
 unfoldable pub invDt2 : Format → Float → Float
 invDt2 f dt = mul f (invDt f dt) (invDt f dt)
@@ -50,7 +47,7 @@ highWalls f hi margin n = table (λ (i : ℕ). kept (ltb i n) (sub f (at hi i) m
 
 -- 1 / scale on the first n coordinates, 0.0 past them
 unfoldable pub inverses : Format → List Float → ℕ → List Float
-inverses f scale n = table (λ (i : ℕ). kept (ltb i n) (div f one (at scale i))) 8
+inverses f scale n = table (λ (i : ℕ). kept (ltb i n) (div f 1! (at scale i))) 8
 
 -- the least of the first n scales
 unfoldable pub isotropic : List Float → ℕ → Float

@@ -1,6 +1,9 @@
 // The only float helpers on the decision path: tests, least, greatest, clamp, root, norm and dist.
+ghost use Prim.Native.Nat.{min};
 ghost use mathlib.Core.Path.{_≡_};
+ghost use lib.ListN.{length};
 ghost use lib.Ieee.{binary64};
+ghost use Rattle.fmath.specs.Each.{at, over};
 ghost use Rattle.fmath.specs.Norm.{norm, dist};
 ghost use Rattle.fmath.specs.Answer.{sqrtAnswer, normAnswer, distAnswer};
 ghost use Rattle.fmath.specs.Finite.{finite, aboveZero, notBelowZero, allFinite, allAboveZero};
@@ -68,6 +71,26 @@ pub fn all_above_zero(v: &[f64], n: usize) -> bool
         i += 1;
     }
     above & real
+}
+
+// The lesser of two counts.
+pub fn fewer(a: usize, b: usize) -> usize
+    ensures { λ r. ⌜ r ≡ min a b ⌝ }
+{
+    if b < a { b } else { a }
+}
+
+// Writes the first n numbers of from over the first of out, as many as both have; the rest of out stays.
+pub fn put(from: &[f64], n: usize, out: &mut [f64])
+    ensures { λ _. ⌜ now (out .exit) ≡ over (at (now (from .entry))) (now (out .entry)) (min n (min (length (now (from .entry))) (length (now (out .entry))))) ⌝ }
+{
+    let there = fewer(from.len(), out.len());
+    let count = fewer(n, there);
+    let mut i = 0;
+    while i < count {
+        out[i] = from[i];
+        i += 1;
+    }
 }
 
 // The first where it is strictly less, else the second.

@@ -7,6 +7,7 @@ use native.Mathlib.Omega.{arith}
 use borrow.Author.Count.{below-more}
 use lib.ListN.{length, set}
 use lib.Ieee.{Float, Format, add, sub, mul, div}
+use Rattle.fmath.specs.Constants.{2! }
 use Rattle.fmath.specs.Finite.{finite}
 use Rattle.fmath.specs.Each.{at, all, over}
 use Rattle.fmath.specs.Checked.{Checked, each, sumFrom}
@@ -19,20 +20,20 @@ use Rattle.envelope.specs.declared.ActionKind.the-variants.{EePosition, EeDelta
 use Rattle.envelope.specs.declared.BrakeKind.{BrakeKind}
 use Rattle.rollout.specs.Plant.{State}
 use Rattle.stopping.specs.declared.Arm.{Arm}
-use Rattle.stopping.specs.Rule.{two, ramp, ease, glide, radius, commanded, command, moved, stopDistance}
+use Rattle.stopping.specs.Rule.{ramp, ease, glide, radius, commanded, command, moved, stopDistance}
 
 module _ (f : Format) where
   -- a quotient tells of its numerator
   over-tells : (x y : Float) → finite x && (finite y && finite (div f x y)) ≡ finite y && finite (div f x y)
   over-tells x y = implied _ _ (λ h. fine-div-left f x y (and-right (finite y) (finite (div f x y)) h))
 
-  pub ramp-tells : (a s : Float) → ramp f a s .sound ≡ finite (mul f two a) && finite (ramp f a s .value)
+  pub ramp-tells : (a s : Float) → ramp f a s .sound ≡ finite (mul f 2! a) && finite (ramp f a s .value)
   unfolding ramp
-  ramp-tells a s = over-tells (mul f s s) (mul f two a)
+  ramp-tells a s = over-tells (mul f s s) (mul f 2! a)
 
-  pub ease-tells : (a j s : Float) → ease f a j s .sound ≡ finite (mul f two j) && finite (ease f a j s .value)
+  pub ease-tells : (a j s : Float) → ease f a j s .sound ≡ finite (mul f 2! j) && finite (ease f a j s .value)
   unfolding ease
-  ease-tells a j s = over-tells (mul f s a) (mul f two j)
+  ease-tells a j s = over-tells (mul f s a) (mul f 2! j)
 
   pub radius-tells : (b : BrakeKind) (a j wait : Float) (v : List Float) (n : ℕ)
       → radius f b a j wait v n .sound ≡ glide f b a j (norm f v n .value) .sound && finite (radius f b a j wait v n .value)

@@ -1,9 +1,9 @@
 -- The closed kinds of brake (document 01, module 7): the stopping radius at the start and at each committed row, and the slack that it leaves. Over the format.
 use Prim.Native.Nat.{ℕ, zero, suc, _+_, _-_}
-use mathlib.Core.Bool.{false}
 use mathlib.Core.List.{List}
 use lib.IntN.{pos}
-use lib.Ieee.{Float, Format, fin, ofInt}
+use lib.Ieee.{Float, Format, ofInt}
+use Rattle.fmath.specs.Constants.{2! }
 use Rattle.fmath.specs.Each.{at}
 use Rattle.fmath.specs.Finite.{+0}
 use Rattle.fmath.specs.Checked.{Checked, _>>=_, pure, plus, minus, times, divided, each}
@@ -41,9 +41,6 @@ rowsLeft t = t .commit - t .from
 abbrev pub rowAt : Task → ℕ → List Float
 rowAt t k = rowOf (t .rows) (t .horizon) (t .dim) (t .from + k)
 
-abbrev pub two : Float
-two = fin false 1 (pos 1)
-
 -- k_p / k_v
 unfoldable pub ratio : Format → BrakeKind → Checked Float
 ratio f (PdSecondOrder kp kv dt) = divided f kp kv
@@ -56,14 +53,14 @@ ratio f (ZeroVelocityHold kp kv dt) = divided f kp kv
 unfoldable pub ramp : Format → Float → Float → Checked Float
 ramp f a s = do
   square ← times f s s
-  twice ← times f two a
+  twice ← times f 2! a
   divided f square twice
 
 -- s a / (2 j)
 unfoldable pub ease : Format → Float → Float → Float → Checked Float
 ease f a j s = do
   product ← times f s a
-  twice ← times f two j
+  twice ← times f 2! j
   divided f product twice
 
 -- how far the arm travels from speed s while it brakes

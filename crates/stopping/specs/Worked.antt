@@ -3,8 +3,9 @@ use mathlib.Core.Path.{_≡_, refl}
 use mathlib.Core.Bool.{true, false}
 use mathlib.Core.List.{[], _∷_}
 use lib.IntN.{pos, negsuc}
-use lib.Ieee.{Float, fin, binary64, round, ofInt, add, sub, mul, div, lt, le, eq}
+use lib.Ieee.{fin, binary64, round, ofInt, add, sub, mul, div, lt, le, eq}
 use Rattle.root.specs.Root.{floorRoot, nearRoot, half, rootExponent, scaled, number, rootOf}
+use Rattle.fmath.specs.Constants.{1! }
 use Rattle.fmath.specs.Each.{all, over, table}
 use Rattle.fmath.specs.Finite.{finite, +0}
 use Rattle.fmath.specs.Least.{lesser, least}
@@ -17,16 +18,13 @@ use Rattle.workspace.specs.Rule.{betweenWithin, slackWithin}
 use Rattle.rollout.specs.Forecast.{slackAt, reach, placeOf, marginOf, feasibleOf}
 use Rattle.stopping.specs.Rule.{Task, ratio, ramp, glide, radius, commanded, command, moved, step, reaction, after, entry, stopDistance, forecast}
 
-abbrev one : Float
-one = fin false 1 (pos 0)
-
 abbrev sample : Task
 sample = record {
-  arm = record { kind = JointVelocity; brake = BoundedAccel one one one; dt = one; «a_max» = one; «j_max» = one };
+  arm = record { kind = JointVelocity; brake = BoundedAccel 1! 1! 1!; dt = 1!; «a_max» = 1!; «j_max» = 1! };
   react = 1;
   walls = record { lo = fin true 1 (pos 2) ∷ []; hi = fin false 1 (pos 2) ∷ [] };
   n = 1;
-  start = record { p = +0 ∷ []; v = one ∷ [] };
+  start = record { p = +0 ∷ []; v = 1! ∷ [] };
   rows = fin false 1 (pos 1) ∷ [];
   horizon = 1;
   dim = 1;

@@ -4,10 +4,10 @@ use mathlib.Core.Bool.{Bool, false, _&&_}
 use mathlib.Core.List.{List}
 use lib.Bits.{bitOr}
 use lib.Dec.{eqb}
-use lib.IntN.{pos}
 use lib.ListN.{drop, set, replicate}
-use lib.Ieee.{Float, Format, fin, lt}
+use lib.Ieee.{Float, Format, lt}
 use Rattle.refusal.specs.Order.{if_then_else_}
+use Rattle.fmath.specs.Constants.{2!, 3! }
 use Rattle.fmath.specs.Each.{at, all, some, over}
 use Rattle.fmath.specs.Finite.{+0}
 use Rattle.fmath.specs.Checked.{Checked, _>>=_, pure, plus, minus, times, each}
@@ -53,12 +53,6 @@ someOutOfBox s rows h = some (λ (i : ℕ). outOfBox s (rawRow rows (s .dim) i))
 -- a checked test holds somewhere below n; each is evaluated
 unfoldable pub someOf : (ℕ → Checked Bool) → ℕ → Checked Bool
 someOf g n = record { value = some (λ (i : ℕ). g i .value) n; sound = all (λ (i : ℕ). g i .sound) n }
-
-abbrev 2! : Float
-2! = fin false 1 (pos 1)
-
-abbrev 3! : Float
-3! = fin false 3 (pos 0)
 
 -- next - 2 here + before
 unfoldable pub bend : Format → Float → Float → Float → Checked Float

@@ -6,6 +6,7 @@ use lib.IntN.{pos, negsuc}
 use lib.ListN.{replicate}
 use lib.Ieee.{Float, binary64, fin, add, sub, mul, div, lt, ne}
 use Rattle.root.specs.Root.{rootOf, number, rootExponent, half, nearRoot, floorRoot, scaled}
+use Rattle.fmath.specs.Constants.{1! }
 use Rattle.fmath.specs.Each.{over}
 use Rattle.fmath.specs.Finite.{finite, +0}
 use Rattle.fmath.specs.Checked.{Checked, sumFrom, each}
@@ -14,9 +15,6 @@ use Rattle.envelope.specs.declared.ClampMode.the-variants.{Project}
 use Rattle.envelope.specs.declared.Contact.the-variants.{None}
 use Rattle.tier0.specs.declared.Checks.{Checks}
 use Rattle.tier0.specs.Rule.{SPEED, arms, slowZone, outOfBox, outOfReach, tripBits, toward, shortened, pulled, boxed, leashed, reached, moves, held, moved, project, projection, Judgement, checkAction}
-
-abbrev 1! : Float
-1! = fin false 1 (pos 0)
 
 -- one coordinate, SPEED alone armed, step 1.5
 abbrev line : Checks

@@ -8,6 +8,7 @@ use native.Mathlib.Omega.{arith}
 use lib.IntN.{pos}
 use lib.Ieee.{Float, Format, add, sub, div, neg, ofInt}
 use Rattle.root.specs.Root.{rootOf}
+use Rattle.fmath.specs.Constants.{1!, eps}
 use Rattle.fmath.specs.Finite.{finite, +0}
 use Rattle.fmath.specs.Checked.{Checked, pure, sumFrom}
 use Rattle.fmath.specs.Least.{lesser, greater}
@@ -20,7 +21,7 @@ use Rattle.window.proofs.TrailTold.{net-tells, path-tells}
 use Rattle.tier1.specs.declared.Manifest.{Manifest}
 use Rattle.tier1.specs.declared.Feature.{Feature}
 use Rattle.tier1.specs.declared.Pair.{Pair}
-use Rattle.tier1.specs.Rule.{1!, eps, shared, _⊕_, _⊘_, sumRows, gaps, steps, jolts, stepLength, tce, acc, acmNeg, njr, reach, startRow, peak, speedPeak, netLength, pathLength, pathIneff, stallReach, stall, ifThere}
+use Rattle.tier1.specs.Rule.{shared, _⊕_, _⊘_, sumRows, gaps, steps, jolts, stepLength, tce, acc, acmNeg, njr, reach, startRow, peak, speedPeak, netLength, pathLength, pathIneff, stallReach, stall, ifThere}
 use Rattle.tier1.specs.Of.{featureFrom, pairFrom}
 use Rattle.tier1.proofs.Tells.{Shows, Tell, shown, pure-shows, finite-neg, plus-tells, rooted-tells, over-tells, over-given-tells, gaps-tell, jolts-tell, lengths-tell, stall-reach-tells}
 

@@ -5,6 +5,7 @@ use mathlib.Core.Path.{_≡_, refl, sym, _∙_}
 use mathlib.Core.Bool.{Bool, true, false, _&&_}
 use mathlib.Core.List.{List}
 use lib.Ieee.{Float, Format, nan, inf, fin, neg}
+use Rattle.fmath.specs.Constants.{3!}
 use Rattle.fmath.specs.Each.{at}
 use Rattle.fmath.specs.Finite.{finite, +0}
 use Rattle.fmath.specs.Checked.{Checked, pure, sumFrom}
@@ -12,7 +13,7 @@ use Rattle.fmath.proofs.Absorbing.{Fine, fine-add-left, fine-add-right, fine-su
 use Rattle.fmath.proofs.Each.{and-left, and-right}
 use Rattle.fmath.proofs.Told.{Tells, implied, sum-tells}
 use Rattle.tier1.specs.declared.Manifest.{Manifest}
-use Rattle.tier1.specs.Rule.{3!, 20!, stallPart, row, _⊕_, _⊖_, _⊗_, _⊘_, squared, rooted, sumRows, normal, gap, jolt, gaps, steps, jolts, stepLength, stallReach}
+use Rattle.tier1.specs.Rule.{20!, stallPart, row, _⊕_, _⊖_, _⊗_, _⊘_, squared, rooted, sumRows, normal, gap, jolt, gaps, steps, jolts, stepLength, stallReach}
 
 -- where the value is finite, so is each number on the way to it
 pub record Shows (x : Checked Float) : Type 0 where

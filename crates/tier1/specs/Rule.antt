@@ -7,6 +7,7 @@ use lib.IntN.{pos, negsuc}
 use lib.ListN.{length, getD, drop, replicate}
 use lib.Ieee.{Float, Format, fin, neg, ofInt}
 use Rattle.refusal.specs.Order.{if_then_else_}
+use Rattle.fmath.specs.Constants.{1!, 3!, eps}
 use Rattle.fmath.specs.Each.{at, all, table, over}
 use Rattle.fmath.specs.Finite.{+0}
 use Rattle.fmath.specs.Checked.{Checked, _>>=_, pure, plus, minus, times, divided, root, sumFrom}
@@ -19,19 +20,10 @@ use Rattle.envelope.specs.Derive.{kept}
 use Rattle.tier1.specs.declared.Manifest.{Manifest}
 use Rattle.tier1.specs.declared.Kept.{Kept}
 
--- 1, 3 and 20, and the source's floats 1e-9 and 0.05, which `Worked` gives by their bits
-abbrev pub 1! : Float
-1! = fin false 1 (pos 0)
-
-abbrev pub 3! : Float
-3! = fin false 3 (pos 0)
-
 abbrev pub 20! : Float
 20! = fin false 5 (pos 2)
 
-abbrev pub eps : Float
-eps = fin false 0x112e0be826d695 (negsuc 81)
-
+-- 0.05, which `Worked` gives by its bits
 abbrev pub stallPart : Float
 stallPart = fin false 0xccccccccccccd (negsuc 55)
 

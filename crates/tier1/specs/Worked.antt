@@ -6,6 +6,7 @@ use mathlib.Core.List.{List, [], _∷_}
 use lib.IntN.{pos, negsuc}
 use lib.Ieee.{Float, binary64, fin, neg, add, sub, mul, div, lt, ofInt, ofBits, ofFields, odd}
 use Rattle.root.specs.Root.{rootOf, number, rootExponent, half, nearRoot, floorRoot, scaled}
+use Rattle.fmath.specs.Constants.{1!, 2!, 3!}
 use Rattle.fmath.specs.Each.{all, over, table}
 use Rattle.fmath.specs.Finite.{finite, +0}
 use Rattle.fmath.specs.Checked.{sumFrom}
@@ -14,13 +15,9 @@ use Rattle.fmath.specs.Norm.{squaredGap, dist}
 use Rattle.window.specs.Rule.{net, path, step}
 use Rattle.conformal.specs.Bits.{bit, bitsWhere}
 use Rattle.tier1.specs.declared.Manifest.{Manifest}
-use Rattle.tier1.specs.Rule.{1!, 3!, 20!, eps, stallPart, sumRows, normal, gap, jolt, tce, acc, stepLength, acmNeg, njr, reach, startRow, stride, peak, speedPeak, netLength, pathLength, pathIneff, stallReach, stall, overlap, boundary, boundaryBits, moving, validAt, valueAt, twelve}
+use Rattle.tier1.specs.Rule.{20!, stallPart, sumRows, normal, gap, jolt, tce, acc, stepLength, acmNeg, njr, reach, startRow, stride, peak, speedPeak, netLength, pathLength, pathIneff, stallReach, stall, overlap, boundary, boundaryBits, moving, validAt, valueAt, twelve}
 
 -- the constants by their bits
-pub eps-bits : ofBits binary64 0x3e112e0be826d695 ≡ eps
-unfolding ofBits ofFields odd
-eps-bits = refl
-
 pub stall-part-bits : ofBits binary64 0x3fa999999999999a ≡ stallPart
 unfolding ofBits ofFields odd
 stall-part-bits = refl
@@ -28,9 +25,6 @@ stall-part-bits = refl
 pub twenty-bits : ofBits binary64 0x4034000000000000 ≡ 20!
 unfolding ofBits ofFields odd
 twenty-bits = refl
-
-abbrev 2! : Float
-2! = fin false 1 (pos 1)
 
 abbrev 4! : Float
 4! = fin false 1 (pos 2)

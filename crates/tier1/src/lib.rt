@@ -153,13 +153,6 @@ fn count(n: usize) -> f64
     k as f64
 }
 
-// The lesser of two counts.
-fn lesser(a: usize, b: usize) -> usize
-    ensures { λ r. ⌜ r ≡ min a b ⌝ }
-{
-    if a < b { a } else { b }
-}
-
 // How many rows a new chunk, emitted at t with h rows of d numbers, shares with the one before.
 fn overlap(k: Kept, t: u32, h: usize, d: usize) -> usize
     ensures { λ r. ⌜ r ≡ overlap k t h d ⌝ }
@@ -171,7 +164,7 @@ fn overlap(k: Kept, t: u32, h: usize, d: usize) -> usize
     if k.horizon < s {
         return 0;
     }
-    lesser(k.horizon - s, h)
+    fmath::fewer(k.horizon - s, h)
 }
 
 // ---- sums over rows
@@ -287,7 +280,7 @@ fn step_lengths(m: Manifest, b: &[f64], n: usize) -> f64
 fn shared(m: Manifest, len: usize) -> usize
     ensures { λ r. ⌜ r ≡ min (min (m .dim) (m .«pos_dim»)) len ⌝ }
 {
-    lesser(lesser(m.dim, m.pos_dim), len)
+    fmath::fewer(fmath::fewer(m.dim, m.pos_dim), len)
 }
 
 // What stands before row 0: the position on the shared coordinates, row 0 itself on the others.

@@ -6,6 +6,7 @@ use lib.ListN.{replicate}
 use lib.Ieee.{Float, binary64, toBits}
 use Rattle.refusal.specs.Order.{if_then_else_}
 use Rattle.refusal.specs.declared.Refusal.{Refusal}
+use Rattle.fmath.specs.Constants.{1! as one}
 use Rattle.fmath.specs.Finite.{+0}
 use Rattle.fmath.specs.Answer.{sqrtAnswer}
 use Rattle.fmath.specs.declared.Number.{Number}
@@ -18,7 +19,6 @@ use Rattle.conformal.specs.declared.Calibration.{Calibration}
 use Rattle.conformal.specs.declared.Scores.{Scores}
 use Rattle.conformal.specs.declared.Verdict.{Verdict}
 use Rattle.conformal.specs.declared.Verdict.the-variants as verdict
-use Rattle.envelope.specs.Derive.{one}
 use Rattle.envelope.specs.declared.ActionKind.the-variants.{EePosition}
 use Rattle.envelope.specs.declared.ClampMode.the-variants.{Project}
 use Rattle.envelope.specs.declared.Contact.the-variants.{None}

@@ -101,13 +101,6 @@ impl Window {
     }
 }
 
-// The lesser of two counts.
-fn lesser(a: usize, b: usize) -> usize
-    ensures { λ r. ⌜ r ≡ min a b ⌝ }
-{
-    if a < b { a } else { b }
-}
-
 // The ring's numbers with the first n of p written from a place on.
 fn stored(buf: [f64; 256], at: usize, p: &[f64], n: usize) -> [f64; 256]
     requires { ⌜ (at + n ≤ 256) × (n ≤ length (now p)) ⌝ }
@@ -139,7 +132,7 @@ fn between(buf: &[f64], head: u8, j: usize, k: usize, d: usize) -> f64
     let b = slot_back(head, k) * 8;
     let a_end = a + 8;
     let b_end = b + 8;
-    fmath::distance(&buf[a..a_end], &buf[b..b_end], lesser(d, 8))
+    fmath::distance(&buf[a..a_end], &buf[b..b_end], fmath::fewer(d, 8))
 }
 
 // The straight line across the last w samples.
@@ -243,7 +236,7 @@ impl Trail {
         requires { ⌜ (self .head < 32) × (self .len ≤ 32) ⌝ }
         ensures { λ r. ⌜ r ≡ recordedOf self (now (p .entry)) d ⌝ }
     {
-        let n = lesser(lesser(d, 8), p.len());
+        let n = fmath::fewer(fmath::fewer(d, 8), p.len());
         let old = self.buf;
         let buf = stored(old, (self.head as usize) * 8, p, n);
         let head = (self.head + 1) % 32;

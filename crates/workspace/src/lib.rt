@@ -21,17 +21,11 @@ pub struct Distance {
     pub sound: bool,
 }
 
-fn lesser(a: usize, b: usize) -> usize
-    ensures { λ r. ⌜ r ≡ min a b ⌝ }
-{
-    if a < b { a } else { b }
-}
-
 // One of the first n coordinates lies strictly beyond a wall.
 pub fn outside(w: Workspace, a: &[f64], n: usize) -> bool
     ensures { λ r. ⌜ r ≡ outside (wallsOf w) (now (a .entry)) n ⌝ }
 {
-    let m = lesser(n, lesser(a.len(), 8));
+    let m = fmath::fewer(n, fmath::fewer(a.len(), 8));
     let mut out = false;
     let mut j = 0;
     while j < m {
@@ -45,7 +39,7 @@ pub fn outside(w: Workspace, a: &[f64], n: usize) -> bool
 pub fn inward(w: Workspace, a: [f64; 8], n: usize) -> [f64; 8]
     ensures { λ r. ⌜ r ≡ inward (wallsOf w) a n ⌝ }
 {
-    let m = lesser(n, 8);
+    let m = fmath::fewer(n, 8);
     let mut r = a;
     let mut j = 0;
     while j < m {

@@ -11,8 +11,8 @@ use borrow.Author.Needs.{needs}
 use Rattle.brake.proofs.ramp.Statement.{statement}
 use Rattle.brake.proofs.ramp.Tie as tie
 
-lesser-requires : tie.Need-lesser-requires
-lesser-requires c κs = search needs
+fewer-requires : tie.Need-fewer-requires
+fewer-requires c κs = search needs
 
 magnitude-requires : tie.Need-magnitude-requires
 magnitude-requires c κs = search needs
@@ -30,14 +30,14 @@ returns : tie.Need-returns
 unfolding ramp ofBits
 returns c =
     let s = c .before .before .before .before .before .before .args in
-    let m : c .before .before .before .magnitude .result ≡ norm binary64 (now (s .vel)) (min (s .n) (length (now (s .vel)))) .value = rw (← c .before .before .before .before .lesser .ensures) (c .before .before .before .magnitude .ensures) in
+    let m : c .before .before .before .magnitude .result ≡ norm binary64 (now (s .vel)) (min (s .n) (length (now (s .vel)))) .value = rw (← c .before .before .before .before .fewer .ensures) (c .before .before .before .magnitude .ensures) in
     rw (c .finite2 .ensures, c .before .finite .ensures, c .before .before .max .ensures, m, ramp-tells binary64 (s .a-max) (s .dt) (now (s .vel)) (s .n))
 
 pub ramp-spec : {M : Type 1} → statement M
 ramp-spec =
     tie.close
     (tie.spec
-    lesser-requires
+    fewer-requires
     magnitude-requires
     max-requires
     finite-requires

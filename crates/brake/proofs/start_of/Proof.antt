@@ -3,8 +3,8 @@ use borrow.Author.Needs.{needs}
 use Rattle.brake.proofs.start_of.Statement.{statement}
 use Rattle.brake.proofs.start_of.Tie as tie
 
-lesser-requires : tie.Need-lesser-requires
-lesser-requires c κs = search needs
+fewer-requires : tie.Need-fewer-requires
+fewer-requires c κs = search needs
 
 eight-requires : tie.Need-eight-requires
 eight-requires c κs = search needs
@@ -13,7 +13,7 @@ eight-requires-2 : tie.Need-eight-requires-2
 eight-requires-2 c κs = search needs
 
 returns : tie.Need-returns
-returns c = rw (c .eight2 .ensures, c .before .eight .ensures, c .before .before .lesser .ensures)
+returns c = rw (c .eight2 .ensures, c .before .eight .ensures, c .before .before .fewer .ensures)
 
 pub start-of-spec : {M : Type 1} → statement M
-start-of-spec = tie.close (tie.spec lesser-requires eight-requires eight-requires-2 returns)
+start-of-spec = tie.close (tie.spec fewer-requires eight-requires eight-requires-2 returns)

@@ -14,17 +14,17 @@ slice-aggregate-result c = search needs
 returns : tie.Need-returns
 returns c = empty-without-rows _ _ _ _ (c .before .if1 .taken)
 
-sub-lesser : tie.Need-sub-lesser
-sub-lesser c = search needs
+sub-fewer : tie.Need-sub-fewer
+sub-fewer c = search needs
 
-lesser-requires : tie.Need-lesser-requires
-lesser-requires c κs = search needs
+fewer-requires : tie.Need-fewer-requires
+fewer-requires c κs = search needs
 
 mul-start : tie.Need-mul-start
-mul-start c = record { fits = lt-of-le-of-lt (le-of-lt (place-small {k = c .lesser .result} (search needs) (search needs))) (search needs) }
+mul-start c = record { fits = lt-of-le-of-lt (le-of-lt (place-small {k = c .fewer .result} (search needs) (search needs))) (search needs) }
 
 add-end : tie.Need-add-end
-add-end c = omega (arith, place-small {k = c .lesser .result} {d = c .before .before .before .args .dim} (search needs) (search needs))
+add-end c = omega (arith, place-small {k = c .fewer .result} {d = c .before .before .before .args .dim} (search needs) (search needs))
 
 mul-data : tie.Need-mul-data
 mul-data c = search needs
@@ -41,7 +41,7 @@ part-data-end c = search needs
 returns-2 : tie.Need-returns-2
 returns-2 c =
     let a = c .before .before .before .before .before .args in
-    part-is-row (a .«data» .now) (a .horizon) (a .dim) (a .i) _ (c .before .before .before .if1 .left) (ap (λ (k : ℕ). k * a .dim) (c .before .before .lesser .ensures)) (c .before .if2 .taken)
+    part-is-row (a .«data» .now) (a .horizon) (a .dim) (a .i) _ (c .before .before .before .if1 .left) (ap (λ (k : ℕ). k * a .dim) (c .before .before .fewer .ensures)) (c .before .if2 .taken)
 
 slice-aggregate-result-2 : tie.Need-slice-aggregate-result-2
 slice-aggregate-result-2 c = search needs
@@ -49,7 +49,7 @@ slice-aggregate-result-2 c = search needs
 returns-3 : tie.Need-returns-3
 returns-3 c =
     let a = c .before .before .before .before .before .args in
-    empty-past (a .«data» .now) (a .horizon) (a .dim) (a .i) _ (c .before .before .before .if1 .left) (ap (λ (k : ℕ). k * a .dim) (c .before .before .lesser .ensures)) (c .before .if2 .left)
+    empty-past (a .«data» .now) (a .horizon) (a .dim) (a .i) _ (c .before .before .before .if1 .left) (ap (λ (k : ℕ). k * a .dim) (c .before .before .fewer .ensures)) (c .before .if2 .left)
 
 pub row-mut-spec : {M : Type 1} → statement M
 row-mut-spec =
@@ -57,8 +57,8 @@ row-mut-spec =
     (tie.spec
     slice-aggregate-result
     returns
-    sub-lesser
-    lesser-requires
+    sub-fewer
+    fewer-requires
     mul-start
     add-end
     mul-data

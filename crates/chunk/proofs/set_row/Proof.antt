@@ -20,30 +20,30 @@ abbrev μ-loop : tie.MeasureT-loop
 returns : tie.Need-returns Inv-loop μ-loop
 returns c = let a = c .before .before .before .args in kept-without-rows (a .«data» .now) (a .horizon) (a .dim) (a .i) (a .row .now) (c .if1 .taken)
 
-sub-lesser : tie.Need-sub-lesser Inv-loop μ-loop
-sub-lesser c = search needs
+sub-fewer : tie.Need-sub-fewer Inv-loop μ-loop
+sub-fewer c = search needs
 
-lesser-requires : tie.Need-lesser-requires Inv-loop μ-loop
-lesser-requires c κs = search needs
+fewer-requires : tie.Need-fewer-requires Inv-loop μ-loop
+fewer-requires c κs = search needs
 
 mul-start : tie.Need-mul-start Inv-loop μ-loop
-mul-start c = record { fits = lt-of-le-of-lt (le-of-lt (place-small {k = c .lesser .result} (search needs) (search needs))) (search needs) }
+mul-start c = record { fits = lt-of-le-of-lt (le-of-lt (place-small {k = c .fewer .result} (search needs) (search needs))) (search needs) }
 
 add-if2 : tie.Need-add-if2 Inv-loop μ-loop
-add-if2 c = omega (arith, place-small {k = c .lesser .result} {d = c .before .before .before .before .args .dim} (search needs) (search needs))
+add-if2 c = omega (arith, place-small {k = c .fewer .result} {d = c .before .before .before .before .args .dim} (search needs) (search needs))
 
 returns-2 : tie.Need-returns-2 Inv-loop μ-loop
 returns-2 c =
     let a = c .before .before .before .before .before .args in
-    kept-past (a .«data» .now) (a .horizon) (a .dim) (a .i) (a .row .now) _ (c .before .before .if1 .left) (ap (λ (k : ℕ). k * a .dim) (c .before .lesser .ensures)) (c .if2 .taken)
+    kept-past (a .«data» .now) (a .horizon) (a .dim) (a .i) (a .row .now) _ (c .before .before .if1 .left) (ap (λ (k : ℕ). k * a .dim) (c .before .fewer .ensures)) (c .if2 .taken)
 
-lesser-requires-2 : tie.Need-lesser-requires-2 Inv-loop μ-loop
-lesser-requires-2 c κs = search needs
+fewer-requires-2 : tie.Need-fewer-requires-2 Inv-loop μ-loop
+fewer-requires-2 c κs = search needs
 
 loop-holds : tie.Need-loop-holds Inv-loop μ-loop
 loop-holds c =
     let a = c .before .before .before .before .before .before .args in
-    (search needs, refl, paste-zero (a .«data» .now) (c .before .before .lesser .result * a .dim) (a .row .now))
+    (search needs, refl, paste-zero (a .«data» .now) (c .before .before .fewer .result * a .dim) (a .row .now))
 
 mul-data : tie.Need-mul-data Inv-loop μ-loop
 mul-data c = omega arith
@@ -71,7 +71,7 @@ loop-again c =
     let a = c .before .before .before .before .before .before .before .before .before .args in (
       omega arith,
       simp length-set (c .before .before .loop .inv .1),
-      copy-more (a .«data» .now) _ (a .row .now) (c .before .before .before .before .before .lesser .result * a .dim) (c .before .before .loop .c) (omega arith) (omega arith) (c .before .before .loop .inv .2),
+      copy-more (a .«data» .now) _ (a .row .now) (c .before .before .before .before .before .fewer .result * a .dim) (c .before .before .loop .c) (omega arith) (omega arith) (c .before .before .loop .inv .2),
     )
 
 same-length : tie.Need-same-length Inv-loop μ-loop
@@ -80,9 +80,9 @@ same-length c = c .before .loop .inv .1
 returns-3 : tie.Need-returns-3 Inv-loop μ-loop
 returns-3 c =
     let a = c .before .before .before .before .before .before .before .before .args in
-    let all : c .before .loop .c ≡ c .before .before .lesser2 .result = omega arith in
+    let all : c .before .loop .c ≡ c .before .before .fewer2 .result = omega arith in
     rw all at (c .before .loop .inv .2)
-    ∙ written-row (a .«data» .now) (a .horizon) (a .dim) (a .i) (a .row .now) _ _ (c .before .before .before .before .before .if1 .left) (ap (λ (k : ℕ). k * a .dim) (c .before .before .before .before .lesser .ensures)) (c .before .before .before .if2 .left) (c .before .before .lesser2 .ensures)
+    ∙ written-row (a .«data» .now) (a .horizon) (a .dim) (a .i) (a .row .now) _ _ (c .before .before .before .before .before .if1 .left) (ap (λ (k : ℕ). k * a .dim) (c .before .before .before .before .fewer .ensures)) (c .before .before .before .if2 .left) (c .before .before .fewer2 .ensures)
 
 pub set-row-spec : {M : Type 1} → statement M
 set-row-spec =
@@ -91,12 +91,12 @@ set-row-spec =
     Inv-loop
     μ-loop
     returns
-    sub-lesser
-    lesser-requires
+    sub-fewer
+    fewer-requires
     mul-start
     add-if2
     returns-2
-    lesser-requires-2
+    fewer-requires-2
     loop-holds
     mul-data
     shared-slice-read-data

@@ -6,14 +6,15 @@ use borrow.Author.Needs.{needs}
 use lib.Dec.{ltb}
 use lib.ListN.{length, take, length-set}
 use lib.Ieee.{binary64, div, ofBits}
+use Rattle.fmath.specs.Constants.{1! }
 use Rattle.fmath.specs.Each.{at, table}
 use Rattle.fmath.proofs.Each.{table-more, table-all}
-use Rattle.envelope.specs.Derive.{one, kept, inverses}
+use Rattle.envelope.specs.Derive.{kept, inverses}
 use Rattle.envelope.proofs.inverses.Statement.{statement}
 use Rattle.envelope.proofs.inverses.Tie as tie
 
 abbrev Inv-loop : tie.InvT-loop
-Inv-loop scale n inv₀ i₀ inv i = (i ≤ 8) × ((length inv ≡ 8) × (take i inv ≡ table (λ (k : ℕ). kept (ltb k n) (div binary64 one (at scale k))) i))
+Inv-loop scale n inv₀ i₀ inv i = (i ≤ 8) × ((length inv ≡ 8) × (take i inv ≡ table (λ (k : ℕ). kept (ltb k n) (div binary64 1! (at scale k))) i))
 
 abbrev μ-loop : tie.MeasureT-loop
 μ-loop scale n inv₀ i₀ inv i = 8 - i

@@ -17,11 +17,11 @@ cast-s c = search needs
 returns-2 : tie.Need-returns-2
 returns-2 c = let g = c .before .before .before .before .before .before .before .args in all-past (g .k) (g .t) (g .h) (g .d) (not-false _ (c .before .before .before .if1 .left)) (c .if2 .taken)
 
-lesser-requires : tie.Need-lesser-requires
-lesser-requires c κs = search needs
+fewer-requires : tie.Need-fewer-requires
+fewer-requires c κs = search needs
 
 returns-3 : tie.Need-returns-3
-returns-3 c = let g = c .before .before .before .before .before .before .before .before .before .args in shares (g .k) (g .t) (g .h) (g .d) (not-false _ (c .before .before .before .before .before .if1 .left)) (c .lesser .ensures)
+returns-3 c = let g = c .before .before .before .before .before .before .before .before .before .args in shares (g .k) (g .t) (g .h) (g .d) (not-false _ (c .before .before .before .before .before .if1 .left)) (c .fewer .ensures)
 
 pub overlap-spec : {M : Type 1} → statement M
-overlap-spec = tie.close (tie.spec returns sub-s cast-s returns-2 lesser-requires returns-3)
+overlap-spec = tie.close (tie.spec returns sub-s cast-s returns-2 fewer-requires returns-3)

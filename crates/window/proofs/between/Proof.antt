@@ -59,8 +59,8 @@ part-distance-start-2 c = search needs
 part-distance-end-2 : tie.Need-part-distance-end-2
 part-distance-end-2 c = search needs
 
-lesser-requires : tie.Need-lesser-requires
-lesser-requires c κs = search needs
+fewer-requires : tie.Need-fewer-requires
+fewer-requires c κs = search needs
 
 distance-requires : tie.Need-distance-requires
 distance-requires c κs = search needs
@@ -68,7 +68,7 @@ distance-requires c κs = search needs
 returns : tie.Need-returns
 returns c =
     let a = c .before .before .before .before .before .before .before .args in
-    c .distance .ensures ∙ samples (a .buf .now) _ _ _ _ _ _ (c .before .before .before .before .before .slot-back .ensures) (c .before .before .before .before .slot-back2 .ensures) (c .before .lesser .ensures)
+    c .distance .ensures ∙ samples (a .buf .now) _ _ _ _ _ _ (c .before .before .before .before .before .slot-back .ensures) (c .before .before .before .before .slot-back2 .ensures) (c .before .fewer .ensures)
 
 pub between-spec : {M : Type 1} → statement M
 between-spec =
@@ -88,6 +88,6 @@ between-spec =
     sub-distance-2
     part-distance-start-2
     part-distance-end-2
-    lesser-requires
+    fewer-requires
     distance-requires
     returns)

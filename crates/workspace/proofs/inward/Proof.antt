@@ -17,12 +17,12 @@ Inv-loop n w a m r₀ j₀ r j = (j ≤ m) × (m ≤ 8) × (r ≡ over (λ (i : 
 abbrev μ-loop : tie.MeasureT-loop
 μ-loop n w a m r₀ j₀ r j = m - j
 
-lesser-requires : tie.Need-lesser-requires Inv-loop μ-loop
-lesser-requires c κs = search needs
+fewer-requires : tie.Need-fewer-requires Inv-loop μ-loop
+fewer-requires c κs = search needs
 
 loop-holds : tie.Need-loop-holds Inv-loop μ-loop
 unfolding over
-loop-holds c = (omega arith, omega (arith, c .lesser .ensures), refl)
+loop-holds c = (omega arith, omega (arith, c .fewer .ensures), refl)
 
 mul-clamp : tie.Need-mul-clamp Inv-loop μ-loop
 mul-clamp c = search needs
@@ -67,7 +67,7 @@ returns : tie.Need-returns Inv-loop μ-loop
 returns c =
     let l = c .before .loop in
     let s = c .before .before .before .args in
-    let e : l .j ≡ min (s .n) 8 = omega (arith, c .before .before .lesser .ensures) in
+    let e : l .j ≡ min (s .n) 8 = omega (arith, c .before .before .fewer .ensures) in
     l .inv .2 ∙ ap (over (λ (i : ℕ). clamped (at (s .t2) i) (at (s .t1 .lo) i) (at (s .t1 .hi) i)) (s .t2)) e ∙ sym (inward-cut (wallsOf (s .t1)) (s .t2) (s .n) (search needs))
 
 pub inward-spec : {M : Type 1} → statement M
@@ -76,7 +76,7 @@ inward-spec =
     (tie.spec
     Inv-loop
     μ-loop
-    lesser-requires
+    fewer-requires
     loop-holds
     mul-clamp
     array-read-clamp

@@ -19,15 +19,15 @@ Inv-loop a n w m out₀ j₀ out j = (j ≤ m) × (m ≤ length a) × (m ≤ 8) 
 abbrev μ-loop : tie.MeasureT-loop
 μ-loop a n w m out₀ j₀ out j = m - j
 
-lesser-requires : tie.Need-lesser-requires Inv-loop μ-loop
-lesser-requires c κs = search needs
+fewer-requires : tie.Need-fewer-requires Inv-loop μ-loop
+fewer-requires c κs = search needs
 
-lesser-requires-2 : tie.Need-lesser-requires-2 Inv-loop μ-loop
-lesser-requires-2 c κs = search needs
+fewer-requires-2 : tie.Need-fewer-requires-2 Inv-loop μ-loop
+fewer-requires-2 c κs = search needs
 
 loop-holds : tie.Need-loop-holds Inv-loop μ-loop
 unfolding some
-loop-holds c = (omega arith, omega (arith, c .lesser2 .ensures, c .before .lesser .ensures), omega (arith, c .lesser2 .ensures, c .before .lesser .ensures), refl)
+loop-holds c = (omega arith, omega (arith, c .fewer2 .ensures, c .before .fewer .ensures), omega (arith, c .fewer2 .ensures, c .before .fewer .ensures), refl)
 
 mul-out : tie.Need-mul-out Inv-loop μ-loop
 mul-out c = search needs
@@ -69,7 +69,7 @@ returns : tie.Need-returns Inv-loop μ-loop
 returns c =
     let l = c .before .loop in
     let s = c .before .before .before .before .before .args in
-    let e : l .j ≡ min (s .n) (min (length (now (s .a))) 8) = omega (arith, c .before .before .lesser2 .ensures, c .before .before .before .lesser .ensures) in
+    let e : l .j ≡ min (s .n) (min (length (now (s .a))) 8) = omega (arith, c .before .before .fewer2 .ensures, c .before .before .before .fewer .ensures) in
     l .inv .3 ∙ ap (some (beyond (wallsOf (s .t1)) (now (s .a)))) e ∙ sym (outside-cut (wallsOf (s .t1)) (now (s .a)) (s .n) (search needs) (search needs))
 
 pub outside-spec : {M : Type 1} → statement M
@@ -78,8 +78,8 @@ outside-spec =
     (tie.spec
     Inv-loop
     μ-loop
-    lesser-requires
-    lesser-requires-2
+    fewer-requires
+    fewer-requires-2
     loop-holds
     mul-out
     shared-slice-read-out

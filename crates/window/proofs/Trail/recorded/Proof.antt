@@ -22,11 +22,11 @@ grows n h = omega arith
 full : (n : ℕ) → 32 ≤ n → 32 ≡ min (n + 1) 32
 full n h = omega arith
 
-lesser-requires : tie.Need-lesser-requires
-lesser-requires c κs = search needs
+fewer-requires : tie.Need-fewer-requires
+fewer-requires c κs = search needs
 
-lesser-requires-2 : tie.Need-lesser-requires-2
-lesser-requires-2 c κs = search needs
+fewer-requires-2 : tie.Need-fewer-requires-2
+fewer-requires-2 c κs = search needs
 
 cast-stored : tie.Need-cast-stored
 cast-stored c = search needs
@@ -46,19 +46,19 @@ add-t12 c = search needs
 returns : tie.Need-returns
 returns c =
     let a = c .before .before .before .before .before .before .before .before .before .before .args in
-    made (a .self) (a .p .now) (a .d) _ _ _ _ (c .before .before .before .before .stored .ensures) (c .before .before .before .before .before .before .before .lesser2 .ensures) (c .before .before .before .before .before .before .before .before .lesser .ensures) (grows (a .self .len) (c .before .if1 .taken))
+    made (a .self) (a .p .now) (a .d) _ _ _ _ (c .before .before .before .before .stored .ensures) (c .before .before .before .before .before .before .before .fewer2 .ensures) (c .before .before .before .before .before .before .before .before .fewer .ensures) (grows (a .self .len) (c .before .if1 .taken))
 
 returns-2 : tie.Need-returns-2
 returns-2 c =
     let a = c .before .before .before .before .before .before .before .before .before .args in
-    made (a .self) (a .p .now) (a .d) _ _ _ _ (c .before .before .before .stored .ensures) (c .before .before .before .before .before .before .lesser2 .ensures) (c .before .before .before .before .before .before .before .lesser .ensures) (full (a .self .len) (c .if1 .left))
+    made (a .self) (a .p .now) (a .d) _ _ _ _ (c .before .before .before .stored .ensures) (c .before .before .before .before .before .before .fewer2 .ensures) (c .before .before .before .before .before .before .before .fewer .ensures) (full (a .self .len) (c .if1 .left))
 
 pub recorded-spec : {M : Type 1} → statement M
 recorded-spec =
     tie.close
     (tie.spec
-    lesser-requires
-    lesser-requires-2
+    fewer-requires
+    fewer-requires-2
     cast-stored
     mul-stored
     stored-requires
