@@ -71,7 +71,7 @@ module _ (applies : Reason → Bool) where
   exactly-first k = (first-given, given-first order k)
 
   -- none of some reasons applies
-  abbrev NoneOf : List Reason → Type 0
+  abbrev pub NoneOf : List Reason → Type 0
   NoneOf [] = Unit
   NoneOf (k ∷ l) = (applies k ≡ false) × NoneOf l
 
@@ -83,9 +83,13 @@ module _ (applies : Reason → Bool) where
       go true a h on = absurd (not-zero j (sym h))
       go false a h on = (a, on h)
 
-  none-zero : (l : List Reason) → ((k : Reason) → applies k ≡ false) → firstOf applies l ≡ 0
+  pub none-zero : (l : List Reason) → NoneOf l → firstOf applies l ≡ 0
   none-zero [] h = refl
-  none-zero (k ∷ l) h = rw (h k) (none-zero l h)
+  none-zero (k ∷ l) h = rw (h .0) (none-zero l (h .1))
+
+  each-of : (l : List Reason) → ((k : Reason) → applies k ≡ false) → NoneOf l
+  each-of [] h = tt
+  each-of (k ∷ l) h = (h k, each-of l h)
 
   judged : NoneOf order → (k : Reason) → applies k ≡ false
   judged h size = h .0
@@ -105,4 +109,4 @@ module _ (applies : Reason → Bool) where
 
   -- 0 is given exactly when no reason applies
   pub exactly-none : (((k : Reason) → applies k ≡ false) → given applies ≡ 0) × (given applies ≡ 0 → (k : Reason) → applies k ≡ false)
-  exactly-none = (none-zero order, λ e. judged (zero-none order e))
+  exactly-none = (λ h. none-zero order (each-of order h), λ e. judged (zero-none order e))

@@ -1,6 +1,6 @@
 -- The refusals of document 01's table: their numbers, the order in which they are judged, and the answer, the first that applies.
 use Prim.Native.Nat.{ℕ}
-use mathlib.Core.Bool.{Bool, true, false}
+use mathlib.Core.Bool.{Bool, true, false, _||_}
 use mathlib.Core.List.{List, [], _∷_}
 use lib.Dec.{eqb}
 use Rattle.refusal.specs.declared.Refusal.{Refusal}
@@ -60,6 +60,19 @@ among ((r when b) ∷ l) k = if eqb (numberOf r) (numberOf k) then b else among 
 -- the number that an entry gives, from what it judges, in whatever order it lists it
 abbrev pub refusal : List Judged → ℕ
 refusal l = given (among l)
+
+-- a reason applies where it does to either of two
+infixr 20 _or_
+abbrev pub _or_ : (Reason → Bool) → (Reason → Bool) → Reason → Bool
+_or_ p q k = p k || q k
+
+-- the reason that a number stands for
+abbrev pub named : ℕ → Reason → Bool
+named n k = eqb n (numberOf k)
+
+-- of two numbers the one that is judged first; 0 where neither stands for a reason
+abbrev pub earlier : ℕ → ℕ → ℕ
+earlier a b = given (named a or named b)
 
 -- a refusal without a place
 abbrev pub refusedFor : ℕ → Refusal

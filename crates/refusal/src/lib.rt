@@ -1,6 +1,6 @@
 // Why a call is refused: a number of document 01's table and, for a computed number that isn't finite, its place.
 ghost use mathlib.Core.Path.{_≡_};
-ghost use Rattle.refusal.specs.Order.{refusedFor};
+ghost use Rattle.refusal.specs.Order.{earlier, refusedFor};
 
 pub struct Refusal {
     pub number: u8,
@@ -41,5 +41,39 @@ impl Refusal {
         ensures { λ r. ⌜ r ≡ refusedFor number ⌝ }
     {
         Refusal { number, place: 0 }
+    }
+
+    // Of two numbers the one that is judged first, where 0 and what is no number of the table count as none.
+    pub fn earlier(a: u8, b: u8) -> u8
+        ensures { λ r. ⌜ r ≡ earlier a b ⌝ }
+    {
+        if (a == 0) & (b == 0) {
+            return 0;
+        }
+        let order = [
+            Refusal::SIZE,
+            Refusal::NUMBER,
+            Refusal::STEPS,
+            Refusal::CHANNELS,
+            Refusal::EMPTY,
+            Refusal::TOO_LONG,
+            Refusal::TOO_WIDE,
+            Refusal::EXEC_EXCEEDS_HORIZON,
+            Refusal::LEN_MISMATCH,
+            Refusal::WIDTH,
+            Refusal::SHORT,
+            Refusal::NOT_FINITE,
+            Refusal::COMPUTED,
+            Refusal::LEFTOVER,
+        ];
+        let mut i = 0usize;
+        while i < 14 {
+            let n = order[i];
+            if (a == n) | (b == n) {
+                return n;
+            }
+            i += 1;
+        }
+        0
     }
 }

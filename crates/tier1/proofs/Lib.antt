@@ -3,7 +3,6 @@ pub mod Rows
 pub mod Meeting
 pub mod Found
 pub mod Masks
-pub mod Joint
 pub mod Ready
 pub mod Ticks
 pub mod Promises

@@ -8,7 +8,8 @@ use borrow.Author.Tests.{eqb-true, not-false}
 use lib.Dec.{eqb}
 use lib.ListN.{length}
 use lib.Ieee.{Float}
-use Rattle.refusal.specs.Order.{Reason, leftover, size, width, notFinite, _when_, among, given, refusal, if_then_else_}
+use Rattle.refusal.specs.Order.{Reason, leftover, size, width, notFinite, _when_, among, given, refusal, _or_, earlier, if_then_else_}
+use Rattle.refusal.proofs.Joint.{given-or, neither-applies}
 use Rattle.fmath.specs.Answer.{someNotFinite}
 use Rattle.fmath.specs.Finite.{allFinite}
 use Rattle.fmath.proofs.Each.{neither}
@@ -24,9 +25,8 @@ use Rattle.envelope.specs.declared.FuseConfig.{FuseConfig}
 use Rattle.envelope.proofs.Accepted as config
 use Rattle.tier1.specs.declared.Head.{Head}
 use Rattle.tier1.specs.declared.Tier1Rt.{Tier1Rt}
-use Rattle.tier1.specs.Refusals.{_or_, none, lower, newJudged, prevJudged, stateJudged, someNotFiniteIn, lentJudged}
+use Rattle.tier1.specs.Refusals.{none, newJudged, prevJudged, stateJudged, someNotFiniteIn, lentJudged}
 use Rattle.tier1.specs.Of.{judged}
-use Rattle.tier1.proofs.Joint.{given-or, neither-applies}
 
 -- ---- a new chunk
 
@@ -34,13 +34,13 @@ module _ (there : Bool) (k : Head) (n dim : ℕ) where
   pub none-new : there ≡ false → 0 ≡ given (newJudged there k n dim)
   none-new e = rw e
 
-  pub new-is : there ≡ true → {s w r : ℕ} → s ≡ refusal (chunkReasons (k .horizon) (k .dim) (k .«exec_steps») n) → w ≡ (if not (eqb (k .dim) dim) then 10 else 0) → r ≡ lower s w → r ≡ given (newJudged there k n dim)
+  pub new-is : there ≡ true → {s w r : ℕ} → s ≡ refusal (chunkReasons (k .horizon) (k .dim) (k .«exec_steps») n) → w ≡ (if not (eqb (k .dim) dim) then 10 else 0) → r ≡ earlier s w → r ≡ given (newJudged there k n dim)
   new-is e es ew er =
       rw e (er ∙ rw (es, ew) (sym (given-or (among (chunkReasons (k .horizon) (k .dim) (k .«exec_steps») n)) (among ((width when not (eqb (k .dim) dim)) ∷ [])))))
 
 -- ---- the state
 
-trail-number : (x y : Bool) → lower (if x then 1 else 0) (if y then 12 else 0) ≡ refusal ((size when x) ∷ (notFinite when y) ∷ [])
+trail-number : (x y : Bool) → earlier (if x then 1 else 0) (if y then 12 else 0) ≡ refusal ((size when x) ∷ (notFinite when y) ∷ [])
 trail-number true true = refl
 trail-number true false = refl
 trail-number false true = refl
@@ -55,11 +55,11 @@ prev-number b = go (b .filled)
     go false = refl
 
 pub state-is : (rt : Tier1Rt) {x y h : Bool} {a b p d u v r : ℕ} → x ≡ outOfSize (rt .trail) → a ≡ (if x then 1 else 0) → y ≡ unfit (rt .trail) → b ≡ (if y then 12 else 0)
-    → p ≡ heldRefusalOf (rt .prev) → h ≡ allFinite (rt .held) 6 → d ≡ (if not h then 12 else 0) → u ≡ lower a b → v ≡ lower p d → r ≡ lower u v → r ≡ given (stateJudged rt)
+    → p ≡ heldRefusalOf (rt .prev) → h ≡ allFinite (rt .held) 6 → d ≡ (if not h then 12 else 0) → u ≡ earlier a b → v ≡ earlier p d → r ≡ earlier u v → r ≡ given (stateJudged rt)
 state-is rt ex ea ey eb ep eh ed eu ev er =
     er ∙ rw (eu, ev, ea, eb, ex, ey, ep, ed, eh, prev-number (rt .prev), trail-number (outOfSize (rt .trail)) (unfit (rt .trail)))
     (sym (given-or (among (trailReasons (rt .trail))) (prevJudged (rt .prev) or among ((notFinite when not (allFinite (rt .held) 6)) ∷ []))
-    ∙ ap (lower (refusal (trailReasons (rt .trail)))) (given-or (prevJudged (rt .prev)) (among ((notFinite when not (allFinite (rt .held) 6)) ∷ [])))))
+    ∙ ap (earlier (refusal (trailReasons (rt .trail)))) (given-or (prevJudged (rt .prev)) (among ((notFinite when not (allFinite (rt .held) 6)) ∷ [])))))
 
 -- ---- all that is lent
 
@@ -73,12 +73,12 @@ module _ (c : FuseConfig) (p ext : List Float) (there : Bool) (k : Head) (rows :
   all-judged = judged c p ext there k rows rt sc
 
   pub judged-is : {a b d e u v r : ℕ} {t : Bool} → a ≡ refusal (configJudged c) → b ≡ given (newJudged there k (length rows) (c .dim)) → d ≡ given (stateJudged rt) → t ≡ someNotFiniteIn p ext there rows sc → e ≡ (if t then 12 else 0)
-      → u ≡ lower d e → v ≡ lower b u → r ≡ lower a v → r ≡ given all-judged
+      → u ≡ earlier d e → v ≡ earlier b u → r ≡ earlier a v → r ≡ given all-judged
   judged-is ea eb ed et ee eu ev er =
       er ∙ rw (ev, eu, ea, eb, ed, ee, et)
       (sym (given-or (among (configJudged c)) (newJudged there k (length rows) (c .dim) or (stateJudged rt or lentJudged p ext there rows sc))
-      ∙ ap (lower (refusal (configJudged c))) (given-or (newJudged there k (length rows) (c .dim)) (stateJudged rt or lentJudged p ext there rows sc)
-      ∙ ap (lower (given (newJudged there k (length rows) (c .dim)))) (given-or (stateJudged rt) (lentJudged p ext there rows sc)))))
+      ∙ ap (earlier (refusal (configJudged c))) (given-or (newJudged there k (length rows) (c .dim)) (stateJudged rt or lentJudged p ext there rows sc)
+      ∙ ap (earlier (given (newJudged there k (length rows) (c .dim)))) (given-or (stateJudged rt) (lentJudged p ext there rows sc)))))
 
   -- nothing that is lent is refused by 14
   pub no-leftover : all-judged leftover ≡ false

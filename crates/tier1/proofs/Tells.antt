@@ -5,7 +5,7 @@ use mathlib.Core.Path.{_≡_, refl, sym, _∙_}
 use mathlib.Core.Bool.{Bool, true, false, _&&_}
 use mathlib.Core.List.{List}
 use lib.Ieee.{Float, Format, nan, inf, fin, neg}
-use Rattle.fmath.specs.Constants.{3!}
+use Rattle.fmath.specs.Constants.{3! }
 use Rattle.fmath.specs.Each.{at}
 use Rattle.fmath.specs.Finite.{finite, +0}
 use Rattle.fmath.specs.Checked.{Checked, pure, sumFrom}

@@ -9,6 +9,7 @@ use lib.ListN.{length}
 use lib.Ieee.{Float, binary64}
 use Rattle.refusal.specs.Order.{computed, _when_, among, given, refusal, refusedFor, if_then_else_}
 use Rattle.refusal.specs.declared.Refusal.{Refusal}
+use Rattle.refusal.proofs.Joint.{neither-applies, refused-first, only-computed}
 use Rattle.chunk.specs.Refusals.{lentReasons}
 use Rattle.chunk.specs.Of.{heldOf, fillOf}
 use Rattle.chunk.specs.declared.ChunkBuf.{ChunkBuf}
@@ -28,7 +29,6 @@ use Rattle.tier1.specs.declared.Cleared.{Cleared}
 use Rattle.tier1.specs.Rule.{boundary, boundaryBits, twelve}
 use Rattle.tier1.specs.Refusals.{stateJudged}
 use Rattle.tier1.specs.Of.{boundaryFrom, twelveFrom, heldFrom, outOf, wholeAnswer, keptOf, manifestOf, clearedRt, afterChunk, Tick, tick, scoresWith, featuredAt, judged, ticked, featuresRefusal, featuresOf, clearedAt, resetOf}
-use Rattle.tier1.proofs.Joint.{neither-applies, refused-first, only-computed}
 use Rattle.tier1.proofs.Ready.{no-leftover, new-fits}
 
 -- ---- the state after a chunk
@@ -121,7 +121,7 @@ module _ (c : FuseConfig) (p ext : List Float) (there : Bool) (k : Head) (rows :
 
   pub lent-refused : (n : ℕ) → n ≡ number → (n ≡ 0 → ⊥) → {r : Refusal} → r ≡ refusedFor n → _≡_ {A = Featured} (record { refusal = r; rt = rt; scores = sc }) answer
   unfolding featuresRefusal
-  lent-refused n e f = numbered n (e ∙ sym (refused-first (judged c p ext there k rows rt sc) (not (ticked c p ext there k rows rt sc .sound)) (no-leftover c p ext there k rows rt sc) (λ z. f (e ∙ z)))) f
+  lent-refused n e f = numbered n (e ∙ sym (refused-first (judged c p ext there k rows rt sc) (not (ticked c p ext there k rows rt sc .sound)) (no-leftover c p ext there k rows rt sc, tt) (λ z. f (e ∙ z)))) f
 
   module _ {n : ℕ} (en : n ≡ number) (ez : n ≡ 0) {m : Manifest} {x : SixFeatures} {y : AllFeatures} (em : m ≡ manifestOf c) (ex : x ≡ heldFrom (afterChunk binary64 m p there k rows rt))
       (ey : y ≡ twelveFrom (twelve binary64 m (rt .trail) (x .held) (x .valid) ext)) where
@@ -144,7 +144,11 @@ module _ (c : FuseConfig) (p ext : List Float) (there : Bool) (k : Head) (rows :
 
   -- ---- the whole answer, from what a tick comes to
 
-  whole-at : (n : ℕ) → n ≡ 0 → featuredAt n (ticked c p ext there k rows rt sc .value) rt sc ≡ wholeAnswer there k rows rt sc (outOf (featuredAt n (ticked c p ext there k rows rt sc .value) rt sc))
+  -- the chunk that is kept
+  abbrev keptChunk : ChunkBuf
+  keptChunk = if there then heldOf (rt .prev) (k .seq) (k .«t_emit») (k .horizon) (k .dim) (k .«exec_steps») rows else rt .prev
+
+  whole-at : (n : ℕ) → n ≡ 0 → featuredAt n (ticked c p ext there k rows rt sc .value) rt sc ≡ wholeAnswer keptChunk there rt sc (outOf (featuredAt n (ticked c p ext there k rows rt sc .value) rt sc))
   unfolding ticked tick
   whole-at zero e = ap (λ (s : Tier1Rt). record { refusal = refusedFor 0; rt = s; scores = scoresWith (ticked c p ext there k rows rt sc .value .found) sc }) (chunk-replaces (manifestOf c) p k rows rt there)
   whole-at (suc n) e = absurd (omega arith)
@@ -157,7 +161,7 @@ module _ (c : FuseConfig) (p ext : List Float) (there : Bool) (k : Head) (rows :
       go zero = refl
       go (suc n) = refl
 
-  pub passed-whole : answer .refusal .number ≡ 0 → answer ≡ wholeAnswer there k rows rt sc (outOf answer)
+  pub passed-whole : answer .refusal .number ≡ 0 → answer ≡ wholeAnswer keptChunk there rt sc (outOf answer)
   unfolding featuresOf
   passed-whole e = whole-at (featuresRefusal c p ext there k rows rt sc) (sym number-is ∙ e)
 
@@ -171,7 +175,7 @@ module _ (c : FuseConfig) (p ext : List Float) (there : Bool) (k : Head) (rows :
   pub rows-fit : answer .refusal .number ≡ 0 → there ≡ true → length rows ≤ 512
   rows-fit e t = accepted-fits (lent-accepted rows (k .horizon) (k .dim) (k .«exec_steps») (accepted-chunk e t) .0)
 
-  prev-is : answer .refusal .number ≡ 0 → (if there then fillOf (rt .prev) (k .seq) (k .«t_emit») (k .horizon) (k .dim) (k .«exec_steps») rows .buf else rt .prev) ≡ (if there then heldOf (rt .prev) (k .seq) (k .«t_emit») (k .horizon) (k .dim) (k .«exec_steps») rows else rt .prev)
+  prev-is : answer .refusal .number ≡ 0 → (if there then fillOf (rt .prev) (k .seq) (k .«t_emit») (k .horizon) (k .dim) (k .«exec_steps») rows .buf else rt .prev) ≡ keptChunk
   prev-is e = go there (accepted-chunk e)
     where
       go : (t : Bool) → (t ≡ true → refusal (lentReasons rows (k .horizon) (k .dim) (k .«exec_steps»)) ≡ 0)
@@ -179,11 +183,12 @@ module _ (c : FuseConfig) (p ext : List Float) (there : Bool) (k : Head) (rows :
       go true f = filled-is (rt .prev) (k .seq) (k .«t_emit») (k .horizon) (k .dim) (k .«exec_steps») rows (f refl) refl
       go false f = refl
 
-  pub passed-from : {a : TickOut} {b : ChunkBuf} → a ≡ outOf answer → a .refusal .number ≡ 0 → b ≡ (if there then fillOf (rt .prev) (k .seq) (k .«t_emit») (k .horizon) (k .dim) (k .«exec_steps») rows .buf else rt .prev)
-      → _≡_ {A = Featured} (record { refusal = a .refusal; rt = record { prev = b; «have_prev» = there || rt .«have_prev»; trail = rt .trail; held = a .held; «held_valid» = a .«held_valid» }; scores = record { f = a .f; z = sc .z; s = sc .s; valid = a .valid; fired = sc .fired } }) answer
-  passed-from {a} {b} ea ez eb =
+  pub passed-from : {a : TickOut} {b : ChunkBuf} {r : Featured} → a ≡ outOf answer → a .refusal .number ≡ 0 → b ≡ (if there then fillOf (rt .prev) (k .seq) (k .«t_emit») (k .horizon) (k .dim) (k .«exec_steps») rows .buf else rt .prev)
+      → r ≡ wholeAnswer b there rt sc a
+      → r ≡ answer
+  passed-from {a} {b} ea ez eb er =
       let z : answer .refusal .number ≡ 0 = sym (ap (λ (x : TickOut). x .refusal .number) ea) ∙ ez in
-      rw (ea, eb, prev-is z) (sym (passed-whole z))
+      er ∙ rw (ea, eb, prev-is z) (sym (passed-whole z))
 
   pub refused-from : {a : TickOut} → a ≡ outOf answer → (a .refusal .number ≡ 0 → ⊥) → _≡_ {A = Featured} (record { refusal = a .refusal; rt = rt; scores = sc }) answer
   unfolding featuresOf

@@ -5,11 +5,12 @@ use mathlib.Core.List.{List, [], _∷_}
 use lib.Dec.{leb}
 use lib.ListN.{length, replicate}
 use lib.Ieee.{Float, Format, binary64}
-use Rattle.refusal.specs.Order.{Reason, computed, _when_, among, given, refusedFor, if_then_else_}
+use Rattle.refusal.specs.Order.{Reason, computed, _when_, among, given, _or_, refusedFor, if_then_else_}
 use Rattle.fmath.specs.Each.{table}
 use Rattle.fmath.specs.Finite.{+0}
 use Rattle.fmath.specs.Checked.{Checked, _>>=_, pure}
 use Rattle.chunk.specs.Of as chunk
+use Rattle.chunk.specs.declared.ChunkBuf.{ChunkBuf}
 use Rattle.window.specs.Of as window
 use Rattle.conformal.specs.Bits.{bitsWhere}
 use Rattle.conformal.specs.declared.Scores.{Scores}
@@ -29,7 +30,7 @@ use Rattle.tier1.specs.declared.TickOut.{TickOut}
 use Rattle.tier1.specs.declared.Featured.{Featured}
 use Rattle.tier1.specs.declared.Cleared.{Cleared}
 use Rattle.tier1.specs.Rule.{overlap, tce, acc, ifThere, boundary, boundaryBits, validAt, valueAt, Twelve, twelve}
-use Rattle.tier1.specs.Refusals.{_or_, newJudged, stateJudged, lentJudged}
+use Rattle.tier1.specs.Refusals.{newJudged, stateJudged, lentJudged}
 
 -- what the features read of a configuration and of the numbers derived from it
 abbrev pub manifestFrom : FuseConfig → Derived → Manifest
@@ -164,12 +165,12 @@ outOf a = record {
   valid = a .scores .valid;
 }
 
--- .. and the whole answer of one that passes, from what it finds
-abbrev pub wholeAnswer : Bool → Head → List Float → Tier1Rt → Scores → TickOut → Featured
-wholeAnswer there k rows rt sc a = record {
+-- .. and the whole answer of one that passes, from what it finds and the chunk that is kept
+abbrev pub wholeAnswer : ChunkBuf → Bool → Tier1Rt → Scores → TickOut → Featured
+wholeAnswer prev there rt sc a = record {
   refusal = a .refusal;
   rt = record {
-    prev = if there then chunk.heldOf (rt .prev) (k .seq) (k .«t_emit») (k .horizon) (k .dim) (k .«exec_steps») rows else rt .prev;
+    prev = prev;
     «have_prev» = there || rt .«have_prev»;
     trail = rt .trail;
     held = a .held;

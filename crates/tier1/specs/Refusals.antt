@@ -1,10 +1,10 @@
 -- What `features` and `reset` judge, argument by argument; a reason applies to a call where it does to one of its arguments.
-use Prim.Native.Nat.{ℕ, min}
+use Prim.Native.Nat.{ℕ}
 use mathlib.Core.Bool.{Bool, false, not, _&&_, _||_}
 use mathlib.Core.List.{List, [], _∷_}
 use lib.Dec.{eqb}
 use lib.Ieee.{Float}
-use Rattle.refusal.specs.Order.{Reason, width, notFinite, _when_, among, if_then_else_}
+use Rattle.refusal.specs.Order.{Reason, width, notFinite, _when_, among, _or_, if_then_else_}
 use Rattle.fmath.specs.Answer.{someNotFinite}
 use Rattle.fmath.specs.Finite.{allFinite}
 use Rattle.chunk.specs.Refusals.{chunkReasons, heldReasons}
@@ -15,18 +15,9 @@ use Rattle.conformal.specs.declared.Scores.{Scores}
 use Rattle.tier1.specs.declared.Head.{Head}
 use Rattle.tier1.specs.declared.Tier1Rt.{Tier1Rt}
 
--- a reason applies where it does to either of two
-infixr 20 _or_
-abbrev pub _or_ : (Reason → Bool) → (Reason → Bool) → Reason → Bool
-_or_ p q k = p k || q k
-
 -- nothing is judged
 abbrev pub none : Reason → Bool
 none k = false
-
--- the lower of two numbers, of which 0 is no refusal
-abbrev pub lower : ℕ → ℕ → ℕ
-lower a b = if eqb a 0 then b else if eqb b 0 then a else min a b
 
 -- 5 to 10: a new chunk of n numbers, where there is one
 abbrev pub newJudged : Bool → Head → ℕ → ℕ → Reason → Bool

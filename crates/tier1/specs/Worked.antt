@@ -6,7 +6,7 @@ use mathlib.Core.List.{List, [], _∷_}
 use lib.IntN.{pos, negsuc}
 use lib.Ieee.{Float, binary64, fin, neg, add, sub, mul, div, lt, ofInt, ofBits, ofFields, odd}
 use Rattle.root.specs.Root.{rootOf, number, rootExponent, half, nearRoot, floorRoot, scaled}
-use Rattle.fmath.specs.Constants.{1!, 2!, 3!}
+use Rattle.fmath.specs.Constants.{1!, 2!, 3! }
 use Rattle.fmath.specs.Each.{all, over, table}
 use Rattle.fmath.specs.Finite.{finite, +0}
 use Rattle.fmath.specs.Checked.{sumFrom}

@@ -14,8 +14,8 @@ ghost use Rattle.conformal.specs.Bits.{bitsWhere};
 ghost use Rattle.refusal.specs.Order.{if_then_else_, given, refusal, refusedFor};
 ghost use Rattle.envelope.specs.Derive.{kept};
 ghost use Rattle.envelope.specs.Whole.{whole};
-ghost use Rattle.tier1.specs.Of.{featureFrom, pairFrom, metFrom, boundaryFrom, gatheredFrom, twelveFrom, keptOf, manifestOf, newRt, heldFrom, outOf, afterChunk, judged, featuresOf, resetOf};
-ghost use Rattle.tier1.specs.Refusals.{lower, newJudged, stateJudged, someNotFiniteIn};
+ghost use Rattle.tier1.specs.Of.{featureFrom, pairFrom, metFrom, boundaryFrom, gatheredFrom, twelveFrom, wholeAnswer, keptOf, manifestOf, newRt, heldFrom, outOf, afterChunk, judged, featuresOf, resetOf};
+ghost use Rattle.tier1.specs.Refusals.{newJudged, stateJudged, someNotFiniteIn};
 ghost use Rattle.chunk.specs.Refusals.{lentReasons};
 ghost use Rattle.chunk.specs.Of.{fillOf};
 use chunk::ChunkBuf;
@@ -588,19 +588,6 @@ fn twelve(m: Manifest, t: Trail, held: [f64; 6], held_valid: u32, ext: &[f64]) -
 
 // ---- what is judged
 
-// The lower of two refusals, where 0 is none.
-fn lower(a: u8, b: u8) -> u8
-    ensures { λ r. ⌜ r ≡ lower a b ⌝ }
-{
-    if a == 0 {
-        return b;
-    }
-    if b == 0 {
-        return a;
-    }
-    if a < b { a } else { b }
-}
-
 // A number where its reason applies, else 0.
 fn number_if(on: bool, number: u8) -> u8
     ensures { λ r. ⌜ r ≡ (if on then number else 0) ⌝ }
@@ -618,7 +605,7 @@ fn new_refusal(there: bool, k: Head, len: usize, dim: usize) -> u8
     let sizes = chunk::chunk_refusal(k.horizon, k.dim, k.exec_steps, len);
     let d = k.dim as usize;
     let width = number_if(d != dim, Refusal::WIDTH);
-    lower(sizes, width)
+    Refusal::earlier(sizes, width)
 }
 
 // The number for a state: its trail, the chunk before and the held features.
@@ -632,7 +619,9 @@ fn state_refusal(rt: Tier1Rt) -> u8
     let p = prev.held_refusal();
     let held = rt.held;
     let h = number_if(!fmath::all_finite(&held, 6), Refusal::NOT_FINITE);
-    lower(lower(a, b), lower(p, h))
+    let of_trail = Refusal::earlier(a, b);
+    let of_held = Refusal::earlier(p, h);
+    Refusal::earlier(of_trail, of_held)
 }
 
 // Whether some number that is lent, read or not, is not finite.
@@ -666,7 +655,9 @@ fn features_refusal<'a>(
     let state = state_refusal(rt);
     let bad = not_finite(pos, ext, there, rows, sc);
     let lent = number_if(bad, Refusal::NOT_FINITE);
-    lower(config, lower(new, lower(state, lent)))
+    let later = Refusal::earlier(state, lent);
+    let from_new = Refusal::earlier(new, later);
+    Refusal::earlier(config, from_new)
 }
 
 // ---- the state
@@ -808,6 +799,36 @@ fn prev_after(prev: ChunkBuf, there: bool, k: Head, rows: &[f64]) -> ChunkBuf
     filled.buf
 }
 
+// The whole answer of a tick that passes: what it finds, and the chunk that is kept.
+fn passed(prev: ChunkBuf, there: bool, rt: Tier1Rt, sc: Scores, a: TickOut) -> Featured
+    ensures { λ r. ⌜ r ≡ wholeAnswer prev there rt sc a ⌝ }
+{
+    let refusal = a.refusal;
+    let trail = rt.trail;
+    let held = a.held;
+    let f = a.f;
+    let z = sc.z;
+    let next = Tier1Rt {
+        prev,
+        have_prev: there | rt.have_prev,
+        trail,
+        held,
+        held_valid: a.held_valid,
+    };
+    let scores = Scores {
+        f,
+        z,
+        s: sc.s,
+        valid: a.valid,
+        fired: sc.fired,
+    };
+    Featured {
+        refusal,
+        rt: next,
+        scores,
+    }
+}
+
 // The features of a tick, in the scores' f and valid; their z, s and fired stay. A new chunk, where `there` says that one came,
 // replaces the held features and the chunk before; the trail stays. On refusal state and scores are as they came.
 pub fn features(
@@ -844,27 +865,5 @@ pub fn features(
         };
     }
     let prev = prev_after(rt.prev, there, k, rows);
-    let trail = rt.trail;
-    let held = a.held;
-    let f = a.f;
-    let z = sc.z;
-    let next = Tier1Rt {
-        prev,
-        have_prev: there | rt.have_prev,
-        trail,
-        held,
-        held_valid: a.held_valid,
-    };
-    let scores = Scores {
-        f,
-        z,
-        s: sc.s,
-        valid: a.valid,
-        fired: sc.fired,
-    };
-    Featured {
-        refusal,
-        rt: next,
-        scores,
-    }
+    passed(prev, there, rt, sc, a)
 }

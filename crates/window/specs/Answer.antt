@@ -4,7 +4,7 @@ use mathlib.Core.Bool.{Bool, not, _||_}
 use mathlib.Core.List.{List, [], _∷_}
 use lib.Dec.{eqb, ltb}
 use lib.Ieee.{Float, Format}
-use Rattle.refusal.specs.Order.{Judged, _when_, size, notFinite, computed, refusal, refusedFor, if_then_else_}
+use Rattle.refusal.specs.Order.{Judged, numberOf, _when_, size, notFinite, computed, refusal, refusedFor, if_then_else_}
 use Rattle.fmath.specs.declared.Number.{Number}
 use Rattle.fmath.specs.Answer.{numberOr, someNotFinite}
 use Rattle.fmath.specs.Finite.{finite, allFinite}
@@ -50,9 +50,9 @@ netOf f t d w = computedFrom t (net f (t .buf) (t .head) (t .len) d w)
 unfoldable pub pathOf : Format → Trail → ℕ → ℕ → Number
 pathOf f t d w = computedFrom t (path f (t .buf) (t .head) (t .len) d w)
 
--- a number after some checks, the lowest of which that applies is n, and a last one that it is finite
+-- a number after some checks, which give n, and a last one that it is finite
 abbrev pub numberAfter : ℕ → Float → Number
-numberAfter n x = numberOr (if eqb n 0 then (if finite x then 0 else 13) else n) x
+numberAfter n x = numberOr (if eqb n 0 then (if finite x then 0 else numberOf computed) else n) x
 
 -- how many samples a trail holds
 unfoldable pub countOf : Trail → Count

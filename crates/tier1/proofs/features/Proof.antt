@@ -35,10 +35,13 @@ returns c = let g = c .before .before .before .before .before .before .before .b
 prev-after-requires : tie.Need-prev-after-requires
 prev-after-requires c κs = search needs
 
+passed-requires : tie.Need-passed-requires
+passed-requires c κs = search needs
+
 returns-2 : tie.Need-returns-2
-returns-2 c = let g = c .before .before .before .before .before .before .before .before .before .before .before .before .before .before .before .before .before .args in passed-from (g .t1) (now (g .pos)) (now (g .ext)) (g .there) (g .k) (now (g .rows)) (g .rt) (g .sc) (own-tables (g .t1) (now (g .pos)) (now (g .ext)) (g .there) (g .k) (now (g .rows)) (g .rt) (g .sc) _ (c .before .before .before .before .before .before .before .before .before .tick-with .ensures) (c .before .before .before .before .before .before .before .before .before .before .before .before .before .settings-of .ensures)) (c .before .before .before .before .before .before .if1 .left) (c .before .before .before .before .before .prev-after .ensures)
+returns-2 c = let g = c .before .before .before .before .before .before .before .before .before .before .before .before .before .args in passed-from (g .t1) (now (g .pos)) (now (g .ext)) (g .there) (g .k) (now (g .rows)) (g .rt) (g .sc) (own-tables (g .t1) (now (g .pos)) (now (g .ext)) (g .there) (g .k) (now (g .rows)) (g .rt) (g .sc) _ (c .before .before .before .before .before .tick-with .ensures) (c .before .before .before .before .before .before .before .before .before .settings-of .ensures)) (c .before .before .if1 .left) (c .before .prev-after .ensures) (c .passed .ensures)
 
 pub features-spec : {M : Type 1} → statement M
 features-spec =
     tie.close
-    (tie.spec settings-of-requires tick-with-requires returns prev-after-requires returns-2)
+    (tie.spec settings-of-requires tick-with-requires returns prev-after-requires passed-requires returns-2)

@@ -1,4 +1,4 @@
--- `tier1::features_refusal` meets its contract: the lowest number of all arguments.
+-- `tier1::features_refusal` meets its contract: the earliest number of all arguments.
 use denote.Ref.{now}
 use Rattle.envelope.specs.Whole.{whole}
 use Rattle.tier1.proofs.Ready.{judged-is}
@@ -21,17 +21,17 @@ not-finite-requires c κs = search needs
 number-if-requires : tie.Need-number-if-requires
 number-if-requires c κs = search needs
 
-lower-requires : tie.Need-lower-requires
-lower-requires c κs = search needs
+earlier-requires : tie.Need-earlier-requires
+earlier-requires c κs = search needs
 
-lower-requires-2 : tie.Need-lower-requires-2
-lower-requires-2 c κs = search needs
+earlier-requires-2 : tie.Need-earlier-requires-2
+earlier-requires-2 c κs = search needs
 
-lower-requires-3 : tie.Need-lower-requires-3
-lower-requires-3 c κs = search needs
+earlier-requires-3 : tie.Need-earlier-requires-3
+earlier-requires-3 c κs = search needs
 
 returns : tie.Need-returns
-returns c = let g = c .before .before .before .before .before .before .before .before .before .before .before .args in judged-is (whole (g .c) (now (g .center)) (now (g .scale))) (now (g .pos)) (now (g .ext)) (g .there) (g .k) (now (g .rows)) (g .rt) (g .sc) (c .before .before .before .before .before .before .before .settings-refusal .ensures) (c .before .before .before .before .before .before .new-refusal .ensures) (c .before .before .before .before .before .state-refusal .ensures) (c .before .before .before .before .not-finite .ensures) (c .before .before .before .number-if .ensures) (c .before .before .lower .ensures) (c .before .lower2 .ensures) (c .lower3 .ensures)
+returns c = let g = c .before .before .before .before .before .before .before .before .before .before .before .args in judged-is (whole (g .c) (now (g .center)) (now (g .scale))) (now (g .pos)) (now (g .ext)) (g .there) (g .k) (now (g .rows)) (g .rt) (g .sc) (c .before .before .before .before .before .before .before .settings-refusal .ensures) (c .before .before .before .before .before .before .new-refusal .ensures) (c .before .before .before .before .before .state-refusal .ensures) (c .before .before .before .before .not-finite .ensures) (c .before .before .before .number-if .ensures) (c .before .before .earlier .ensures) (c .before .earlier2 .ensures) (c .earlier3 .ensures)
 
 pub features-refusal-spec : {M : Type 1} → statement M
 features-refusal-spec =
@@ -42,7 +42,7 @@ features-refusal-spec =
     state-refusal-requires
     not-finite-requires
     number-if-requires
-    lower-requires
-    lower-requires-2
-    lower-requires-3
+    earlier-requires
+    earlier-requires-2
+    earlier-requires-3
     returns)

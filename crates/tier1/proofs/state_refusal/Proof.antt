@@ -1,4 +1,4 @@
--- `tier1::state_refusal` meets its contract: the lowest number of the trail, the chunk before and the held features.
+-- `tier1::state_refusal` meets its contract: the earliest number of the trail, the chunk before and the held features.
 use Rattle.tier1.proofs.Ready.{state-is}
 use borrow.Author.Needs.{needs}
 use Rattle.tier1.proofs.state_refusal.Statement.{statement}
@@ -28,17 +28,17 @@ all-finite-requires c κs = search needs
 number-if-requires-3 : tie.Need-number-if-requires-3
 number-if-requires-3 c κs = search needs
 
-lower-requires : tie.Need-lower-requires
-lower-requires c κs = search needs
+earlier-requires : tie.Need-earlier-requires
+earlier-requires c κs = search needs
 
-lower-requires-2 : tie.Need-lower-requires-2
-lower-requires-2 c κs = search needs
+earlier-requires-2 : tie.Need-earlier-requires-2
+earlier-requires-2 c κs = search needs
 
-lower-requires-3 : tie.Need-lower-requires-3
-lower-requires-3 c κs = search needs
+earlier-requires-3 : tie.Need-earlier-requires-3
+earlier-requires-3 c κs = search needs
 
 returns : tie.Need-returns
-returns c = state-is (c .before .before .before .before .before .before .before .before .before .before .before .before .before .before .args .rt) (c .before .before .before .before .before .before .before .before .before .before .before .before .out-of-size .ensures) (c .before .before .before .before .before .before .before .before .before .before .before .number-if .ensures) (c .before .before .before .before .before .before .before .before .before .before .unfit .ensures) (c .before .before .before .before .before .before .before .before .before .number-if2 .ensures) (c .before .before .before .before .before .before .before .held-refusal .ensures) (c .before .before .before .before .all-finite .ensures) (c .before .before .before .number-if3 .ensures) (c .before .before .lower .ensures) (c .before .lower2 .ensures) (c .lower3 .ensures)
+returns c = state-is (c .before .before .before .before .before .before .before .before .before .before .before .before .before .before .args .rt) (c .before .before .before .before .before .before .before .before .before .before .before .before .out-of-size .ensures) (c .before .before .before .before .before .before .before .before .before .before .before .number-if .ensures) (c .before .before .before .before .before .before .before .before .before .before .unfit .ensures) (c .before .before .before .before .before .before .before .before .before .number-if2 .ensures) (c .before .before .before .before .before .before .before .held-refusal .ensures) (c .before .before .before .before .all-finite .ensures) (c .before .before .before .number-if3 .ensures) (c .before .before .earlier .ensures) (c .before .earlier2 .ensures) (c .earlier3 .ensures)
 
 pub state-refusal-spec : {M : Type 1} → statement M
 state-refusal-spec =
@@ -52,7 +52,7 @@ state-refusal-spec =
     slice-aggregate-all-finite
     all-finite-requires
     number-if-requires-3
-    lower-requires
-    lower-requires-2
-    lower-requires-3
+    earlier-requires
+    earlier-requires-2
+    earlier-requires-3
     returns)
