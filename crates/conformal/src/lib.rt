@@ -152,26 +152,7 @@ pub fn scores_ok(scores: Scores) -> bool
     a & b & c
 }
 
-// The first refusal of four in the order of judging.
-fn first_of(sizes: bool, numbers: bool, scores: bool, sound: bool) -> u8
-    ensures { λ r. ⌜ r ≡ refusal ((size when not sizes) ∷ (number when not numbers) ∷ (notFinite when not scores) ∷ (computed when not sound) ∷ []) ⌝ }
-{
-    if !sizes {
-        return Refusal::SIZE;
-    }
-    if !numbers {
-        return Refusal::NUMBER;
-    }
-    if !scores {
-        return Refusal::NOT_FINITE;
-    }
-    if !sound {
-        return Refusal::COMPUTED;
-    }
-    0
-}
-
-// The refusal of a calibration and scores, given whether all that was computed is finite.
+// The refusal of a calibration and scores, given whether all that was computed is finite; what is judged last comes first.
 fn judge(cal: Calibration, scores: Scores, sound: bool) -> u8
     ensures { λ r. ⌜ r ≡ judged cal scores sound ⌝ }
 {
@@ -179,7 +160,10 @@ fn judge(cal: Calibration, scores: Scores, sound: bool) -> u8
     let a = sizes_ok(gate, cal.mask);
     let b = numbers_ok(&cal.center, &cal.scale, cal.tau);
     let c = scores_ok(scores);
-    first_of(a, b, c, sound)
+    let of_computed = Refusal::when(Refusal::COMPUTED, !sound, 0);
+    let of_scores = Refusal::when(Refusal::NOT_FINITE, !c, of_computed);
+    let of_numbers = Refusal::when(Refusal::NUMBER, !b, of_scores);
+    Refusal::when(Refusal::SIZE, !a, of_numbers)
 }
 
 // New scores where the number is 0, else the old ones.

@@ -485,26 +485,8 @@ fn channels_ok(contact: Contact, aux_count: usize) -> bool
 
 // ---- the refusal
 
-// The first refusal of four in the order of judging.
-fn first_of(sizes: bool, numbers: bool, counts: bool, apart: bool) -> u8
-    ensures { λ r. ⌜ r ≡ refusal ((size when not sizes) ∷ (number when not numbers) ∷ (steps when not counts) ∷ (channels when not apart) ∷ []) ⌝ }
-{
-    if !sizes {
-        return Refusal::SIZE;
-    }
-    if !numbers {
-        return Refusal::NUMBER;
-    }
-    if !counts {
-        return Refusal::STEPS;
-    }
-    if !apart {
-        return Refusal::CHANNELS;
-    }
-    0
-}
-
-// The number of document 01's table that settings with their tables are refused with, 0 where they are accepted.
+// The number of document 01's table that settings with their tables are refused with, 0 where they are accepted. What is
+// judged last comes first.
 pub fn settings_refusal<'a>(c: Settings, center: &'a [f64; 192], scale: &'a [f64; 192]) -> u8
     ensures { λ r. ⌜ r ≡ refusal (configJudged (whole c (now (center .entry)) (now (scale .entry)))) ⌝ }
 {
@@ -514,7 +496,10 @@ pub fn settings_refusal<'a>(c: Settings, center: &'a [f64; 192], scale: &'a [f64
     let b = numbers_ok(c, center, scale);
     let d = steps_ok(c.brake, c.calibrated, c.horizon_ticks);
     let e = channels_ok(contact, c.aux_count);
-    first_of(a, b, d, e)
+    let of_channels = Refusal::when(Refusal::CHANNELS, !e, 0);
+    let of_steps = Refusal::when(Refusal::STEPS, !d, of_channels);
+    let of_numbers = Refusal::when(Refusal::NUMBER, !b, of_steps);
+    Refusal::when(Refusal::SIZE, !a, of_numbers)
 }
 
 // .. that a configuration is refused with.

@@ -1,6 +1,6 @@
 // Why a call is refused: a number of document 01's table and, for a computed number that isn't finite, its place.
 ghost use mathlib.Core.Path.{_≡_};
-ghost use Rattle.refusal.specs.Order.{earlier, refusedFor};
+ghost use Rattle.refusal.specs.Order.{if_then_else_, earlier, refusedFor};
 
 pub struct Refusal {
     pub number: u8,
@@ -41,6 +41,13 @@ impl Refusal {
         ensures { λ r. ⌜ r ≡ refusedFor number ⌝ }
     {
         Refusal { number, place: 0 }
+    }
+
+    // A number where its reason applies, else what is judged after it.
+    pub fn when(number: u8, applies: bool, later: u8) -> u8
+        ensures { λ r. ⌜ r ≡ (if applies then number else later) ⌝ }
+    {
+        if applies { number } else { later }
     }
 
     // Of two numbers the one that is judged first, where 0 and what is no number of the table count as none.

@@ -8,7 +8,7 @@ use borrow.Author.Tests.{eqb-true, not-false}
 use lib.Dec.{eqb}
 use lib.ListN.{length}
 use lib.Ieee.{Float}
-use Rattle.refusal.specs.Order.{Reason, leftover, size, width, notFinite, _when_, among, given, refusal, _or_, earlier, if_then_else_}
+use Rattle.refusal.specs.Order.{Reason, leftover, width, notFinite, _when_, among, given, refusal, _or_, earlier, if_then_else_}
 use Rattle.refusal.proofs.Joint.{given-or, neither-applies}
 use Rattle.fmath.specs.Answer.{someNotFinite}
 use Rattle.fmath.specs.Finite.{allFinite}
@@ -40,12 +40,6 @@ module _ (there : Bool) (k : Head) (n dim : ℕ) where
 
 -- ---- the state
 
-trail-number : (x y : Bool) → earlier (if x then 1 else 0) (if y then 12 else 0) ≡ refusal ((size when x) ∷ (notFinite when y) ∷ [])
-trail-number true true = refl
-trail-number true false = refl
-trail-number false true = refl
-trail-number false false = refl
-
 prev-number : (b : ChunkBuf) → heldRefusalOf b ≡ given (prevJudged b)
 unfolding heldRefusalOf
 prev-number b = go (b .filled)
@@ -54,10 +48,11 @@ prev-number b = go (b .filled)
     go true = refl
     go false = refl
 
-pub state-is : (rt : Tier1Rt) {x y h : Bool} {a b p d u v r : ℕ} → x ≡ outOfSize (rt .trail) → a ≡ (if x then 1 else 0) → y ≡ unfit (rt .trail) → b ≡ (if y then 12 else 0)
-    → p ≡ heldRefusalOf (rt .prev) → h ≡ allFinite (rt .held) 6 → d ≡ (if not h then 12 else 0) → u ≡ earlier a b → v ≡ earlier p d → r ≡ earlier u v → r ≡ given (stateJudged rt)
-state-is rt ex ea ey eb ep eh ed eu ev er =
-    er ∙ rw (eu, ev, ea, eb, ex, ey, ep, ed, eh, prev-number (rt .prev), trail-number (outOfSize (rt .trail)) (unfit (rt .trail)))
+-- .. from the trail's two tests, the chunk before and the held features
+pub state-is : (rt : Tier1Rt) {x y h : Bool} {a b p d v r : ℕ} → y ≡ unfit (rt .trail) → b ≡ (if y then 12 else 0) → x ≡ outOfSize (rt .trail) → a ≡ (if x then 1 else b)
+    → p ≡ heldRefusalOf (rt .prev) → h ≡ allFinite (rt .held) 6 → d ≡ (if not h then 12 else 0) → v ≡ earlier p d → r ≡ earlier a v → r ≡ given (stateJudged rt)
+state-is rt ey eb ex ea ep eh ed ev er =
+    er ∙ rw (ev, ea, eb, ex, ey, ep, ed, eh, prev-number (rt .prev))
     (sym (given-or (among (trailReasons (rt .trail))) (prevJudged (rt .prev) or among ((notFinite when not (allFinite (rt .held) 6)) ∷ []))
     ∙ ap (earlier (refusal (trailReasons (rt .trail)))) (given-or (prevJudged (rt .prev)) (among ((notFinite when not (allFinite (rt .held) 6)) ∷ [])))))
 

@@ -588,13 +588,6 @@ fn twelve(m: Manifest, t: Trail, held: [f64; 6], held_valid: u32, ext: &[f64]) -
 
 // ---- what is judged
 
-// A number where its reason applies, else 0.
-fn number_if(on: bool, number: u8) -> u8
-    ensures { λ r. ⌜ r ≡ (if on then number else 0) ⌝ }
-{
-    if on { number } else { 0 }
-}
-
 // The number for a new chunk's sizes and its width.
 fn new_refusal(there: bool, k: Head, len: usize, dim: usize) -> u8
     ensures { λ r. ⌜ r ≡ given (newJudged there k len dim) ⌝ }
@@ -604,7 +597,7 @@ fn new_refusal(there: bool, k: Head, len: usize, dim: usize) -> u8
     }
     let sizes = chunk::chunk_refusal(k.horizon, k.dim, k.exec_steps, len);
     let d = k.dim as usize;
-    let width = number_if(d != dim, Refusal::WIDTH);
+    let width = Refusal::when(Refusal::WIDTH, d != dim, 0);
     Refusal::earlier(sizes, width)
 }
 
@@ -613,15 +606,14 @@ fn state_refusal(rt: Tier1Rt) -> u8
     ensures { λ r. ⌜ r ≡ given (stateJudged rt) ⌝ }
 {
     let t = rt.trail;
-    let a = number_if(t.out_of_size(), Refusal::SIZE);
-    let b = number_if(t.unfit(), Refusal::NOT_FINITE);
+    let of_samples = Refusal::when(Refusal::NOT_FINITE, t.unfit(), 0);
+    let of_trail = Refusal::when(Refusal::SIZE, t.out_of_size(), of_samples);
     let prev = rt.prev;
-    let p = prev.held_refusal();
+    let of_prev = prev.held_refusal();
     let held = rt.held;
-    let h = number_if(!fmath::all_finite(&held, 6), Refusal::NOT_FINITE);
-    let of_trail = Refusal::earlier(a, b);
-    let of_held = Refusal::earlier(p, h);
-    Refusal::earlier(of_trail, of_held)
+    let of_held = Refusal::when(Refusal::NOT_FINITE, !fmath::all_finite(&held, 6), 0);
+    let later = Refusal::earlier(of_prev, of_held);
+    Refusal::earlier(of_trail, later)
 }
 
 // Whether some number that is lent, read or not, is not finite.
@@ -654,7 +646,7 @@ fn features_refusal<'a>(
     let new = new_refusal(there, k, rows.len(), c.dim);
     let state = state_refusal(rt);
     let bad = not_finite(pos, ext, there, rows, sc);
-    let lent = number_if(bad, Refusal::NOT_FINITE);
+    let lent = Refusal::when(Refusal::NOT_FINITE, bad, 0);
     let later = Refusal::earlier(state, lent);
     let from_new = Refusal::earlier(new, later);
     Refusal::earlier(config, from_new)

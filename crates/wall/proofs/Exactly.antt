@@ -9,7 +9,7 @@ use borrow.Author.Tests.{eqb-true, ne-eqb}
 use lib.Dec.{eqb, ltb}
 use lib.Ieee.{Float, Format}
 use lib.ListN.{length}
-use Rattle.refusal.specs.Order.{Reason, Judged, size, number, steps, short, notFinite, computed, _when_, numberOf, order, among, given, refusal, refusedFor, if_then_else_}
+use Rattle.refusal.specs.Order.{Reason, Judged, size, number, steps, short, notFinite, computed, _when_, numberOf, order, among, given, refusal, refusedFor, if_then_else_, _or_}
 use Rattle.refusal.specs.Exactly.{First, here, later, exactly-first, exactly-none}
 use Rattle.fmath.specs.Checked.{root}
 use Rattle.fmath.specs.Norm.{norm, dist}
@@ -34,7 +34,7 @@ use Rattle.tier0.specs.Refusals as checks
 use Rattle.tier0.specs.Of.{lentToAction, lentToChunk, actionRuling, actionRefusal, actionAnswer, chunkRuling, chunkRefusal, chunkAnswer}
 use Rattle.tier1.specs.declared.Head.{Head}
 use Rattle.tier1.specs.declared.Tier1Rt.{Tier1Rt}
-use Rattle.tier1.specs.Refusals.{_or_, none, prevJudged, stateJudged}
+use Rattle.tier1.specs.Refusals.{none, prevJudged, stateJudged}
 use Rattle.tier1.specs.Of as tier1
 use Rattle.rollout.specs.Forecast.{Forecast, placeOf}
 use Rattle.brake.specs.declared.BrakeOut.the-variants as out

@@ -7,6 +7,8 @@ use Rattle.fmath.proofs.above_zero.Reads as above-zero
 use Rattle.fmath.proofs.not_below_zero.Reads as not-below-zero
 use Rattle.fmath.proofs.all_finite.Reads as all-finite
 use Rattle.fmath.proofs.all_above_zero.Reads as all-above-zero
+use Rattle.fmath.proofs.fewer.Reads as fewer
+use Rattle.fmath.proofs.put.Reads as put
 use Rattle.fmath.proofs.min.Reads as min
 use Rattle.fmath.proofs.max.Reads as max
 use Rattle.fmath.proofs.clamp.Reads as clamp
@@ -76,6 +78,8 @@ use Rattle.conformal.proofs.aggregate.Reads as aggregate
 use Rattle.conformal.proofs.trip.Reads as trip
 use Rattle.conformal.proofs.time_bin.Reads as time-bin
 use Rattle.refusal.proofs.Refusal.of.Reads as refusal-of
+use Rattle.refusal.proofs.Refusal.when.Reads as refusal-when
+use Rattle.refusal.proofs.Refusal.earlier.Reads as refusal-earlier
 use Rattle.words.proofs.pair.Reads as pair
 use Rattle.words.proofs.word.Reads as word
 use Rattle.words.proofs.number.Reads as word-number
@@ -148,6 +152,12 @@ one-all-finite l a r s x y = unique
 
 pub one-all-above-zero : One all-above-zero.Post (λ r x. r)
 one-all-above-zero l a r s x y = unique
+
+pub one-fewer : One fewer.Post (λ r x. r)
+one-fewer l a r s x y = unique
+
+pub one-put : One put.Post (λ r x. x .1 .0 .now)
+one-put l a r s x y = unique
 
 pub one-min : One min.Post (λ r x. r)
 one-min l a r s x y = unique
@@ -377,6 +387,12 @@ one-time-bin l a r s x y = unique
 
 pub one-refusal-of : One refusal-of.Post (λ r x. r)
 one-refusal-of l a r s x y = unique
+
+pub one-refusal-when : One refusal-when.Post (λ r x. r)
+one-refusal-when l a r s x y = unique
+
+pub one-refusal-earlier : One refusal-earlier.Post (λ r x. r)
+one-refusal-earlier l a r s x y = unique
 
 -- ---- words
 

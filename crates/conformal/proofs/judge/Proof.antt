@@ -1,5 +1,4 @@
 -- `conformal::judge` meets its contract: each test is the condition of its number.
-use mathlib.Core.Path.{_∙_}
 use borrow.Author.Needs.{needs}
 use Rattle.conformal.specs.Answer.{judged}
 use Rattle.conformal.proofs.judge.Statement.{statement}
@@ -14,14 +13,31 @@ numbers-ok-requires c κs = search needs
 scores-ok-requires : tie.Need-scores-ok-requires
 scores-ok-requires c κs = search needs
 
-first-of-requires : tie.Need-first-of-requires
-first-of-requires c κs = search needs
+when-requires : tie.Need-when-requires
+when-requires c κs = search needs
+
+when-requires-2 : tie.Need-when-requires-2
+when-requires-2 c κs = search needs
+
+when-requires-3 : tie.Need-when-requires-3
+when-requires-3 c κs = search needs
+
+when-requires-4 : tie.Need-when-requires-4
+when-requires-4 c κs = search needs
 
 returns : tie.Need-returns
 unfolding judged
-returns c = (c .first-of .ensures) ∙ rw (c .before .before .before .before .before .before .sizes-ok .ensures, c .before .before .numbers-ok .ensures, c .before .scores-ok .ensures)
+returns c = rw (c .when4 .ensures, c .before .when3 .ensures, c .before .before .when2 .ensures, c .before .before .before .when .ensures, c .before .before .before .before .before .before .before .before .before .sizes-ok .ensures, c .before .before .before .before .before .numbers-ok .ensures, c .before .before .before .before .scores-ok .ensures)
 
 pub judge-spec : {M : Type 1} → statement M
 judge-spec =
     tie.close
-    (tie.spec sizes-ok-requires numbers-ok-requires scores-ok-requires first-of-requires returns)
+    (tie.spec
+    sizes-ok-requires
+    numbers-ok-requires
+    scores-ok-requires
+    when-requires
+    when-requires-2
+    when-requires-3
+    when-requires-4
+    returns)

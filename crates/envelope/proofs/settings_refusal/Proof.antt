@@ -1,5 +1,4 @@
 -- `envelope::settings_refusal` meets its contract: each test is the condition of its number.
-use mathlib.Core.Path.{_∙_}
 use borrow.Author.Needs.{needs}
 use Rattle.envelope.proofs.settings_refusal.Statement.{statement}
 use Rattle.envelope.proofs.settings_refusal.Tie as tie
@@ -16,11 +15,20 @@ steps-ok-requires c κs = search needs
 channels-ok-requires : tie.Need-channels-ok-requires
 channels-ok-requires c κs = search needs
 
-first-of-requires : tie.Need-first-of-requires
-first-of-requires c κs = search needs
+when-requires : tie.Need-when-requires
+when-requires c κs = search needs
+
+when-requires-2 : tie.Need-when-requires-2
+when-requires-2 c κs = search needs
+
+when-requires-3 : tie.Need-when-requires-3
+when-requires-3 c κs = search needs
+
+when-requires-4 : tie.Need-when-requires-4
+when-requires-4 c κs = search needs
 
 returns : tie.Need-returns
-returns c = (c .first-of .ensures) ∙ rw (c .before .before .before .before .sizes-ok .ensures, c .before .before .before .numbers-ok .ensures, c .before .before .steps-ok .ensures, c .before .channels-ok .ensures)
+returns c = rw (c .when4 .ensures, c .before .when3 .ensures, c .before .before .when2 .ensures, c .before .before .before .when .ensures, c .before .before .before .before .before .before .before .sizes-ok .ensures, c .before .before .before .before .before .before .numbers-ok .ensures, c .before .before .before .before .before .steps-ok .ensures, c .before .before .before .before .channels-ok .ensures)
 
 pub settings-refusal-spec : {M : Type 1} → statement M
 settings-refusal-spec =
@@ -30,5 +38,8 @@ settings-refusal-spec =
     numbers-ok-requires
     steps-ok-requires
     channels-ok-requires
-    first-of-requires
+    when-requires
+    when-requires-2
+    when-requires-3
+    when-requires-4
     returns)

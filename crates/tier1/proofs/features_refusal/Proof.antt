@@ -18,8 +18,8 @@ state-refusal-requires c κs = search needs
 not-finite-requires : tie.Need-not-finite-requires
 not-finite-requires c κs = search needs
 
-number-if-requires : tie.Need-number-if-requires
-number-if-requires c κs = search needs
+when-requires : tie.Need-when-requires
+when-requires c κs = search needs
 
 earlier-requires : tie.Need-earlier-requires
 earlier-requires c κs = search needs
@@ -31,7 +31,7 @@ earlier-requires-3 : tie.Need-earlier-requires-3
 earlier-requires-3 c κs = search needs
 
 returns : tie.Need-returns
-returns c = let g = c .before .before .before .before .before .before .before .before .before .before .before .args in judged-is (whole (g .c) (now (g .center)) (now (g .scale))) (now (g .pos)) (now (g .ext)) (g .there) (g .k) (now (g .rows)) (g .rt) (g .sc) (c .before .before .before .before .before .before .before .settings-refusal .ensures) (c .before .before .before .before .before .before .new-refusal .ensures) (c .before .before .before .before .before .state-refusal .ensures) (c .before .before .before .before .not-finite .ensures) (c .before .before .before .number-if .ensures) (c .before .before .earlier .ensures) (c .before .earlier2 .ensures) (c .earlier3 .ensures)
+returns c = let g = c .before .before .before .before .before .before .before .before .before .before .before .args in judged-is (whole (g .c) (now (g .center)) (now (g .scale))) (now (g .pos)) (now (g .ext)) (g .there) (g .k) (now (g .rows)) (g .rt) (g .sc) (c .before .before .before .before .before .before .before .settings-refusal .ensures) (c .before .before .before .before .before .before .new-refusal .ensures) (c .before .before .before .before .before .state-refusal .ensures) (c .before .before .before .before .not-finite .ensures) (c .before .before .before .when .ensures) (c .before .before .earlier .ensures) (c .before .earlier2 .ensures) (c .earlier3 .ensures)
 
 pub features-refusal-spec : {M : Type 1} → statement M
 features-refusal-spec =
@@ -41,7 +41,7 @@ features-refusal-spec =
     new-refusal-requires
     state-refusal-requires
     not-finite-requires
-    number-if-requires
+    when-requires
     earlier-requires
     earlier-requires-2
     earlier-requires-3

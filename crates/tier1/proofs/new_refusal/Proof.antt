@@ -14,16 +14,16 @@ chunk-refusal-requires c κs = search needs
 cast-d : tie.Need-cast-d
 cast-d c = search needs
 
-number-if-requires : tie.Need-number-if-requires
-number-if-requires c κs = search needs
+when-requires : tie.Need-when-requires
+when-requires c κs = search needs
 
 earlier-requires : tie.Need-earlier-requires
 earlier-requires c κs = search needs
 
 returns-2 : tie.Need-returns-2
-returns-2 c = let g = c .before .before .before .before .before .args in new-is (g .there) (g .k) (g .len) (g .dim) (not-false _ (c .before .before .before .before .if1 .left)) (c .before .before .before .chunk-refusal .ensures) (c .before .number-if .ensures) (c .earlier .ensures)
+returns-2 c = let g = c .before .before .before .before .before .args in new-is (g .there) (g .k) (g .len) (g .dim) (not-false _ (c .before .before .before .before .if1 .left)) (c .before .before .before .chunk-refusal .ensures) (c .before .when .ensures) (c .earlier .ensures)
 
 pub new-refusal-spec : {M : Type 1} → statement M
 new-refusal-spec =
     tie.close
-    (tie.spec returns chunk-refusal-requires cast-d number-if-requires earlier-requires returns-2)
+    (tie.spec returns chunk-refusal-requires cast-d when-requires earlier-requires returns-2)
