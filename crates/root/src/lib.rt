@@ -125,17 +125,20 @@ fn remainder(w: u64, s: Split) -> u64
     requires { ⌜ s .b < 2 ^ 29 ⌝ }
     ensures { λ r. ⌜ (r < 2 ^ 63 → (s .a * 2 ^ 21 + s .b) * (s .a * 2 ^ 21 + s .b) + r ≡ w * 2 ^ 42) ⌝ }
 {
+    let none = 0xffff_ffff_ffff_ffff;
     let square = product(s.a, s.a);
-    if square <= w {
-        let first = w - square;
-        if first < 0x100_0000_0000 {
-            let second = std::num::wrapping_sub_u64(first * 0x10_0000, product(s.a, s.b));
-            if second < 0x100_0000_0000 {
-                return std::num::wrapping_sub_u64(second * 0x40_0000, product(s.b, s.b));
-            }
-        }
+    if w < square {
+        return none;
     }
-    0xffff_ffff_ffff_ffff
+    let first = w - square;
+    if first >= 0x100_0000_0000 {
+        return none;
+    }
+    let second = std::num::wrapping_sub_u64(first * 0x10_0000, product(s.a, s.b));
+    if second >= 0x100_0000_0000 {
+        return none;
+    }
+    std::num::wrapping_sub_u64(second * 0x40_0000, product(s.b, s.b))
 }
 
 // The whole part of the root of w * 4^n / 2^64, one digit of the root and two of w a round; no round branches on a digit.
