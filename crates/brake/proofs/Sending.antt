@@ -1,5 +1,5 @@
 -- A row's refusal, case by case; a kind that is none of the velocity kinds; and the whole answer.
-use Prim.Native.Nat.{ℕ, zero, suc, _≤_, _<_}
+use Prim.Native.Nat.{ℕ, zero, suc, min, _≤_, _<_}
 use mathlib.Core.Path.{_≡_, refl, sym, ap, _∙_}
 use mathlib.Core.Bool.{Bool, true, false, not, _&&_}
 use mathlib.Core.Logic.{inl, inr}
@@ -16,6 +16,7 @@ use Rattle.refusal.specs.Chain.{chain, first-refuses, first-passes, both-pass, 
 use Rattle.refusal.specs.declared.Refusal.{Refusal}
 use Rattle.fmath.specs.Each.{at, over}
 use Rattle.fmath.specs.Checked.{pure}
+use Rattle.fmath.proofs.Copy.{all-put}
 use Rattle.envelope.specs.Refusals.{configJudged}
 use Rattle.envelope.specs.declared.ActionKind.{ActionKind}
 use Rattle.envelope.specs.declared.ActionKind.the-variants.{EePosition, EeDelta, JointPosition, JointVelocity, Other}
@@ -94,6 +95,10 @@ module _ (c : FuseConfig) (fine : Bool) (room : ℕ) where
       let a = passes-at short (ltb room (c .dim)) ((notFinite when not fine) ∷ []) (w .1) in
       (dim-most c (accepted c (w .0)), ltb-false room (c .dim) (a .0))
 
+-- .. so that all of it is put over the output
+all-sent : (c : FuseConfig) (fine : Bool) (row l : List Float) → before c fine (length l) ≡ 0 → length row ≡ 8 → {m : List Float} → m ≡ over (at row) l (min (c .dim) (min (length row) (length l))) → m ≡ over (at row) l (c .dim)
+all-sent c fine row l z long = let w = sized c fine (length l) z in all-put l row (omega (arith, w .0)) (w .1)
+
 -- ---- the whole answer
 
 sent-number : (k : ℕ) → (k ≡ 0 → ⊥) → {r : Refusal} → r ≡ refusedFor k → sent.Refused r ≡ sentAt k
@@ -139,9 +144,9 @@ module _ (c : FuseConfig) (p v l : List Float) {fine : Bool} (ef : fine ≡ each
     pub brake-unsound : row .sound ≡ false → {r : Refusal} → r ≡ refusedFor 13 → Braked c p v l (sent.Refused r) l
     brake-unsound y = numbered 13 (left ∙ ap (λ (b : Bool). if not b then 13 else 0) y) (λ q. omega arith)
 
-    pub brake-done : row .sound ≡ true → {m : List Float} → m ≡ over (at (row .at)) l (c .dim) → Braked c p v l sent.Done m
+    pub brake-done : row .sound ≡ true → length (row .at) ≡ 8 → {m : List Float} → m ≡ over (at (row .at)) l (min (c .dim) (min (length (row .at)) (length l))) → Braked c p v l sent.Done m
     unfolding brakeAnswer brakeOutput
-    brake-done y i = let e = left ∙ ap (λ (b : Bool). if not b then 13 else 0) y in record { gives = rw e; leaves = i ∙ rw (e, is-sent) }
+    brake-done y long i = let e = left ∙ ap (λ (b : Bool). if not b then 13 else 0) y in record { gives = rw e; leaves = all-sent c fine (row .at) l z long i ∙ rw (e, is-sent) }
 
 pub record Held (c : FuseConfig) (p l : List Float) (r : Sent) (m : List Float) : Type 0 where
   pub gives : r ≡ holdAnswer c p (length l)
@@ -157,6 +162,6 @@ module _ (c : FuseConfig) (p l : List Float) {fine : Bool} (ef : fine ≡ eachFi
   hold-refused {k} g y i = let e : holdRefusal c p (length l) ≡ k = sym (g ∙ same-refusal) in record { gives = rw e (sent-number k y i); leaves = rw e (kept-number k y _ _ l) }
 
   pub hold-done : before c fine (length l) ≡ 0 → {w : Workspace} {row : List Float} → w ≡ workspaceFor c → row ≡ holdRow (c .kind) (wallsOf w) p (c .dim)
-      → {m : List Float} → m ≡ over (at row) l (c .dim) → Held c p l sent.Done m
+      → length row ≡ 8 → {m : List Float} → m ≡ over (at row) l (min (c .dim) (min (length row) (length l))) → Held c p l sent.Done m
   unfolding holdAnswer holdOutput
-  hold-done z ew er i = let e = sym same-refusal ∙ z in record { gives = rw e; leaves = i ∙ rw (e, er, ew) }
+  hold-done z {w} {row} ew er long i = let e = sym same-refusal ∙ z in record { gives = rw e; leaves = all-sent c fine row l z long i ∙ rw (e, er, ew) }

@@ -2,11 +2,10 @@
 ghost use mathlib.Core.Path.{_≡_};
 ghost use mathlib.Core.Bool.{true};
 ghost use mathlib.Core.List.{_++_};
-ghost use Prim.Native.Nat.{ℕ, suc, _+_, _-_, _*_, min, _≤_};
+ghost use Prim.Native.Nat.{ℕ, suc, _+_, _-_, _*_, _≤_};
 ghost use lib.ListN.{length, getD};
 ghost use lib.Ieee.{Float, binary64};
 ghost use Rattle.refusal.specs.Order.{refusal};
-ghost use Rattle.fmath.specs.Each.{at, over};
 ghost use Rattle.fmath.specs.Finite.{+0};
 ghost use Rattle.chunk.specs.Refusals.{chunkReasons};
 ghost use Rattle.envelope.specs.Refusals.{configJudged};
@@ -441,18 +440,6 @@ fn hold_row(kind: ActionKind, w: Workspace, pos: &[f64], n: usize) -> [f64; 8]
     }
 }
 
-// The first n numbers of a row, written over a slice; the rest stays.
-fn write_row(row: [f64; 8], n: usize, out: &mut [f64])
-    requires { ⌜ (n ≤ 8) × (n ≤ length (now out)) ⌝ }
-    ensures { λ _. ⌜ now (out .exit) ≡ over (at row) (now (out .entry)) n ⌝ }
-{
-    let mut j = 0;
-    while j < n {
-        out[j] = row[j];
-        j += 1;
-    }
-}
-
 // The number for a row before it is computed: the configuration's own, then 11, then 12; 0 where there is none.
 fn row_refusal(c: FuseConfig, fine: bool, room: usize) -> u8
     ensures { λ r. ⌜ r ≡ refusal (configJudged c ++ rowLent c fine room) ⌝ }
@@ -486,7 +473,7 @@ pub fn brake_action(c: FuseConfig, pos: &[f64], vel: &[f64], out: &mut [f64]) ->
         return Sent::Refused(Refusal::of(Refusal::COMPUTED));
     }
     let at = row.at;
-    write_row(at, c.dim, out);
+    fmath::put(&at, c.dim, out);
     Sent::Done
 }
 
@@ -502,6 +489,6 @@ pub fn hold_action(c: FuseConfig, pos: &[f64], out: &mut [f64]) -> Sent
     let w = workspace_of(c);
     let kind = c.kind;
     let row = hold_row(kind, w, pos, c.dim);
-    write_row(row, c.dim, out);
+    fmath::put(&row, c.dim, out);
     Sent::Done
 }

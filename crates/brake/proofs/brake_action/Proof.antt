@@ -1,5 +1,5 @@
 -- `brake::brake_action` meets its contract: refused before the row is computed, refused by a computed number, or written.
-use mathlib.Core.Path.{sym, ap, _∙_}
+use mathlib.Core.Path.{_≡_, sym, ap, _∙_}
 use mathlib.Core.Bool.{Bool, _&&_}
 use borrow.Author.Tests.{not-true, not-false}
 use denote.Ref.{now}
@@ -40,16 +40,23 @@ returns-2 c =
     let w = brake-unsound (g .c) (now (g .pos)) (now (g .vel)) (now (g .out)) (ap (λ (b : Bool). b && c .before .before .before .before .before .before .before .all-finite2 .result) (c .before .before .before .before .before .before .before .before .all-finite .ensures) ∙ ap (λ (b : Bool). eachFinite (now (g .pos)) && b) (c .before .before .before .before .before .before .before .all-finite2 .ensures)) (sym (c .before .before .before .before .before .before .row-refusal .ensures) ∙ c .before .before .before .before .before .if1 .left) (c .before .before .before .before .workspace-of .ensures) (c .before .before .before .brake-row .ensures) (not-true _ (c .before .if2 .taken)) (c .of2 .ensures) in
     (w .gives, w .leaves)
 
-write-row-requires : tie.Need-write-row-requires
-write-row-requires c κs = let g = c .before .before .before .before .before .before .before .before .before .before .before .before .before .args in sized (g .c) (c .before .before .before .before .before .before .before .before .before .all-finite .result && c .before .before .before .before .before .before .before .before .all-finite2 .result) (length (now (g .out))) (sym (c .before .before .before .before .before .before .before .row-refusal .ensures) ∙ c .before .before .before .before .before .before .if1 .left)
+slice-aggregate-put : tie.Need-slice-aggregate-put
+slice-aggregate-put c = search needs
+
+put-requires : tie.Need-put-requires
+put-requires c κs = search needs
 
 same-length : tie.Need-same-length
 same-length c = search needs
 
+-- the row has eight numbers
+long : (c : tie.After-put) → length (c .before .before .before .before .before .before .brake-row .result .at) ≡ 8
+long c = search needs
+
 returns-3 : tie.Need-returns-3
 returns-3 c =
-    let g = c .before .before .before .before .before .before .before .before .before .before .before .before .before .before .before .before .args in
-    let w = brake-done (g .c) (now (g .pos)) (now (g .vel)) (now (g .out)) (ap (λ (b : Bool). b && c .before .before .before .before .before .before .before .before .before .before .before .all-finite2 .result) (c .before .before .before .before .before .before .before .before .before .before .before .before .all-finite .ensures) ∙ ap (λ (b : Bool). eachFinite (now (g .pos)) && b) (c .before .before .before .before .before .before .before .before .before .before .before .all-finite2 .ensures)) (sym (c .before .before .before .before .before .before .before .before .before .before .row-refusal .ensures) ∙ c .before .before .before .before .before .before .before .before .before .if1 .left) (c .before .before .before .before .before .before .before .before .workspace-of .ensures) (c .before .before .before .before .before .before .before .brake-row .ensures) (not-false _ (c .before .before .before .before .before .if2 .left)) (c .before .before .write-row .ensures) in
+    let g = c .before .before .before .before .before .before .before .before .before .before .before .before .before .before .before .before .before .args in
+    let w = brake-done (g .c) (now (g .pos)) (now (g .vel)) (now (g .out)) (ap (λ (b : Bool). b && c .before .before .before .before .before .before .before .before .before .before .before .before .all-finite2 .result) (c .before .before .before .before .before .before .before .before .before .before .before .before .before .all-finite .ensures) ∙ ap (λ (b : Bool). eachFinite (now (g .pos)) && b) (c .before .before .before .before .before .before .before .before .before .before .before .before .all-finite2 .ensures)) (sym (c .before .before .before .before .before .before .before .before .before .before .before .row-refusal .ensures) ∙ c .before .before .before .before .before .before .before .before .before .before .if1 .left) (c .before .before .before .before .before .before .before .before .before .workspace-of .ensures) (c .before .before .before .before .before .before .before .before .brake-row .ensures) (not-false _ (c .before .before .before .before .before .before .if2 .left)) (long (c .before .before)) (c .before .before .put .ensures) in
     (w .gives, w .leaves)
 
 pub brake-action-spec : {M : Type 1} → statement M
@@ -65,6 +72,7 @@ brake-action-spec =
     brake-row-requires
     of-requires-2
     returns-2
-    write-row-requires
+    slice-aggregate-put
+    put-requires
     same-length
     returns-3)
