@@ -2,13 +2,14 @@
 ghost use mathlib.Core.Path.{_≡_};
 ghost use mathlib.Core.Bool.{true};
 ghost use mathlib.Core.List.{_++_};
-ghost use Prim.Native.Nat.{ℕ, suc, _+_, _-_, _*_, _≤_};
+ghost use Prim.Native.Nat.{ℕ, suc, _≤_};
 ghost use lib.ListN.{length, getD};
-ghost use lib.Ieee.{Float, binary64};
+ghost use lib.Ieee.{binary64};
 ghost use Rattle.refusal.specs.Order.{refusal};
 ghost use Rattle.fmath.specs.Finite.{+0};
 ghost use Rattle.chunk.specs.Refusals.{chunkReasons};
 ghost use Rattle.envelope.specs.Refusals.{configJudged};
+ghost use Rattle.envelope.specs.Steps.{substepsIn};
 ghost use Rattle.workspace.specs.Of.{wallsOf};
 ghost use Rattle.rollout.specs.Plant.{State};
 ghost use Rattle.rollout.specs.Forecast.{Forecast, writtenOf};
@@ -160,7 +161,7 @@ fn second_order(
     rows: &[f64],
     slack: &mut [f64],
 ) -> BrakeOut
-    requires { ⌜ (rolled.roomy c (length (now rows)) (length (now slack)) ≡ true) × ((c .commit .0 - c .from + c .brake .0) * c .per .0 ≤ 4096) ⌝ }
+    requires { ⌜ (rolled.roomy c (length (now rows)) (length (now slack)) ≡ true) × (substepsIn (rolled.leftOf c) (c .brake) (c .per) ≤ 4096) ⌝ }
     ensures { λ r. ⌜ (r ≡ outcome (rolling.forecast binary64 (rolled.taskOf g w c start (now (rows .entry))))) × (now (slack .exit) ≡ writtenOf (rolling.forecast binary64 (rolled.taskOf g w c start (now (rows .entry)))) (now (slack .entry))) ⌝ }
 {
     let run = rollout::rollout(g, w, c, start, rows, slack);
@@ -179,7 +180,7 @@ fn closed(
     rows: &[f64],
     slack: &mut [f64],
 ) -> BrakeOut
-    requires { ⌜ (stopped.roomy c (length (now rows)) (length (now slack)) ≡ true) × (suc (c .commit .0 - c .from) ≤ 4096) ⌝ }
+    requires { ⌜ (stopped.roomy c (length (now rows)) (length (now slack)) ≡ true) × (suc (rolled.leftOf c .0) ≤ 4096) ⌝ }
     ensures { λ r. ⌜ (r ≡ outcome (stopping-rule.forecast binary64 (stopped.taskOf arm react w c start (now (rows .entry))))) × (now (slack .exit) ≡ writtenOf (stopping-rule.forecast binary64 (stopped.taskOf arm react w c start (now (rows .entry)))) (now (slack .entry))) ⌝ }
 {
     let run = stopping::stopping(arm, react, w, c, start, rows, slack);

@@ -20,6 +20,7 @@ use Rattle.fmath.proofs.Ordered.{Real, finite-real, le-not-above, lt-not-below,
 use Rattle.fmath.proofs.Extremes.{least-real, least-bounds, least-attained, lesser-left, lesser-right, lesser-real}
 use Rattle.fmath.proofs.Absorbing.{fine-sub-left, fine-sub-right}
 use Rattle.fmath.proofs.Sign.{difference-below-zero}
+use Rattle.envelope.specs.declared.ControlSteps.{ControlSteps}
 use Rattle.workspace.specs.Rule.{Walls, between, gap, slack, inward}
 use Rattle.rollout.specs.Plant.{State, substep}
 use Rattle.rollout.specs.Forecast.{Forecast, fine, slackAt, reach, reached, placeOf, marginOf, feasibleOf, writtenOf}
@@ -127,7 +128,7 @@ gaps-all-real f w p n h j b =
 
 module _ (f : Format) (t : Task) where
   -- N: the control steps still committed, plus the braking steps, times the substeps
-  pub count-is-N : forecast f t .count ≡ (t .commit - t .from + t .brake) * t .per
+  pub count-is-N : forecast f t .count ≡ (t .commit .0 - t .from + t .brake .0) * t .per .0
   count-is-N = refl
 
   -- the k-th entry (counted from 1) is the slack of the plant after k substeps from the given start
@@ -151,7 +152,7 @@ module _ (f : Format) (t : Task) where
       (least-real (λ (j : ℕ). gap f (t .walls) (after f t (suc k) .p) j .value) (t .n) (gaps-all-real f (t .walls) (after f t (suc k) .p) (t .n) (fine-slack k h)))
 
 -- two tasks that differ only in braking steps
-abbrev pub braking : Task → ℕ → Task
+abbrev pub braking : Task → ControlSteps → Task
 braking t b = record {
   gains = t .gains;
   walls = t .walls;
@@ -166,7 +167,7 @@ braking t b = record {
   per = t .per;
 }
 
-module _ (f : Format) (t : Task) (b : ℕ) where
+module _ (f : Format) (t : Task) (b : ControlSteps) where
   same-pushed : (k : ℕ) → pushed f (braking t b) k ≡ pushed f t k
   unfolding pushed
   same-pushed zero = refl

@@ -2,7 +2,7 @@
 ghost use mathlib.Core.Path.{_≡_};
 ghost use mathlib.Core.Bool.{true};
 ghost use mathlib.Core.List.{List};
-ghost use Prim.Native.Nat.{ℕ, suc, _+_, _-_, _*_, _≤_, _<_};
+ghost use Prim.Native.Nat.{ℕ, suc, _+_, _≤_, _<_};
 ghost use lib.ListN.{length};
 ghost use lib.IntN.{pos};
 ghost use lib.Ieee.{Float, binary64, ofInt};
@@ -11,7 +11,7 @@ ghost use Rattle.stopping.specs.Rule.{ratio, ramp, ease, glide, radius, 
 ghost use Rattle.stopping.specs.Of.{steppedFrom, sumOf, taskOf, Along, Under, roomy};
 ghost use Rattle.fmath.specs.Checked.{times, divided};
 ghost use Rattle.rollout.specs.Forecast.{writtenOf};
-ghost use Rattle.rollout.specs.Of.{stateOf, reckonedFrom, runOf, noRun};
+ghost use Rattle.rollout.specs.Of.{stateOf, reckonedFrom, leftOf, shaped, runOf, noRun};
 ghost use Rattle.rollout.specs.declared.Plant.{Plant};
 use envelope::ActionKind;
 use envelope::BrakeKind;
@@ -213,8 +213,8 @@ fn follow(
     run: Run,
     slack: &mut [f64],
 ) -> Run
-    requires { ⌜ (c .live ≤ 8) × (c .live ≤ c .dim) × (1 ≤ c .horizon) × (length (now rows) ≡ c .horizon * c .dim) × (run .done + (c .commit .0 - c .from) ≤ length (now slack)) ⌝ }
-    ensures { λ r. ⌜ (r .done ≤ run .done + (c .commit .0 - c .from)) × ((react : ℕ) (s : Plant) (l : List Float) → Under binary64 (taskOf arm react w c s (now (rows .entry))) g wait → Along binary64 (taskOf arm react w c s (now (rows .entry))) l 1 run (now (slack .entry)) → Along binary64 (taskOf arm react w c s (now (rows .entry))) l (suc (c .commit .0 - c .from)) r (now (slack .exit))) ⌝ }
+    requires { ⌜ (shaped c (length (now rows)) ≡ true) × (run .done + leftOf c .0 ≤ length (now slack)) ⌝ }
+    ensures { λ r. ⌜ (r .done ≤ run .done + leftOf c .0) × ((react : ℕ) (s : Plant) (l : List Float) → Under binary64 (taskOf arm react w c s (now (rows .entry))) g wait → Along binary64 (taskOf arm react w c s (now (rows .entry))) l 1 run (now (slack .entry)) → Along binary64 (taskOf arm react w c s (now (rows .entry))) l (suc (leftOf c .0)) r (now (slack .exit))) ⌝ }
 {
     let left = rollout::rows_left(c.commit, c.from).0 as usize;
     let mut r = run;
