@@ -442,8 +442,8 @@ fn hold_row(kind: ActionKind, w: Workspace, pos: &[f64], n: usize) -> [f64; 8]
 }
 
 // The number for a row before it is computed: the configuration's own, then 11, then 12; 0 where there is none.
-fn row_refusal(c: FuseConfig, fine: bool, room: usize) -> u8
-    ensures { λ r. ⌜ r ≡ refusal (configJudged c ++ rowLent c fine room) ⌝ }
+fn row_refusal(c: FuseConfig, unfit: bool, room: usize) -> u8
+    ensures { λ r. ⌜ r ≡ refusal (configJudged c ++ rowLent c unfit room) ⌝ }
 {
     let number = envelope::config_refusal(c);
     if number != 0 {
@@ -452,7 +452,7 @@ fn row_refusal(c: FuseConfig, fine: bool, room: usize) -> u8
     if room < c.dim {
         return Refusal::SHORT;
     }
-    if !fine {
+    if unfit {
         return Refusal::NOT_FINITE;
     }
     0
@@ -462,8 +462,8 @@ fn row_refusal(c: FuseConfig, fine: bool, room: usize) -> u8
 pub fn brake_action(c: FuseConfig, pos: &[f64], vel: &[f64], out: &mut [f64]) -> Sent
     ensures { λ r. ⌜ (r ≡ brakeAnswer c (now (pos .entry)) (now (vel .entry)) (length (now (out .entry)))) × (now (out .exit) ≡ brakeOutput c (now (pos .entry)) (now (vel .entry)) (now (out .entry))) ⌝ }
 {
-    let fine = fmath::all_finite(pos, pos.len()) & fmath::all_finite(vel, vel.len());
-    let number = row_refusal(c, fine, out.len());
+    let unfit = !fmath::all_finite(pos, pos.len()) | !fmath::all_finite(vel, vel.len());
+    let number = row_refusal(c, unfit, out.len());
     if number != 0 {
         return Sent::Refused(Refusal::of(number));
     }
@@ -482,8 +482,8 @@ pub fn brake_action(c: FuseConfig, pos: &[f64], vel: &[f64], out: &mut [f64]) ->
 pub fn hold_action(c: FuseConfig, pos: &[f64], out: &mut [f64]) -> Sent
     ensures { λ r. ⌜ (r ≡ holdAnswer c (now (pos .entry)) (length (now (out .entry)))) × (now (out .exit) ≡ holdOutput c (now (pos .entry)) (now (out .entry))) ⌝ }
 {
-    let fine = fmath::all_finite(pos, pos.len());
-    let number = row_refusal(c, fine, out.len());
+    let unfit = !fmath::all_finite(pos, pos.len());
+    let number = row_refusal(c, unfit, out.len());
     if number != 0 {
         return Sent::Refused(Refusal::of(number));
     }

@@ -1,5 +1,6 @@
 -- `brake::hold_action` meets its contract: refused before the row is made, or written.
-use mathlib.Core.Path.{_≡_, sym, _∙_}
+use mathlib.Core.Path.{_≡_, sym, ap, _∙_}
+use mathlib.Core.Bool.{not}
 use denote.Ref.{now}
 use lib.ListN.{length}
 use Rattle.brake.proofs.Sending.{hold-refused, hold-done}
@@ -17,7 +18,7 @@ of-requires : tie.Need-of-requires
 of-requires c κs = search needs
 
 returns : tie.Need-returns
-returns c = let g = c .before .before .before .before .before .before .args in let w = hold-refused (g .c) (now (g .pos)) (now (g .out)) (c .before .before .before .all-finite .ensures) (c .before .before .row-refusal .ensures) (c .before .if1 .taken) (c .of .ensures) in (w .gives, w .leaves)
+returns c = let g = c .before .before .before .before .before .before .args in let w = hold-refused (g .c) (now (g .pos)) (now (g .out)) (ap not (c .before .before .before .all-finite .ensures)) (c .before .before .row-refusal .ensures) (c .before .if1 .taken) (c .of .ensures) in (w .gives, w .leaves)
 
 workspace-of-requires : tie.Need-workspace-of-requires
 workspace-of-requires c κs = search needs
@@ -41,7 +42,7 @@ long c = search needs
 returns-2 : tie.Need-returns-2
 returns-2 c =
     let g = c .before .before .before .before .before .before .before .before .before .before .before .before .args in
-    let w = hold-done (g .c) (now (g .pos)) (now (g .out)) (c .before .before .before .before .before .before .before .before .before .all-finite .ensures) (sym (c .before .before .before .before .before .before .before .before .row-refusal .ensures) ∙ c .before .before .before .before .before .before .before .if1 .left) (c .before .before .before .before .before .before .workspace-of .ensures) (c .before .before .before .before .before .hold-row .ensures) (long (c .before .before)) (c .before .before .put .ensures) in
+    let w = hold-done (g .c) (now (g .pos)) (now (g .out)) (ap not (c .before .before .before .before .before .before .before .before .before .all-finite .ensures)) (sym (c .before .before .before .before .before .before .before .before .row-refusal .ensures) ∙ c .before .before .before .before .before .before .before .if1 .left) (c .before .before .before .before .before .before .workspace-of .ensures) (c .before .before .before .before .before .hold-row .ensures) (long (c .before .before)) (c .before .before .put .ensures) in
     (w .gives, w .leaves)
 
 pub hold-action-spec : {M : Type 1} → statement M
