@@ -38,6 +38,10 @@ plantFrom s = record { p = s .p; v = s .v }
 abbrev pub joinedOf : Plant → Plant → ℕ → Plant
 joinedOf moved still n = record { p = over (at (moved .p)) (still .p) n; v = over (at (moved .v)) (still .v) n }
 
+-- .. of a run that has come so far
+abbrev pub endedOf : Plant → Plant → ℕ → Float → ℕ → Bool → Run
+endedOf moved still n margin done sound = record { plant = joinedOf moved still n; margin = margin; done = done; sound = sound }
+
 abbrev pub reckonedFrom : Checked Float → Reckoned
 reckonedFrom x = record { value = x .value; sound = x .sound }
 

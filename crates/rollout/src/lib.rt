@@ -11,7 +11,7 @@ ghost use Rattle.rollout.specs.Plant.{axis, substep};
 ghost use Rattle.rollout.specs.Forecast.{writtenOf};
 ghost use Rattle.rollout.specs.Rule.{Task, rowsLeft, after, stopDistance, forecast};
 ghost use Rattle.rollout.specs.declared.Plant.{Plant};
-ghost use Rattle.rollout.specs.Of.{gainsOf, stateOf, movedFrom, joinedOf, reckonedFrom, taskOf, Along, Towards, Under, leftOf, shaped, roomy, noRun, runOf};
+ghost use Rattle.rollout.specs.Of.{gainsOf, stateOf, movedFrom, joinedOf, endedOf, reckonedFrom, taskOf, Along, Towards, Under, leftOf, shaped, roomy, noRun, runOf};
 use envelope::ControlSteps;
 use envelope::Substeps;
 use workspace::Workspace;
@@ -147,6 +147,20 @@ fn joined(moved: Plant, still: Plant, n: usize) -> Plant
     r
 }
 
+// A run that has come so far, its first n axes moved and the rest still where they were.
+fn ended(moved: Plant, still: Plant, n: usize, margin: f64, done: usize, sound: bool) -> Run
+    requires { ⌜ n ≤ 8 ⌝ }
+    ensures { λ r. ⌜ r ≡ endedOf moved still n margin done sound ⌝ }
+{
+    let plant = joined(moved, still, n);
+    Run {
+        plant,
+        margin,
+        done,
+        sound,
+    }
+}
+
 // One setpoint, held for so many substeps, axis by axis.
 fn stepwise(
     g: Law,
@@ -198,13 +212,7 @@ fn abreast(
         let there = next.p;
         let room = workspace::slack_abreast(w, there, n);
         if !room.sound {
-            let plant = joined(moved, still, n);
-            return Run {
-                plant,
-                margin,
-                done: at,
-                sound: false,
-            };
+            return ended(moved, still, n, margin, at, false);
         }
         slack[at] = room.least;
         margin = fmath::min(margin, room.least);
@@ -212,13 +220,7 @@ fn abreast(
         at += 1;
         s += 1;
     }
-    let plant = joined(moved, still, n);
-    Run {
-        plant,
-        margin,
-        done: at,
-        sound: true,
-    }
+    ended(moved, still, n, margin, at, true)
 }
 
 // One setpoint, held for so many substeps. A single axis is quicker alone.

@@ -1,7 +1,7 @@
 -- The rules at the declared structs.
 use Prim.Native.Nat.{ℕ}
 use mathlib.Core.Path.{_≡_}
-use mathlib.Core.Bool.{Bool, _&&_}
+use mathlib.Core.Bool.{Bool, false, _&&_}
 use mathlib.Core.List.{List, [], _∷_}
 use lib.Dec.{ltb}
 use lib.Ieee.{Float, Format, add}
@@ -39,6 +39,10 @@ taskOf arm react w c s rows = record {
   from = c .from;
   commit = c .commit;
 }
+
+-- a run that goes no further than it has come
+abbrev pub haltedAt : Plant → Float → ℕ → Run
+haltedAt plant margin done = record { plant = plant; margin = margin; done = done; sound = false }
 
 -- a run has come along k entries
 abbrev pub Along : Format → Task → List Float → ℕ → Run → List Float → Type 0

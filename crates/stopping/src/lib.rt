@@ -8,7 +8,7 @@ ghost use lib.IntN.{pos};
 ghost use lib.Ieee.{Float, binary64, ofInt};
 ghost use Rattle.refusal.specs.Order.{if_then_else_};
 ghost use Rattle.stopping.specs.Rule.{ratio, ramp, ease, glide, radius, commanded, command, step, rowAt, gain, reaction, stand, stopDistance, forecast};
-ghost use Rattle.stopping.specs.Of.{steppedFrom, sumOf, taskOf, Along, Under, roomy};
+ghost use Rattle.stopping.specs.Of.{steppedFrom, sumOf, taskOf, haltedAt, Along, Under, roomy};
 ghost use Rattle.fmath.specs.Checked.{times, divided};
 ghost use Rattle.rollout.specs.Forecast.{writtenOf};
 ghost use Rattle.rollout.specs.Of.{stateOf, reckonedFrom, leftOf, shaped, runOf, noRun};
@@ -158,6 +158,18 @@ fn step(dt: f64, v: [f64; 8], p: [f64; 8], n: usize) -> Stepped
     Stepped { p: r, sound }
 }
 
+// A run that goes no further than it has come.
+fn halted(plant: Plant, margin: f64, done: usize) -> Run
+    ensures { λ r. ⌜ r ≡ haltedAt plant margin done ⌝ }
+{
+    Run {
+        plant,
+        margin,
+        done,
+        sound: false,
+    }
+}
+
 // One row more, if the run still goes: its slack is written unless a number on the way isn't finite.
 fn row(
     arm: Arm,
@@ -184,12 +196,7 @@ fn row(
     let next = step(arm.dt, v, p, n);
     let there = next.p;
     if !(r.sound & (gap.sound & next.sound)) {
-        return Run {
-            plant,
-            margin: run.margin,
-            done: run.done,
-            sound: false,
-        };
+        return halted(plant, run.margin, run.done);
     }
     let at = run.done;
     slack[at] = gap.least;
@@ -248,12 +255,7 @@ fn begin(
     let r = radius(arm, wait.value, v, n);
     let gap = workspace::slack_within(w, r.value, p, n);
     if !(wait.sound & (g.sound & (r.sound & gap.sound))) {
-        return Run {
-            plant: start,
-            margin: inf,
-            done: 0,
-            sound: false,
-        };
+        return halted(start, inf, 0);
     }
     slack[0] = gap.least;
     let margin = fmath::min(inf, gap.least);
@@ -297,12 +299,7 @@ pub fn stopping(
 {
     let inf = 1.0 / 0.0;
     if !roomy(c, rows.len(), slack.len()) {
-        return Run {
-            plant: start,
-            margin: inf,
-            done: 0,
-            sound: false,
-        };
+        return halted(start, inf, 0);
     }
     let brake = arm.brake;
     let g = ratio(brake);

@@ -1,5 +1,5 @@
 -- `brake::brake_action` meets its contract: refused before the row is computed, refused by a computed number, or written.
-use mathlib.Core.Path.{_≡_, sym, ap, _∙_}
+use mathlib.Core.Path.{_≡_, sym, _∙_}
 use mathlib.Core.Bool.{Bool, not, _||_}
 use borrow.Author.Tests.{not-true, not-false}
 use denote.Ref.{now}

@@ -21,9 +21,12 @@ use Rattle.stopping.proofs.stopping.Tie as tie
 roomy-requires : tie.Need-roomy-requires
 roomy-requires c κs = search needs
 
+halted-requires : tie.Need-halted-requires
+halted-requires c κs = search needs
+
 returns : tie.Need-returns
 unfolding ofBits div
-returns c = rw (sym (c .before .roomy .ensures) ∙ not-true _ (c .if1 .taken)) (refl, refl)
+returns c = rw (c .halted .ensures, sym (c .before .before .roomy .ensures) ∙ not-true _ (c .before .if1 .taken)) (refl, refl)
 
 has-room : (c : tie.Else1) → roomy (c .before .before .before .before .args .c) (length (now (c .before .before .before .before .args .rows))) (length (now (c .before .before .before .before .args .slack))) ≡ true
 has-room c = sym (c .before .roomy .ensures) ∙ not-false _ (c .if1 .left)
@@ -77,6 +80,7 @@ stopping-spec =
     tie.close
     (tie.spec
     roomy-requires
+    halted-requires
     returns
     ratio-requires
     reaction-requires
