@@ -71,14 +71,6 @@ module _ (t : Forecast) where
   unfolding placeOf
   failing-at-the-end h b = rw (h, b)
 
-  pub accepted-whole : placeOf t ≡ 0 → Whole
-  unfolding placeOf
-  accepted-whole e = go (all (fine t) (t .count)) refl e
-    where
-      go : (b : Bool) → all (fine t) (t .count) ≡ b → (if b then (if t .stop .sound then 0 else suc (t .count)) else suc (reached t)) ≡ 0 → all (fine t) (t .count) ≡ true
-      go true w h = w
-      go false w h = absurd (omega arith)
-
   -- the margin of no entries is infinity; of some it is one of them, and none is below it
   pub empty-margin : t .count ≡ 0 → marginOf t ≡ inf false
   unfolding marginOf least
@@ -135,11 +127,6 @@ module _ (f : Format) (t : Task) where
   pub entry-is-slack : (k : ℕ) → slackAt (forecast f t) k ≡ slack f (t .walls) (after f t (suc k) .p) (t .n) .value
   unfolding entry after
   entry-is-slack k = refl
-
-  -- counted from the given start, which has no entry of its own
-  pub starts-there : after f t 0 ≡ t .start
-  unfolding after
-  starts-there = refl
 
   fine-slack : (k : ℕ) → fine (forecast f t) k ≡ true → slack f (t .walls) (after f t (suc k) .p) (t .n) .sound ≡ true
   unfolding entry after
