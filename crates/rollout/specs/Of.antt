@@ -38,7 +38,7 @@ plantFrom s = record { p = s .p; v = s .v }
 abbrev pub joinedOf : Plant → Plant → ℕ → Plant
 joinedOf moved still n = record { p = over (at (moved .p)) (still .p) n; v = over (at (moved .v)) (still .v) n }
 
--- .. of a run that has come so far
+-- a run that has come so far, with its plant joined of two
 abbrev pub endedOf : Plant → Plant → ℕ → Float → ℕ → Bool → Run
 endedOf moved still n margin done sound = record { plant = joinedOf moved still n; margin = margin; done = done; sound = sound }
 
@@ -90,7 +90,7 @@ leftOf c = rowsLeft (c .commit) (c .from)
 unfoldable pub shaped : Course → ℕ → Bool
 shaped c len = every (leb (c .live) 8 ∷ leb (c .live) (c .dim) ∷ leb 1 (c .horizon) ∷ eqb len (c .horizon * c .dim) ∷ [])
 
--- what this one needs besides: a substep or more; room for its entries
+-- what the second-order run needs of it: its shape, a substep or more, and room for its entries
 unfoldable pub roomy : Course → ℕ → ℕ → Bool
 roomy c len room = every (shaped c len ∷ leb 1 (c .per .0) ∷ leb (substepsIn (leftOf c) (c .brake) (c .per)) room ∷ [])
 
