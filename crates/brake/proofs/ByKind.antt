@@ -1,5 +1,5 @@
 -- A brake kind other than the second-order one is a closed kind: what its entries are, and how many.
-use Prim.Native.Nat.{ℕ, suc, _-_}
+use Prim.Native.Nat.{ℕ, suc}
 use mathlib.Core.Path.{_≡_, refl, sym}
 use mathlib.Core.Logic.{inl, inr}
 use mathlib.Core.List.{List, [], _∷_}
@@ -32,7 +32,7 @@ no-tag (inr (inl e)) = omega arith
 no-tag (inr (inr (inl e))) = omega arith
 no-tag (inr (inr (inr e))) = omega arith
 
-pub other-count : (b : BrakeModel) (from : ℕ) (k : BrakeKind) → Other k → countFor b k from ≡ suc (b .commit .0 - from)
+pub other-count : (b : BrakeModel) (from : ℕ) (k : BrakeKind) → Other k → countFor b k from ≡ suc (rollout.rowsLeft (b .commit) from .0)
 other-count b from (PdSecondOrder kp kv dt) h = absurd (no-tag h)
 other-count b from (FirstOrderDecay kp kv dt) h = refl
 other-count b from (BoundedAccel kp kv dt) h = refl

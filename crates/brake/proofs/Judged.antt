@@ -1,9 +1,9 @@
 -- A forecast's refusal, case by case: what is judged before anything is computed comes first, and where that passes the forecast decides.
-use Prim.Native.Nat.{ℕ, _+_, _-_, _*_, _≤_}
+use Prim.Native.Nat.{ℕ, _+_, _≤_}
 use mathlib.Core.Path.{_≡_, refl, sym, ap, _∙_}
 use mathlib.Core.Bool.{Bool, true, false, not, _||_}
 use mathlib.Core.List.{List, [], _∷_, _++_}
-use native.Mathlib.Nat.{mul-le-mul}
+use native.Mathlib.Nat.{le-trans, mul-le-mul-right}
 use native.Mathlib.Omega.{arith}
 use borrow.Author.Tests.{eqb-true, eqb-false, eq-eqb, ne-eqb, ltb-false, not-false}
 use lib.Dec.{eqb, ltb}
@@ -21,6 +21,7 @@ use Rattle.envelope.specs.declared.BrakeKind.the-variants.{PdSecondOrder, First
 use Rattle.envelope.specs.declared.FuseConfig.{FuseConfig}
 use Rattle.envelope.proofs.Accepted.{Fit, accepted, dim-most, substeps-least, commit-most, substeps-in-all}
 use Rattle.rollout.specs.Forecast.{placeOf, writtenOf}
+use Rattle.rollout.specs.Rule.{rowsLeft}
 use Rattle.brake.specs.declared.BrakeOut.{BrakeOut}
 use Rattle.brake.specs.declared.BrakeOut.the-variants as out
 use Rattle.brake.specs.Answer.{tooShort, someLentNotFinite, outcome, plan, lentJudged, forecastRefusal, forecastAnswer, forecastSlacks}
@@ -45,12 +46,9 @@ pub record Answered (c : FuseConfig) (p v rows : List Float) (h d e from : ℕ) 
 -- at most 4,096 entries
 few-entries : (c : FuseConfig) (from : ℕ) (k : BrakeKind) → Fit c → countFor (c .brake) k from ≤ 4096
 few-entries c from (PdSecondOrder kp kv dt) w =
-    let m = c .brake .commit .0 in
-    let b = c .brake .«brake_steps» .0 in
-    let s = c .brake .substeps .0 in
-    let k : (m - from + b) * s ≤ (m + b) * s = let x : m - from + b ≤ m + b = omega arith in let y : s ≤ s = omega arith in mul-le-mul x y in
-    let q : (m + b) * s ≤ 4096 = substeps-in-all c w in
-    omega arith
+    let b = c .brake in
+    let less : rowsLeft (b .commit) from .0 + b .«brake_steps» .0 ≤ b .commit .0 + b .«brake_steps» .0 = omega arith in
+    le-trans (mul-le-mul-right (b .substeps .0) less) (substeps-in-all c w)
 few-entries c from (FirstOrderDecay kp kv dt) w = let b = commit-most c w in omega arith
 few-entries c from (BoundedAccel kp kv dt) w = let b = commit-most c w in omega arith
 few-entries c from (JerkLimited kp kv dt) w = let b = commit-most c w in omega arith

@@ -1,7 +1,7 @@
 -- What module 7's entries promise: the forecast's answer and its entries, word for word, and that position kinds write inside the box.
 use Prim.Native.Nat.{ℕ, suc, _+_, _-_, _*_, _≤_, _<_}
 use mathlib.Core.Path.{_≡_, refl, sym, ap, _∙_}
-use mathlib.Core.Bool.{Bool, true, false, not, _&&_}
+use mathlib.Core.Bool.{Bool, true, false, not, _||_}
 use mathlib.Core.List.{List, [], _∷_, _++_}
 use native.Mathlib.Omega.{arith}
 use borrow.Author.Tests.{ne-eqb}
@@ -9,6 +9,7 @@ use lib.ListN.{length, getD, replicate}
 use lib.Ieee.{Float, binary64, lt}
 use Rattle.refusal.specs.Order.{computed, _when_, refusal}
 use Rattle.refusal.specs.Chain.{both-pass}
+use Rattle.fmath.specs.Answer.{someNotFinite}
 use Rattle.fmath.specs.Each.{at, all, over}
 use Rattle.fmath.specs.Finite.{+0}
 use Rattle.fmath.proofs.Each.{length-over, over-at}
@@ -24,7 +25,7 @@ use Rattle.rollout.proofs.Promises.{Whole, whole-reached, written-in-order, oth
 use Rattle.brake.specs.declared.BrakeOut.{BrakeOut}
 use Rattle.brake.specs.declared.BrakeOut.the-variants as out
 use Rattle.brake.specs.Rule.{eight, wallsAt, setpoint, secondOrder, forecastBy}
-use Rattle.brake.specs.Answer.{outcome, plan, lentJudged, forecastAnswer, forecastSlacks, eachFinite, rowLent, brakeSent, brakeRefusal, brakeOutput, holdRefusal, holdOutput}
+use Rattle.brake.specs.Answer.{outcome, plan, lentJudged, forecastAnswer, forecastSlacks, rowLent, brakeSent, brakeRefusal, brakeOutput, holdRefusal, holdOutput}
 use Rattle.brake.proofs.Judged.{foreseen}
 use Rattle.brake.proofs.Sending.{Position, position-brakes, position-holds, sized}
 
@@ -109,20 +110,20 @@ module _ (c : FuseConfig) (p l : List Float) (j : ℕ) (in-it : j < c .dim) wher
   abbrev Inside : List Float → Type 0
   Inside m = (lt (at m j) lo ≡ false) × (lt hi (at m j) ≡ false)
 
-  written-inside : (fine : Bool) → refusal (configJudged c ++ rowLent c fine (length l)) ≡ 0 → Inside (over (at (setpoint (wallsAt binary64 c) p (c .dim))) l (c .dim))
-  written-inside fine z =
-      let w = sized c fine (length l) z in
+  written-inside : (unfit : Bool) → refusal (configJudged c ++ rowLent c unfit (length l)) ≡ 0 → Inside (over (at (setpoint (wallsAt binary64 c) p (c .dim))) l (c .dim))
+  written-inside unfit z =
+      let w = sized c unfit (length l) z in
       rw (over-at (at (setpoint (wallsAt binary64 c) p (c .dim))) l (c .dim) j in-it (omega (arith, w .1)))
-      (setpoint-inside (both-pass (configJudged c) (rowLent c fine (length l)) z .0))
+      (setpoint-inside (both-pass (configJudged c) (rowLent c unfit (length l)) z .0))
 
   module _ (is : Position (c .kind)) where
     pub brake-inside : (v : List Float) → brakeRefusal c p v (length l) ≡ 0 → Inside (brakeOutput c p v l)
     unfolding brakeOutput brakeRefusal brakeSent
     brake-inside v z =
-        let fine = eachFinite p && eachFinite v in
+        let unfit = someNotFinite p || someNotFinite v in
         rw (z, position-brakes (wallsAt binary64 c) p (c .dim) binary64 (c .limits .«a_max») (c .limits .dt) v (c .kind) is)
-        (written-inside fine (both-pass (configJudged c ++ rowLent c fine (length l)) ((computed when not (brakeSent c p v .sound)) ∷ []) z .0))
+        (written-inside unfit (both-pass (configJudged c ++ rowLent c unfit (length l)) ((computed when not (brakeSent c p v .sound)) ∷ []) z .0))
 
     pub hold-inside : holdRefusal c p (length l) ≡ 0 → Inside (holdOutput c p l)
     unfolding holdOutput holdRefusal
-    hold-inside z = rw (z, position-holds (wallsAt binary64 c) p (c .dim) (c .kind) is) (written-inside (eachFinite p) z)
+    hold-inside z = rw (z, position-holds (wallsAt binary64 c) p (c .dim) (c .kind) is) (written-inside (someNotFinite p) z)

@@ -1,7 +1,7 @@
 -- A row's refusal, case by case; a kind that is none of the velocity kinds; and the whole answer.
-use Prim.Native.Nat.{ℕ, zero, suc, _≤_, _<_}
+use Prim.Native.Nat.{ℕ, zero, suc, min, _≤_, _<_}
 use mathlib.Core.Path.{_≡_, refl, sym, ap, _∙_}
-use mathlib.Core.Bool.{Bool, true, false, not, _&&_}
+use mathlib.Core.Bool.{Bool, true, false, not, _||_}
 use mathlib.Core.Logic.{inl, inr}
 use mathlib.Core.List.{List, [], _∷_, _++_}
 use native.Mathlib.Omega.{arith}
@@ -14,8 +14,10 @@ use lib.Ieee.{Float, Format, binary64}
 use Rattle.refusal.specs.Order.{Judged, short, notFinite, computed, _when_, refusal, refusedFor, if_then_else_}
 use Rattle.refusal.specs.Chain.{chain, first-refuses, first-passes, both-pass, passes-at}
 use Rattle.refusal.specs.declared.Refusal.{Refusal}
+use Rattle.fmath.specs.Answer.{someNotFinite}
 use Rattle.fmath.specs.Each.{at, over}
 use Rattle.fmath.specs.Checked.{pure}
+use Rattle.fmath.proofs.Copy.{all-put}
 use Rattle.envelope.specs.Refusals.{configJudged}
 use Rattle.envelope.specs.declared.ActionKind.{ActionKind}
 use Rattle.envelope.specs.declared.ActionKind.the-variants.{EePosition, EeDelta, JointPosition, JointVelocity, Other}
@@ -30,7 +32,7 @@ use Rattle.brake.specs.declared.Sent.the-variants as sent
 use Rattle.brake.specs.declared.Row.{Row}
 use Rattle.brake.specs.Rule.{setpoint, brakeRow, holdRow}
 use Rattle.brake.specs.Of.{workspaceFor, rowFrom}
-use Rattle.brake.specs.Answer.{rowLent, eachFinite, sentAt, rowAt, brakeSent, brakeRefusal, brakeAnswer, brakeOutput, holdRefusal, holdAnswer, holdOutput}
+use Rattle.brake.specs.Answer.{rowLent, sentAt, rowAt, brakeSent, brakeRefusal, brakeAnswer, brakeOutput, holdRefusal, holdAnswer, holdOutput}
 
 -- ---- position kinds
 
@@ -64,9 +66,9 @@ module _ (w : Walls) (p : List Float) (n : ℕ) where
 
 -- ---- the number
 
-module _ (c : FuseConfig) (fine : Bool) (room : ℕ) where
+module _ (c : FuseConfig) (unfit : Bool) (room : ℕ) where
   abbrev lent : List Judged
-  lent = rowLent c fine room
+  lent = rowLent c unfit room
 
   abbrev before : ℕ
   before = refusal (configJudged c ++ lent)
@@ -81,18 +83,22 @@ module _ (c : FuseConfig) (fine : Bool) (room : ℕ) where
     pub by-11 : room < c .dim → 11 ≡ before
     by-11 g = sym (passed-on ∙ rw (lt-ltb _ _ g))
 
-    pub by-12 : c .dim ≤ room → fine ≡ false → 12 ≡ before
+    pub by-12 : c .dim ≤ room → unfit ≡ true → 12 ≡ before
     by-12 g y = sym (passed-on ∙ rw (le-ltb _ _ g, y))
 
-    pub by-none : c .dim ≤ room → fine ≡ true → 0 ≡ before
+    pub by-none : c .dim ≤ room → unfit ≡ false → 0 ≡ before
     by-none g y = sym (passed-on ∙ rw (le-ltb _ _ g, y))
 
   -- an accepted row is narrow, and the output has room for it
   pub sized : before ≡ 0 → (c .dim ≤ 8) × (c .dim ≤ room)
   sized z =
       let w = both-pass (configJudged c) lent z in
-      let a = passes-at short (ltb room (c .dim)) ((notFinite when not fine) ∷ []) (w .1) in
+      let a = passes-at short (ltb room (c .dim)) ((notFinite when unfit) ∷ []) (w .1) in
       (dim-most c (accepted c (w .0)), ltb-false room (c .dim) (a .0))
+
+-- .. so that all of it is put over the output
+all-sent : (c : FuseConfig) (unfit : Bool) (row l : List Float) → before c unfit (length l) ≡ 0 → length row ≡ 8 → {m : List Float} → m ≡ over (at row) l (min (c .dim) (min (length row) (length l))) → m ≡ over (at row) l (c .dim)
+all-sent c unfit row l z long = let w = sized c unfit (length l) z in all-put l row (omega (arith, w .0)) (w .1)
 
 -- ---- the whole answer
 
@@ -108,9 +114,9 @@ pub record Braked (c : FuseConfig) (p v l : List Float) (r : Sent) (m : List Flo
   pub gives : r ≡ brakeAnswer c p v (length l)
   pub leaves : m ≡ brakeOutput c p v l
 
-module _ (c : FuseConfig) (p v l : List Float) {fine : Bool} (ef : fine ≡ eachFinite p && eachFinite v) where
+module _ (c : FuseConfig) (p v l : List Float) {unfit : Bool} (ef : unfit ≡ someNotFinite p || someNotFinite v) where
   abbrev judged : List Judged
-  judged = configJudged c ++ rowLent c (eachFinite p && eachFinite v) (length l)
+  judged = configJudged c ++ rowLent c (someNotFinite p || someNotFinite v) (length l)
 
   abbrev rest : List Judged
   rest = (computed when not (brakeSent c p v .sound)) ∷ []
@@ -119,14 +125,14 @@ module _ (c : FuseConfig) (p v l : List Float) {fine : Bool} (ef : fine ≡ each
   unfolding brakeAnswer brakeOutput
   numbered k e y i = record { gives = rw e (sent-number k y i); leaves = rw e (kept-number k y _ _ l) }
 
-  same-judged : before c fine (length l) ≡ refusal judged
+  same-judged : before c unfit (length l) ≡ refusal judged
   same-judged = ap (λ (b : Bool). before c b (length l)) ef
 
-  pub brake-refused : {k : ℕ} → k ≡ before c fine (length l) → (k ≡ 0 → ⊥) → {r : Refusal} → r ≡ refusedFor k → Braked c p v l (sent.Refused r) l
+  pub brake-refused : {k : ℕ} → k ≡ before c unfit (length l) → (k ≡ 0 → ⊥) → {r : Refusal} → r ≡ refusedFor k → Braked c p v l (sent.Refused r) l
   unfolding brakeRefusal
   brake-refused {k} g y = numbered k (first-refuses judged rest (λ z. y (g ∙ same-judged ∙ z)) ∙ sym (g ∙ same-judged)) y
 
-  module _ (z : before c fine (length l) ≡ 0) {w : Workspace} {row : Row} (ew : w ≡ workspaceFor c)
+  module _ (z : before c unfit (length l) ≡ 0) {w : Workspace} {row : Row} (ew : w ≡ workspaceFor c)
       (er : row ≡ rowFrom (brakeRow binary64 (c .kind) (c .limits .«a_max») (c .limits .dt) (wallsOf w) p v (c .dim))) where
     is-sent : row ≡ rowFrom (brakeSent c p v)
     unfolding brakeSent
@@ -139,24 +145,24 @@ module _ (c : FuseConfig) (p v l : List Float) {fine : Bool} (ef : fine ≡ each
     pub brake-unsound : row .sound ≡ false → {r : Refusal} → r ≡ refusedFor 13 → Braked c p v l (sent.Refused r) l
     brake-unsound y = numbered 13 (left ∙ ap (λ (b : Bool). if not b then 13 else 0) y) (λ q. omega arith)
 
-    pub brake-done : row .sound ≡ true → {m : List Float} → m ≡ over (at (row .at)) l (c .dim) → Braked c p v l sent.Done m
+    pub brake-done : row .sound ≡ true → length (row .at) ≡ 8 → {m : List Float} → m ≡ over (at (row .at)) l (min (c .dim) (min (length (row .at)) (length l))) → Braked c p v l sent.Done m
     unfolding brakeAnswer brakeOutput
-    brake-done y i = let e = left ∙ ap (λ (b : Bool). if not b then 13 else 0) y in record { gives = rw e; leaves = i ∙ rw (e, is-sent) }
+    brake-done y long i = let e = left ∙ ap (λ (b : Bool). if not b then 13 else 0) y in record { gives = rw e; leaves = all-sent c unfit (row .at) l z long i ∙ rw (e, is-sent) }
 
 pub record Held (c : FuseConfig) (p l : List Float) (r : Sent) (m : List Float) : Type 0 where
   pub gives : r ≡ holdAnswer c p (length l)
   pub leaves : m ≡ holdOutput c p l
 
-module _ (c : FuseConfig) (p l : List Float) {fine : Bool} (ef : fine ≡ eachFinite p) where
-  same-refusal : before c fine (length l) ≡ holdRefusal c p (length l)
+module _ (c : FuseConfig) (p l : List Float) {unfit : Bool} (ef : unfit ≡ someNotFinite p) where
+  same-refusal : before c unfit (length l) ≡ holdRefusal c p (length l)
   unfolding holdRefusal
   same-refusal = ap (λ (b : Bool). before c b (length l)) ef
 
-  pub hold-refused : {k : ℕ} → k ≡ before c fine (length l) → (k ≡ 0 → ⊥) → {r : Refusal} → r ≡ refusedFor k → Held c p l (sent.Refused r) l
+  pub hold-refused : {k : ℕ} → k ≡ before c unfit (length l) → (k ≡ 0 → ⊥) → {r : Refusal} → r ≡ refusedFor k → Held c p l (sent.Refused r) l
   unfolding holdAnswer holdOutput
   hold-refused {k} g y i = let e : holdRefusal c p (length l) ≡ k = sym (g ∙ same-refusal) in record { gives = rw e (sent-number k y i); leaves = rw e (kept-number k y _ _ l) }
 
-  pub hold-done : before c fine (length l) ≡ 0 → {w : Workspace} {row : List Float} → w ≡ workspaceFor c → row ≡ holdRow (c .kind) (wallsOf w) p (c .dim)
-      → {m : List Float} → m ≡ over (at row) l (c .dim) → Held c p l sent.Done m
+  pub hold-done : before c unfit (length l) ≡ 0 → {w : Workspace} {row : List Float} → w ≡ workspaceFor c → row ≡ holdRow (c .kind) (wallsOf w) p (c .dim)
+      → length row ≡ 8 → {m : List Float} → m ≡ over (at row) l (min (c .dim) (min (length row) (length l))) → Held c p l sent.Done m
   unfolding holdAnswer holdOutput
-  hold-done z ew er i = let e = sym same-refusal ∙ z in record { gives = rw e; leaves = i ∙ rw (e, er, ew) }
+  hold-done z {w} {row} ew er long i = let e = sym same-refusal ∙ z in record { gives = rw e; leaves = all-sent c unfit row l z long i ∙ rw (e, er, ew) }

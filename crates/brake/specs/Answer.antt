@@ -1,6 +1,6 @@
 -- What module 7's entries judge, and what they answer.
 use Prim.Native.Nat.{ℕ, zero, suc}
-use mathlib.Core.Bool.{Bool, not, _&&_, _||_}
+use mathlib.Core.Bool.{Bool, not, _||_}
 use mathlib.Core.List.{List, [], _∷_, _++_}
 use lib.Dec.{ltb, eqb}
 use lib.ListN.{length}
@@ -9,7 +9,6 @@ use Rattle.refusal.specs.Order.{Judged, width, short, notFinite, computed, _whe
 use Rattle.fmath.specs.Answer.{someNotFinite}
 use Rattle.fmath.specs.Each.{at, over}
 use Rattle.fmath.specs.Checked.{Checked}
-use Rattle.fmath.specs.Finite.{allFinite}
 use Rattle.chunk.specs.Refusals.{chunkReasons}
 use Rattle.envelope.specs.Refusals.{configJudged}
 use Rattle.envelope.specs.declared.FuseConfig.{FuseConfig}
@@ -75,19 +74,16 @@ abbrev pub rowAt : ℕ → List Float → ℕ → List Float → List Float
 rowAt zero row n l = over (at row) l n
 rowAt (suc k) row n l = l
 
--- 11 and 12, where the output has so much room and the lent numbers are finite or not
+-- 11 and 12, where the output has so much room and some lent number is not finite, or none
 abbrev pub rowLent : FuseConfig → Bool → ℕ → List Judged
-rowLent c fine room = (short when ltb room (c .dim)) ∷ (notFinite when not fine) ∷ []
-
-abbrev pub eachFinite : List Float → Bool
-eachFinite l = allFinite l (length l)
+rowLent c unfit room = (short when ltb room (c .dim)) ∷ (notFinite when unfit) ∷ []
 
 module _ (c : FuseConfig) (p v : List Float) where
   unfoldable pub brakeSent : Checked (List Float)
   brakeSent = brakeRow binary64 (c .kind) (c .limits .«a_max») (c .limits .dt) (wallsAt binary64 c) p v (c .dim)
 
   unfoldable pub brakeRefusal : ℕ → ℕ
-  brakeRefusal room = refusal (configJudged c ++ (rowLent c (eachFinite p && eachFinite v) room ++ (computed when not (brakeSent .sound) ∷ [])))
+  brakeRefusal room = refusal (configJudged c ++ (rowLent c (someNotFinite p || someNotFinite v) room ++ (computed when not (brakeSent .sound) ∷ [])))
 
   unfoldable pub brakeAnswer : ℕ → Sent
   brakeAnswer room = sentAt (brakeRefusal room)
@@ -97,7 +93,7 @@ module _ (c : FuseConfig) (p v : List Float) where
 
 module _ (c : FuseConfig) (p : List Float) where
   unfoldable pub holdRefusal : ℕ → ℕ
-  holdRefusal room = refusal (configJudged c ++ rowLent c (eachFinite p) room)
+  holdRefusal room = refusal (configJudged c ++ rowLent c (someNotFinite p) room)
 
   unfoldable pub holdAnswer : ℕ → Sent
   holdAnswer room = sentAt (holdRefusal room)

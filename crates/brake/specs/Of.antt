@@ -1,10 +1,11 @@
 -- The rules at the declared structs, and what the contracts of the private functions cite.
-use Prim.Native.Nat.{ℕ, suc, _+_, _-_, _*_, _≤_}
+use Prim.Native.Nat.{ℕ, suc, _*_, _≤_}
 use mathlib.Core.Path.{_≡_}
 use mathlib.Core.List.{List}
 use lib.Ieee.{Float, binary64}
 use Rattle.fmath.specs.Checked.{Checked}
 use Rattle.envelope.specs.Derive.{derived}
+use Rattle.envelope.specs.Steps.{substepsIn}
 use Rattle.envelope.specs.declared.BrakeKind.{BrakeKind}
 use Rattle.envelope.specs.declared.BrakeKind.the-variants.{PdSecondOrder, FirstOrderDecay, BoundedAccel, JerkLimited, ZeroVelocityHold}
 use Rattle.envelope.specs.declared.BrakeModel.{BrakeModel}
@@ -12,6 +13,7 @@ use Rattle.envelope.specs.declared.FuseConfig.{FuseConfig}
 use Rattle.workspace.specs.declared.Workspace.{Workspace}
 use Rattle.rollout.specs.declared.Course.{Course}
 use Rattle.rollout.specs.declared.Plant.{Plant}
+use Rattle.rollout.specs.Rule.{rowsLeft}
 use Rattle.brake.specs.declared.Row.{Row}
 use Rattle.brake.specs.Rule.{live, eight}
 
@@ -37,11 +39,11 @@ rowFrom x = record { at = x .value; sound = x .sound }
 
 -- how many entries a forecast has: N, or one for the start and one for each row
 abbrev pub countFor : BrakeModel → BrakeKind → ℕ → ℕ
-countFor b (PdSecondOrder kp kv dt) from = (b .commit .0 - from + b .«brake_steps» .0) * b .substeps .0
-countFor b (FirstOrderDecay kp kv dt) from = suc (b .commit .0 - from)
-countFor b (BoundedAccel kp kv dt) from = suc (b .commit .0 - from)
-countFor b (JerkLimited kp kv dt) from = suc (b .commit .0 - from)
-countFor b (ZeroVelocityHold kp kv dt) from = suc (b .commit .0 - from)
+countFor b (PdSecondOrder kp kv dt) from = substepsIn (rowsLeft (b .commit) from) (b .«brake_steps») (b .substeps)
+countFor b (FirstOrderDecay kp kv dt) from = suc (rowsLeft (b .commit) from .0)
+countFor b (BoundedAccel kp kv dt) from = suc (rowsLeft (b .commit) from .0)
+countFor b (JerkLimited kp kv dt) from = suc (rowsLeft (b .commit) from .0)
+countFor b (ZeroVelocityHold kp kv dt) from = suc (rowsLeft (b .commit) from .0)
 
 -- what is known of a call where nothing is refused: rows that are all there and as wide as the configuration says, and room for the entries
 pub record Planned (c : FuseConfig) (len h d from room : ℕ) : Type 0 where

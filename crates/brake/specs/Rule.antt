@@ -56,9 +56,9 @@ module _ (f : Format) (c : FuseConfig) (p v rows : List Float) (h d from : ℕ) 
     horizon = h;
     dim = d;
     from = from;
-    commit = c .brake .commit .0;
-    brake = c .brake .«brake_steps» .0;
-    per = c .brake .substeps .0;
+    commit = c .brake .commit;
+    brake = c .brake .«brake_steps»;
+    per = c .brake .substeps;
   }
 
   abbrev pub closed : stopping.Task
@@ -72,7 +72,7 @@ module _ (f : Format) (c : FuseConfig) (p v rows : List Float) (h d from : ℕ) 
     horizon = h;
     dim = d;
     from = from;
-    commit = c .brake .commit .0;
+    commit = c .brake .commit;
   }
 
   -- by the kind of brake

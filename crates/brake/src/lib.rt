@@ -2,14 +2,14 @@
 ghost use mathlib.Core.Path.{_≡_};
 ghost use mathlib.Core.Bool.{true};
 ghost use mathlib.Core.List.{_++_};
-ghost use Prim.Native.Nat.{ℕ, suc, _+_, _-_, _*_, min, _≤_};
+ghost use Prim.Native.Nat.{ℕ, suc, _≤_};
 ghost use lib.ListN.{length, getD};
-ghost use lib.Ieee.{Float, binary64};
+ghost use lib.Ieee.{binary64};
 ghost use Rattle.refusal.specs.Order.{refusal};
-ghost use Rattle.fmath.specs.Each.{at, over};
 ghost use Rattle.fmath.specs.Finite.{+0};
 ghost use Rattle.chunk.specs.Refusals.{chunkReasons};
 ghost use Rattle.envelope.specs.Refusals.{configJudged};
+ghost use Rattle.envelope.specs.Steps.{substepsIn};
 ghost use Rattle.workspace.specs.Of.{wallsOf};
 ghost use Rattle.rollout.specs.Plant.{State};
 ghost use Rattle.rollout.specs.Forecast.{Forecast, writtenOf};
@@ -161,7 +161,7 @@ fn second_order(
     rows: &[f64],
     slack: &mut [f64],
 ) -> BrakeOut
-    requires { ⌜ (rolled.roomy c (length (now rows)) (length (now slack)) ≡ true) × ((c .commit .0 - c .from + c .brake .0) * c .per .0 ≤ 4096) ⌝ }
+    requires { ⌜ (rolled.roomy c (length (now rows)) (length (now slack)) ≡ true) × (substepsIn (rolled.leftOf c) (c .brake) (c .per) ≤ 4096) ⌝ }
     ensures { λ r. ⌜ (r ≡ outcome (rolling.forecast binary64 (rolled.taskOf g w c start (now (rows .entry))))) × (now (slack .exit) ≡ writtenOf (rolling.forecast binary64 (rolled.taskOf g w c start (now (rows .entry)))) (now (slack .entry))) ⌝ }
 {
     let run = rollout::rollout(g, w, c, start, rows, slack);
@@ -180,7 +180,7 @@ fn closed(
     rows: &[f64],
     slack: &mut [f64],
 ) -> BrakeOut
-    requires { ⌜ (stopped.roomy c (length (now rows)) (length (now slack)) ≡ true) × (suc (c .commit .0 - c .from) ≤ 4096) ⌝ }
+    requires { ⌜ (stopped.roomy c (length (now rows)) (length (now slack)) ≡ true) × (suc (rolled.leftOf c .0) ≤ 4096) ⌝ }
     ensures { λ r. ⌜ (r ≡ outcome (stopping-rule.forecast binary64 (stopped.taskOf arm react w c start (now (rows .entry))))) × (now (slack .exit) ≡ writtenOf (stopping-rule.forecast binary64 (stopped.taskOf arm react w c start (now (rows .entry)))) (now (slack .entry))) ⌝ }
 {
     let run = stopping::stopping(arm, react, w, c, start, rows, slack);
@@ -441,21 +441,9 @@ fn hold_row(kind: ActionKind, w: Workspace, pos: &[f64], n: usize) -> [f64; 8]
     }
 }
 
-// The first n numbers of a row, written over a slice; the rest stays.
-fn write_row(row: [f64; 8], n: usize, out: &mut [f64])
-    requires { ⌜ (n ≤ 8) × (n ≤ length (now out)) ⌝ }
-    ensures { λ _. ⌜ now (out .exit) ≡ over (at row) (now (out .entry)) n ⌝ }
-{
-    let mut j = 0;
-    while j < n {
-        out[j] = row[j];
-        j += 1;
-    }
-}
-
 // The number for a row before it is computed: the configuration's own, then 11, then 12; 0 where there is none.
-fn row_refusal(c: FuseConfig, fine: bool, room: usize) -> u8
-    ensures { λ r. ⌜ r ≡ refusal (configJudged c ++ rowLent c fine room) ⌝ }
+fn row_refusal(c: FuseConfig, unfit: bool, room: usize) -> u8
+    ensures { λ r. ⌜ r ≡ refusal (configJudged c ++ rowLent c unfit room) ⌝ }
 {
     let number = envelope::config_refusal(c);
     if number != 0 {
@@ -464,7 +452,7 @@ fn row_refusal(c: FuseConfig, fine: bool, room: usize) -> u8
     if room < c.dim {
         return Refusal::SHORT;
     }
-    if !fine {
+    if unfit {
         return Refusal::NOT_FINITE;
     }
     0
@@ -474,8 +462,8 @@ fn row_refusal(c: FuseConfig, fine: bool, room: usize) -> u8
 pub fn brake_action(c: FuseConfig, pos: &[f64], vel: &[f64], out: &mut [f64]) -> Sent
     ensures { λ r. ⌜ (r ≡ brakeAnswer c (now (pos .entry)) (now (vel .entry)) (length (now (out .entry)))) × (now (out .exit) ≡ brakeOutput c (now (pos .entry)) (now (vel .entry)) (now (out .entry))) ⌝ }
 {
-    let fine = fmath::all_finite(pos, pos.len()) & fmath::all_finite(vel, vel.len());
-    let number = row_refusal(c, fine, out.len());
+    let unfit = !fmath::all_finite(pos, pos.len()) | !fmath::all_finite(vel, vel.len());
+    let number = row_refusal(c, unfit, out.len());
     if number != 0 {
         return Sent::Refused(Refusal::of(number));
     }
@@ -486,7 +474,7 @@ pub fn brake_action(c: FuseConfig, pos: &[f64], vel: &[f64], out: &mut [f64]) ->
         return Sent::Refused(Refusal::of(Refusal::COMPUTED));
     }
     let at = row.at;
-    write_row(at, c.dim, out);
+    fmath::put(&at, c.dim, out);
     Sent::Done
 }
 
@@ -494,14 +482,14 @@ pub fn brake_action(c: FuseConfig, pos: &[f64], vel: &[f64], out: &mut [f64]) ->
 pub fn hold_action(c: FuseConfig, pos: &[f64], out: &mut [f64]) -> Sent
     ensures { λ r. ⌜ (r ≡ holdAnswer c (now (pos .entry)) (length (now (out .entry)))) × (now (out .exit) ≡ holdOutput c (now (pos .entry)) (now (out .entry))) ⌝ }
 {
-    let fine = fmath::all_finite(pos, pos.len());
-    let number = row_refusal(c, fine, out.len());
+    let unfit = !fmath::all_finite(pos, pos.len());
+    let number = row_refusal(c, unfit, out.len());
     if number != 0 {
         return Sent::Refused(Refusal::of(number));
     }
     let w = workspace_of(c);
     let kind = c.kind;
     let row = hold_row(kind, w, pos, c.dim);
-    write_row(row, c.dim, out);
+    fmath::put(&row, c.dim, out);
     Sent::Done
 }

@@ -20,6 +20,7 @@ use Rattle.fmath.proofs.Ordered.{Real, finite-real, le-not-above, lt-not-below,
 use Rattle.fmath.proofs.Extremes.{least-real, least-bounds, least-attained, lesser-left, lesser-right, lesser-real}
 use Rattle.fmath.proofs.Absorbing.{fine-sub-left, fine-sub-right}
 use Rattle.fmath.proofs.Sign.{difference-below-zero}
+use Rattle.envelope.specs.declared.ControlSteps.{ControlSteps}
 use Rattle.workspace.specs.Rule.{Walls, between, gap, slack, inward}
 use Rattle.rollout.specs.Plant.{State, substep}
 use Rattle.rollout.specs.Forecast.{Forecast, fine, slackAt, reach, reached, placeOf, marginOf, feasibleOf, writtenOf}
@@ -70,14 +71,6 @@ module _ (t : Forecast) where
   unfolding placeOf
   failing-at-the-end h b = rw (h, b)
 
-  pub accepted-whole : placeOf t ≡ 0 → Whole
-  unfolding placeOf
-  accepted-whole e = go (all (fine t) (t .count)) refl e
-    where
-      go : (b : Bool) → all (fine t) (t .count) ≡ b → (if b then (if t .stop .sound then 0 else suc (t .count)) else suc (reached t)) ≡ 0 → all (fine t) (t .count) ≡ true
-      go true w h = w
-      go false w h = absurd (omega arith)
-
   -- the margin of no entries is infinity; of some it is one of them, and none is below it
   pub empty-margin : t .count ≡ 0 → marginOf t ≡ inf false
   unfolding marginOf least
@@ -127,18 +120,13 @@ gaps-all-real f w p n h j b =
 
 module _ (f : Format) (t : Task) where
   -- N: the control steps still committed, plus the braking steps, times the substeps
-  pub count-is-N : forecast f t .count ≡ (t .commit - t .from + t .brake) * t .per
+  pub count-is-N : forecast f t .count ≡ (t .commit .0 - t .from + t .brake .0) * t .per .0
   count-is-N = refl
 
   -- the k-th entry (counted from 1) is the slack of the plant after k substeps from the given start
   pub entry-is-slack : (k : ℕ) → slackAt (forecast f t) k ≡ slack f (t .walls) (after f t (suc k) .p) (t .n) .value
   unfolding entry after
   entry-is-slack k = refl
-
-  -- counted from the given start, which has no entry of its own
-  pub starts-there : after f t 0 ≡ t .start
-  unfolding after
-  starts-there = refl
 
   fine-slack : (k : ℕ) → fine (forecast f t) k ≡ true → slack f (t .walls) (after f t (suc k) .p) (t .n) .sound ≡ true
   unfolding entry after
@@ -151,7 +139,7 @@ module _ (f : Format) (t : Task) where
       (least-real (λ (j : ℕ). gap f (t .walls) (after f t (suc k) .p) j .value) (t .n) (gaps-all-real f (t .walls) (after f t (suc k) .p) (t .n) (fine-slack k h)))
 
 -- two tasks that differ only in braking steps
-abbrev pub braking : Task → ℕ → Task
+abbrev pub braking : Task → ControlSteps → Task
 braking t b = record {
   gains = t .gains;
   walls = t .walls;
@@ -166,7 +154,7 @@ braking t b = record {
   per = t .per;
 }
 
-module _ (f : Format) (t : Task) (b : ℕ) where
+module _ (f : Format) (t : Task) (b : ControlSteps) where
   same-pushed : (k : ℕ) → pushed f (braking t b) k ≡ pushed f t k
   unfolding pushed
   same-pushed zero = refl

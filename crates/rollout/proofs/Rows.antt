@@ -21,15 +21,15 @@ pub row-fits : (i left per : ℕ) → i < left → i * per + per ≤ left * per
 row-fits i left per h = subst (λ (y : ℕ). y ≤ left * per) (suc-mul i per) (mul-le-mul-right per h)
 
 module _ (f : Format) (t : Task) where
-  pub aims-row : (i j : ℕ) → i < rowsLeft t → j < t .per → aim f t (i * t .per + j) ≡ rowOf (t .rows) (t .horizon) (t .dim) (t .from + i)
+  pub aims-row : (i j : ℕ) → i < rowsLeft (t .commit) (t .from) .0 → j < t .per .0 → aim f t (i * t .per .0 + j) ≡ rowOf (t .rows) (t .horizon) (t .dim) (t .from + i)
   unfolding aim
   aims-row i j h b =
-      let l : i * t .per + j < rowsLeft t * t .per = omega (arith, row-fits i (rowsLeft t) (t .per) h) in
-      rw (lt-ltb (i * t .per + j) (rowsLeft t * t .per) l, digits-div i b)
+      let l : i * t .per .0 + j < pushes t = omega (arith, row-fits i (rowsLeft (t .commit) (t .from) .0) (t .per .0) h) in
+      rw (lt-ltb (i * t .per .0 + j) (pushes t) l, digits-div i b)
 
   aim-row : (k : ℕ) → k < pushes t → aim f t k ≡ rowAt t k
   unfolding aim
-  aim-row k h = rw (lt-ltb k (rowsLeft t * t .per) h)
+  aim-row k h = rw (lt-ltb k (pushes t) h)
 
   -- while rows are committed the plant is where they push it
   pub after-pushed : (k : ℕ) → k ≤ pushes t → after f t k ≡ pushed f t k
@@ -41,4 +41,4 @@ module _ (f : Format) (t : Task) where
 
   pub aims-setpoint : (k : ℕ) → pushes t ≤ k → aim f t k ≡ inward (t .walls) (after f t (pushes t) .p) (t .n)
   unfolding aim setpoint
-  aims-setpoint k h = rw (le-ltb k (rowsLeft t * t .per) h, after-pushed (pushes t) (omega arith))
+  aims-setpoint k h = rw (le-ltb k (pushes t) h, after-pushed (pushes t) (omega arith))

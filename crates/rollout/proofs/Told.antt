@@ -1,6 +1,6 @@
 -- The test of a substep's slack tells of every number that the substep computes: sums, differences and products absorb what isn't finite.
 use mathlib.Core.Path.{_≡_, refl, sym, ap, _∙_}
-use mathlib.Core.Bool.{Bool, true, false, _&&_}
+use mathlib.Core.Bool.{Bool, true, _&&_, and-true}
 use mathlib.Core.List.{List}
 use Prim.Native.Nat.{ℕ, zero, suc, _+_, _≤_, _<_}
 use native.Mathlib.Numerals.{add-one}
@@ -27,7 +27,7 @@ put r j m = record { p = set (r .p) j (m .p); v = set (r .v) j (m .v) }
 
 module _ (f : Format) (g : Gains) where
   -- a finite place at the end tells of each number on the way
-  pub axis-told : (a : Float) (m : Motion) → finite (axis f g a m .value .p) ≡ true → axis f g a m .sound ≡ true
+  axis-told : (a : Float) (m : Motion) → finite (axis f g a m .value .p) ≡ true → axis f g a m .sound ≡ true
   unfolding axis
   axis-told a m h =
       let e = sub f a (m .p) in
@@ -63,14 +63,10 @@ module _ (f : Format) (g : Gains) where
         let d : j ≡ n → ⊥ = λ e. omega arith in
         rw (getD-set-other (t .p) n j (m .p) nan d, getD-set-other (t .v) n j (m .v) nan d) (untouched n j (omega arith))
 
-    pub substep-sound : (n : ℕ) → substep f g a n s .sound ≡ all (λ (j : ℕ). axis f g (at a j) (motionAt s j) .sound) n
+    substep-sound : (n : ℕ) → substep f g a n s .sound ≡ all (λ (j : ℕ). axis f g (at a j) (motionAt s j) .sound) n
     unfolding substep all
     substep-sound zero = refl
     substep-sound (suc n) = rw (untouched n n (omega arith), substep-sound n) (ap (λ (b : Bool). all (λ (j : ℕ). axis f g (at a j) (motionAt s j) .sound) n && b) (and-true (axis f g (at a n) (motionAt s n) .sound)))
-      where
-        and-true : (b : Bool) → b && true ≡ b
-        and-true true = refl
-        and-true false = refl
 
     -- the places, or the velocities: what is put over one axis is put over one of them
     module _ (side : State → List Float) (part : Motion → Float) (puts : (r : State) (j : ℕ) (m : Motion) → side (put r j m) ≡ set (side r) j (part m)) where

@@ -23,7 +23,7 @@ use Rattle.rollout.specs.declared.Plant.{Plant}
 use Rattle.rollout.specs.declared.Run.{Run}
 use Rattle.rollout.specs.Plant.{Gains, Motion, State, axis, motionAt, substep}
 use Rattle.rollout.specs.Rule.{Task}
-use Rattle.rollout.specs.Of.{gainsOf, stateOf, joinedOf, Along, Towards, Under}
+use Rattle.rollout.specs.Of.{gainsOf, stateOf, joinedOf, endedOf, Along, Towards, Under}
 use Rattle.rollout.proofs.Told.{put, untouched, length-kept, substep-at, substep-speed}
 use Rattle.rollout.proofs.Along.{turn-fails, turn-advances}
 
@@ -98,7 +98,7 @@ as-long f g a n q next e = (
 
 -- a run that goes, with its first n axes moved
 abbrev pub running : Plant → Plant → ℕ → Float → ℕ → Run
-running moved still n margin done = record { plant = joinedOf moved still n; margin = margin; done = done; sound = true }
+running moved still n margin done = endedOf moved still n margin done true
 
 module _
     (f : Format) (t : Task) (l : List Float) (k : ℕ) (moved still : Plant) (n : ℕ) (margin : Float) (done : ℕ) (out : List Float) (g : Law) (w : Workspace) (a aim : List Float)
@@ -117,7 +117,7 @@ module _
   long : n ≤ length (joinedOf moved still n .p)
   long = omega (arith, length-over (at (moved .p)) (still .p) n, sp)
 
-  pub wide-fails : d .sound ≡ false → Along f t l (k + 1) (record { plant = joinedOf moved still n; margin = margin; done = done; sound = false }) out
+  pub wide-fails : d .sound ≡ false → Along f t l (k + 1) (endedOf moved still n margin done false) out
   wide-fails = turn-fails f t l k (running moved still n margin done) out g w n a u h go refl long (joinedOf next still n) steps d measures
 
   pub wide-advances : d .sound ≡ true → (m : Float) → m ≡ lesser margin (d .least) → Along f t l (k + 1) (running next still n m (done + 1)) (set out done (d .least))

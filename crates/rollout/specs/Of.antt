@@ -2,12 +2,14 @@
 use mathlib.Core.Path.{_≡_}
 use mathlib.Core.Bool.{Bool, true, false}
 use mathlib.Core.List.{List, [], _∷_}
-use Prim.Native.Nat.{ℕ, _+_, _-_, _*_, _<_}
+use Prim.Native.Nat.{ℕ, _+_, _*_, _<_}
 use lib.Dec.{leb, eqb}
 use lib.Ieee.{Float, Format, inf}
 use Rattle.fmath.specs.Each.{at, all, over, every}
 use Rattle.fmath.specs.Least.{least}
 use Rattle.fmath.specs.Checked.{Checked}
+use Rattle.envelope.specs.declared.ControlSteps.{ControlSteps}
+use Rattle.envelope.specs.Steps.{substepsIn}
 use Rattle.workspace.specs.declared.Workspace.{Workspace}
 use Rattle.workspace.specs.Of.{wallsOf}
 use Rattle.rollout.specs.declared.Moved.{Moved}
@@ -18,7 +20,7 @@ use Rattle.rollout.specs.declared.Run.{Run}
 use Rattle.rollout.specs.declared.Reckoned.{Reckoned}
 use Rattle.rollout.specs.Plant.{Gains, Motion, State}
 use Rattle.rollout.specs.Forecast.{Forecast, fine, slackAt, reach, reached}
-use Rattle.rollout.specs.Rule.{Task, aim, after, forecast}
+use Rattle.rollout.specs.Rule.{Task, rowsLeft, aim, after, forecast}
 
 abbrev pub gainsOf : Law → Gains
 gainsOf g = record { kp = g .«k_p»; kv = g .«k_v»; dt = g .dt }
@@ -36,6 +38,10 @@ plantFrom s = record { p = s .p; v = s .v }
 abbrev pub joinedOf : Plant → Plant → ℕ → Plant
 joinedOf moved still n = record { p = over (at (moved .p)) (still .p) n; v = over (at (moved .v)) (still .v) n }
 
+-- a run that has come so far, with its plant joined of two
+abbrev pub endedOf : Plant → Plant → ℕ → Float → ℕ → Bool → Run
+endedOf moved still n margin done sound = record { plant = joinedOf moved still n; margin = margin; done = done; sound = sound }
+
 abbrev pub reckonedFrom : Checked Float → Reckoned
 reckonedFrom x = record { value = x .value; sound = x .sound }
 
@@ -49,9 +55,9 @@ taskOf g w c s rows = record {
   horizon = c .horizon;
   dim = c .dim;
   from = c .from;
-  commit = c .commit .0;
-  brake = c .brake .0;
-  per = c .per .0;
+  commit = c .commit;
+  brake = c .brake;
+  per = c .per;
 }
 
 -- A run has come along k entries of a forecast: it has written those before the first that isn't finite, and stands after the last written.
@@ -76,12 +82,17 @@ pub record Under (t : Task) (g : Law) (w : Workspace) (n : ℕ) : Type 0 where
   pub walls : t .walls ≡ wallsOf w
   pub live : t .n ≡ n
 
--- what a run needs of its course: eight axes at most, within the rows' width; rows that are all there; a substep or more; room for its entries
+-- the control steps that a course has still committed
+abbrev pub leftOf : Course → ControlSteps
+leftOf c = rowsLeft (c .commit) (c .from)
+
+-- what every run needs of its course: eight axes at most, within the rows' width; rows that are all there
+unfoldable pub shaped : Course → ℕ → Bool
+shaped c len = every (leb (c .live) 8 ∷ leb (c .live) (c .dim) ∷ leb 1 (c .horizon) ∷ eqb len (c .horizon * c .dim) ∷ [])
+
+-- what the second-order run needs of it: its shape, a substep or more, and room for its entries
 unfoldable pub roomy : Course → ℕ → ℕ → Bool
-roomy c len room =
-    every
-    (leb (c .live) 8 ∷ leb (c .live) (c .dim) ∷ leb 1 (c .horizon) ∷ eqb len (c .horizon * c .dim) ∷ leb 1 (c .per .0)
-    ∷ leb ((c .commit .0 - c .from + c .brake .0) * c .per .0) room ∷ [])
+roomy c len room = every (shaped c len ∷ leb 1 (c .per .0) ∷ leb (substepsIn (leftOf c) (c .brake) (c .per)) room ∷ [])
 
 -- a run that did not start
 abbrev pub noRun : Plant → Run

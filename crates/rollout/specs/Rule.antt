@@ -8,9 +8,16 @@ use Rattle.fmath.specs.Finite.{+0}
 use Rattle.fmath.specs.Checked.{Checked, _>>=_, plus}
 use Rattle.fmath.specs.Norm.{dist}
 use Rattle.chunk.specs.Rule.{rowOf}
+use Rattle.envelope.specs.declared.ControlSteps.{ControlSteps}
+use Rattle.envelope.specs.declared.Substeps.{Substeps}
+use Rattle.envelope.specs.Steps.{substepsIn}
 use Rattle.workspace.specs.Rule.{Walls, inward, slack}
 use Rattle.rollout.specs.Plant.{Gains, State, substep}
 use Rattle.rollout.specs.Forecast.{Forecast}
+
+-- the control steps still committed from a row on: none past them
+abbrev pub rowsLeft : ControlSteps → ℕ → ControlSteps
+rowsLeft commit from = record { 0 = commit .0 - from }
 
 pub record Task : Type 0 where
   pub gains : Gains
@@ -24,25 +31,21 @@ pub record Task : Type 0 where
   pub dim : ℕ
   -- the row to start from, the control steps that are committed, those of braking after them, and the substeps of each
   pub from : ℕ
-  pub commit : ℕ
-  pub brake : ℕ
-  pub per : ℕ
-
--- the control steps still committed: none if `from` is past them
-abbrev pub rowsLeft : Task → ℕ
-rowsLeft t = t .commit - t .from
+  pub commit : ControlSteps
+  pub brake : ControlSteps
+  pub per : Substeps
 
 -- the substeps under committed rows
 abbrev pub pushes : Task → ℕ
-pushes t = rowsLeft t * t .per
+pushes t = rowsLeft (t .commit) (t .from) .0 * t .per .0
 
 -- N
 abbrev pub total : Task → ℕ
-total t = (rowsLeft t + t .brake) * t .per
+total t = substepsIn (rowsLeft (t .commit) (t .from)) (t .brake) (t .per)
 
 -- the row that substep k, counted from 0, goes towards while rows are committed
 abbrev pub rowAt : Task → ℕ → List Float
-rowAt t k = rowOf (t .rows) (t .horizon) (t .dim) (t .from + k / t .per)
+rowAt t k = rowOf (t .rows) (t .horizon) (t .dim) (t .from + k / t .per .0)
 
 -- how far the plant has moved from the start to the end; it travels no further
 unfoldable pub stopDistance : Format → State → State → ℕ → Checked Float

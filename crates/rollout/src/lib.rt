@@ -2,16 +2,16 @@
 ghost use mathlib.Core.Path.{_≡_};
 ghost use mathlib.Core.Bool.{true};
 ghost use mathlib.Core.List.{List};
-ghost use Prim.Native.Nat.{ℕ, _+_, _-_, _*_, _≤_, _<_};
+ghost use Prim.Native.Nat.{ℕ, _+_, _*_, _≤_, _<_};
 ghost use lib.ListN.{length};
 ghost use lib.Ieee.{Float, binary64};
 ghost use Rattle.refusal.specs.Order.{if_then_else_};
 ghost use Rattle.fmath.specs.Each.{at};
 ghost use Rattle.rollout.specs.Plant.{axis, substep};
 ghost use Rattle.rollout.specs.Forecast.{writtenOf};
-ghost use Rattle.rollout.specs.Rule.{Task, after, stopDistance, forecast};
+ghost use Rattle.rollout.specs.Rule.{Task, rowsLeft, after, stopDistance, forecast};
 ghost use Rattle.rollout.specs.declared.Plant.{Plant};
-ghost use Rattle.rollout.specs.Of.{gainsOf, stateOf, movedFrom, joinedOf, reckonedFrom, taskOf, Along, Towards, Under, roomy, noRun, runOf};
+ghost use Rattle.rollout.specs.Of.{gainsOf, stateOf, movedFrom, joinedOf, endedOf, reckonedFrom, taskOf, Along, Towards, Under, leftOf, shaped, roomy, noRun, runOf};
 use envelope::ControlSteps;
 use envelope::Substeps;
 use workspace::Workspace;
@@ -147,6 +147,20 @@ fn joined(moved: Plant, still: Plant, n: usize) -> Plant
     r
 }
 
+// A run that has come so far, its first n axes moved and the rest still where they were.
+fn ended(moved: Plant, still: Plant, n: usize, margin: f64, done: usize, sound: bool) -> Run
+    requires { ⌜ n ≤ 8 ⌝ }
+    ensures { λ r. ⌜ r ≡ endedOf moved still n margin done sound ⌝ }
+{
+    let plant = joined(moved, still, n);
+    Run {
+        plant,
+        margin,
+        done,
+        sound,
+    }
+}
+
 // One setpoint, held for so many substeps, axis by axis.
 fn stepwise(
     g: Law,
@@ -198,13 +212,7 @@ fn abreast(
         let there = next.p;
         let room = workspace::slack_abreast(w, there, n);
         if !room.sound {
-            let plant = joined(moved, still, n);
-            return Run {
-                plant,
-                margin,
-                done: at,
-                sound: false,
-            };
+            return ended(moved, still, n, margin, at, false);
         }
         slack[at] = room.least;
         margin = fmath::min(margin, room.least);
@@ -212,13 +220,7 @@ fn abreast(
         at += 1;
         s += 1;
     }
-    let plant = joined(moved, still, n);
-    Run {
-        plant,
-        margin,
-        done: at,
-        sound: true,
-    }
+    ended(moved, still, n, margin, at, true)
 }
 
 // One setpoint, held for so many substeps. A single axis is quicker alone.
@@ -234,7 +236,7 @@ fn hold(g: Law, w: Workspace, n: usize, a: &[f64], count: usize, run: Run, slack
 
 // The control steps still committed from a row on: none past them.
 pub fn rows_left(commit: ControlSteps, from: usize) -> ControlSteps
-    ensures { λ r. ⌜ r .0 ≡ commit .0 - from ⌝ }
+    ensures { λ r. ⌜ r .0 ≡ rowsLeft commit from .0 ⌝ }
 {
     if (commit.0 as usize) <= from {
         return ControlSteps(0);
@@ -244,8 +246,8 @@ pub fn rows_left(commit: ControlSteps, from: usize) -> ControlSteps
 
 // The committed rows, each held for its substeps.
 fn push(g: Law, w: Workspace, c: Course, rows: &[f64], run: Run, slack: &mut [f64]) -> Run
-    requires { ⌜ (c .live ≤ 8) × (c .live ≤ c .dim) × (1 ≤ c .horizon) × (length (now rows) ≡ c .horizon * c .dim) × (run .done + (c .commit .0 - c .from) * c .per .0 ≤ length (now slack)) ⌝ }
-    ensures { λ r. ⌜ (r .done ≤ run .done + (c .commit .0 - c .from) * c .per .0) × ((s : Plant) (l : List Float) → Along binary64 (taskOf g w c s (now (rows .entry))) l 0 run (now (slack .entry)) → Along binary64 (taskOf g w c s (now (rows .entry))) l ((c .commit .0 - c .from) * c .per .0) r (now (slack .exit))) ⌝ }
+    requires { ⌜ (shaped c (length (now rows)) ≡ true) × (run .done + leftOf c .0 * c .per .0 ≤ length (now slack)) ⌝ }
+    ensures { λ r. ⌜ (r .done ≤ run .done + leftOf c .0 * c .per .0) × ((s : Plant) (l : List Float) → Along binary64 (taskOf g w c s (now (rows .entry))) l 0 run (now (slack .entry)) → Along binary64 (taskOf g w c s (now (rows .entry))) l (leftOf c .0 * c .per .0) r (now (slack .exit))) ⌝ }
 {
     let left = rows_left(c.commit, c.from).0 as usize;
     let per = c.per.0 as usize;

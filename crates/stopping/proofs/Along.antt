@@ -21,7 +21,7 @@ use Rattle.rollout.proofs.Along.{stands-at, along-fails, along-advances, along-
 use Rattle.rollout.specs.declared.Reckoned.{Reckoned}
 use Rattle.stopping.specs.declared.Stepped.{Stepped}
 use Rattle.stopping.specs.Rule.{Task, rowAt, radius, command, step, reaction, gain, radiusAt, commandAt, stepAt, after, stand, entry, forecast}
-use Rattle.stopping.specs.Of.{Along, Under, steppedFrom}
+use Rattle.stopping.specs.Of.{Along, Under, steppedFrom, haltedAt}
 use Rattle.rollout.specs.Of.{reckonedFrom}
 use Rattle.stopping.proofs.Told.{command-told}
 
@@ -70,7 +70,7 @@ module _
       rw (add-one, en, v-is)
       (ap (λ (q : State). record { p = stepAt f t (commandAt f t k q .value) (q .p) .value; v = commandAt f t k q .value }) from)
 
-  pub turn-fails : reach .sound && (d .sound && next .sound) ≡ false → Along f t l (suc k + 1) (record { plant = r .plant; margin = r .margin; done = r .done; sound = false }) out
+  pub turn-fails : reach .sound && (d .sound && next .sound) ≡ false → Along f t l (suc k + 1) (haltedAt (r .plant) (r .margin) (r .done)) out
   turn-fails b = along-fails (forecast f t) (stand f t) l (suc k) r out h s (fine-is ∙ b)
 
   pub turn-advances : reach .sound && (d .sound && next .sound) ≡ true → (m : Float) → m ≡ lesser (r .margin) (d .least)
@@ -98,7 +98,7 @@ module _
   unfolding entry
   start-slack = rw (ed, er, ← ew) (ap (λ (s : State). slackWithin f (t .walls) (radiusAt f t (s .v) .value) (s .p) (t .n) .value) eq)
 
-  pub start-fails : wait .sound && (g .sound && (reach .sound && d .sound)) ≡ false → Along f t l 1 (record { plant = q; margin = inf false; done = 0; sound = false }) l
+  pub start-fails : wait .sound && (g .sound && (reach .sound && d .sound)) ≡ false → Along f t l 1 (haltedAt q (inf false) 0) l
   start-fails b = along-fails (forecast f t) (stand f t) l 0 first l at-start refl (start-fine ∙ b)
 
   pub start-enters : wait .sound && (g .sound && (reach .sound && d .sound)) ≡ true → (m : Float) → m ≡ lesser (inf false) (d .least)

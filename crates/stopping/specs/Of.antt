@@ -1,9 +1,9 @@
 -- The rules at the declared structs.
-use Prim.Native.Nat.{ℕ, _-_, _*_}
+use Prim.Native.Nat.{ℕ}
 use mathlib.Core.Path.{_≡_}
-use mathlib.Core.Bool.{Bool, _&&_}
+use mathlib.Core.Bool.{Bool, false, _&&_}
 use mathlib.Core.List.{List, [], _∷_}
-use lib.Dec.{leb, ltb, eqb}
+use lib.Dec.{ltb}
 use lib.Ieee.{Float, Format, add}
 use Rattle.fmath.specs.Each.{every}
 use Rattle.workspace.specs.declared.Workspace.{Workspace}
@@ -11,7 +11,7 @@ use Rattle.workspace.specs.Of.{wallsOf}
 use Rattle.rollout.specs.declared.Course.{Course}
 use Rattle.rollout.specs.declared.Plant.{Plant}
 use Rattle.rollout.specs.declared.Run.{Run}
-use Rattle.rollout.specs.Of.{stateOf, Ran}
+use Rattle.rollout.specs.Of.{stateOf, Ran, leftOf, shaped}
 use Rattle.stopping.specs.declared.Arm.{Arm}
 use Rattle.stopping.specs.Rule.{Task, reaction, gain, stand, forecast}
 use Rattle.fmath.specs.Finite.{finite}
@@ -37,8 +37,12 @@ taskOf arm react w c s rows = record {
   horizon = c .horizon;
   dim = c .dim;
   from = c .from;
-  commit = c .commit .0;
+  commit = c .commit;
 }
+
+-- a run that goes no further than it has come
+abbrev pub haltedAt : Plant → Float → ℕ → Run
+haltedAt plant margin done = record { plant = plant; margin = margin; done = done; sound = false }
 
 -- a run has come along k entries
 abbrev pub Along : Format → Task → List Float → ℕ → Run → List Float → Type 0
@@ -49,9 +53,6 @@ pub record Under (f : Format) (t : Task) (g wait : Float) : Type 0 where
   pub pull : gain f t .value ≡ g
   pub delay : reaction f t .value ≡ wait
 
--- what a run needs of its course: eight axes at most, within the rows' width; rows that are all there; room for the start's entry and one a row
+-- what a run needs of its course: its shape, and room for the start's entry and one a row
 unfoldable pub roomy : Course → ℕ → ℕ → Bool
-roomy c len room =
-    every
-    (leb (c .live) 8 ∷ leb (c .live) (c .dim) ∷ leb 1 (c .horizon) ∷ eqb len (c .horizon * c .dim)
-    ∷ ltb (c .commit .0 - c .from) room ∷ [])
+roomy c len room = every (shaped c len ∷ ltb (leftOf c .0) room ∷ [])

@@ -1,5 +1,5 @@
 -- The closed kinds of brake (document 01, module 7): the stopping radius at the start and at each committed row, and the slack that it leaves. Over the format.
-use Prim.Native.Nat.{ℕ, zero, suc, _+_, _-_}
+use Prim.Native.Nat.{ℕ, zero, suc, _+_}
 use mathlib.Core.List.{List}
 use lib.IntN.{pos}
 use lib.Ieee.{Float, Format, ofInt}
@@ -13,9 +13,11 @@ use Rattle.envelope.specs.declared.ActionKind.{ActionKind}
 use Rattle.envelope.specs.declared.ActionKind.the-variants.{EePosition, EeDelta, JointPosition, JointVelocity, Other}
 use Rattle.envelope.specs.declared.BrakeKind.{BrakeKind}
 use Rattle.envelope.specs.declared.BrakeKind.the-variants.{PdSecondOrder, FirstOrderDecay, BoundedAccel, JerkLimited, ZeroVelocityHold}
+use Rattle.envelope.specs.declared.ControlSteps.{ControlSteps}
 use Rattle.workspace.specs.Rule.{Walls, slackWithin}
 use Rattle.rollout.specs.Plant.{State}
 use Rattle.rollout.specs.Forecast.{Forecast}
+use Rattle.rollout.specs.Rule.{rowsLeft}
 use Rattle.stopping.specs.declared.Arm.{Arm}
 
 pub record Task : Type 0 where
@@ -32,10 +34,11 @@ pub record Task : Type 0 where
   pub dim : ℕ
   -- the row to start from, and the control steps that are committed
   pub from : ℕ
-  pub commit : ℕ
+  pub commit : ControlSteps
 
-abbrev pub rowsLeft : Task → ℕ
-rowsLeft t = t .commit - t .from
+-- the rows that it goes through
+abbrev pub follows : Task → ℕ
+follows t = rowsLeft (t .commit) (t .from) .0
 
 -- the row of control step k, counted from 0
 abbrev pub rowAt : Task → ℕ → List Float
@@ -156,7 +159,7 @@ module _ (f : Format) (t : Task) where
   stand (suc k) = after k
 
   abbrev pub stop : Checked Float
-  stop = stopDistance f (t .arm) (reaction .value) (t .start) (after (rowsLeft t)) (t .n)
+  stop = stopDistance f (t .arm) (reaction .value) (t .start) (after (follows t)) (t .n)
 
   abbrev pub forecast : Forecast
-  forecast = record { count = suc (rowsLeft t); entry = entry; stop = stop }
+  forecast = record { count = suc (follows t); entry = entry; stop = stop }

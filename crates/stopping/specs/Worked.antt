@@ -29,7 +29,7 @@ sample = record {
   horizon = 1;
   dim = 1;
   from = 0;
-  commit = 1;
+  commit = record { 0 = 1 };
 }
 
 touching : (table (slackAt (forecast binary64 sample)) (forecast binary64 sample .count) ≡ fin false 5 (negsuc 0) ∷ +0 ∷ [])

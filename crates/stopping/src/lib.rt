@@ -2,16 +2,16 @@
 ghost use mathlib.Core.Path.{_≡_};
 ghost use mathlib.Core.Bool.{true};
 ghost use mathlib.Core.List.{List};
-ghost use Prim.Native.Nat.{ℕ, suc, _+_, _-_, _*_, _≤_, _<_};
+ghost use Prim.Native.Nat.{ℕ, suc, _+_, _≤_, _<_};
 ghost use lib.ListN.{length};
 ghost use lib.IntN.{pos};
 ghost use lib.Ieee.{Float, binary64, ofInt};
 ghost use Rattle.refusal.specs.Order.{if_then_else_};
 ghost use Rattle.stopping.specs.Rule.{ratio, ramp, ease, glide, radius, commanded, command, step, rowAt, gain, reaction, stand, stopDistance, forecast};
-ghost use Rattle.stopping.specs.Of.{steppedFrom, sumOf, taskOf, Along, Under, roomy};
+ghost use Rattle.stopping.specs.Of.{steppedFrom, sumOf, taskOf, haltedAt, Along, Under, roomy};
 ghost use Rattle.fmath.specs.Checked.{times, divided};
 ghost use Rattle.rollout.specs.Forecast.{writtenOf};
-ghost use Rattle.rollout.specs.Of.{stateOf, reckonedFrom, runOf, noRun};
+ghost use Rattle.rollout.specs.Of.{stateOf, reckonedFrom, leftOf, shaped, runOf, noRun};
 ghost use Rattle.rollout.specs.declared.Plant.{Plant};
 use envelope::ActionKind;
 use envelope::BrakeKind;
@@ -158,6 +158,18 @@ fn step(dt: f64, v: [f64; 8], p: [f64; 8], n: usize) -> Stepped
     Stepped { p: r, sound }
 }
 
+// A run that goes no further than it has come.
+fn halted(plant: Plant, margin: f64, done: usize) -> Run
+    ensures { λ r. ⌜ r ≡ haltedAt plant margin done ⌝ }
+{
+    Run {
+        plant,
+        margin,
+        done,
+        sound: false,
+    }
+}
+
 // One row more, if the run still goes: its slack is written unless a number on the way isn't finite.
 fn row(
     arm: Arm,
@@ -184,12 +196,7 @@ fn row(
     let next = step(arm.dt, v, p, n);
     let there = next.p;
     if !(r.sound & (gap.sound & next.sound)) {
-        return Run {
-            plant,
-            margin: run.margin,
-            done: run.done,
-            sound: false,
-        };
+        return halted(plant, run.margin, run.done);
     }
     let at = run.done;
     slack[at] = gap.least;
@@ -213,8 +220,8 @@ fn follow(
     run: Run,
     slack: &mut [f64],
 ) -> Run
-    requires { ⌜ (c .live ≤ 8) × (c .live ≤ c .dim) × (1 ≤ c .horizon) × (length (now rows) ≡ c .horizon * c .dim) × (run .done + (c .commit .0 - c .from) ≤ length (now slack)) ⌝ }
-    ensures { λ r. ⌜ (r .done ≤ run .done + (c .commit .0 - c .from)) × ((react : ℕ) (s : Plant) (l : List Float) → Under binary64 (taskOf arm react w c s (now (rows .entry))) g wait → Along binary64 (taskOf arm react w c s (now (rows .entry))) l 1 run (now (slack .entry)) → Along binary64 (taskOf arm react w c s (now (rows .entry))) l (suc (c .commit .0 - c .from)) r (now (slack .exit))) ⌝ }
+    requires { ⌜ (shaped c (length (now rows)) ≡ true) × (run .done + leftOf c .0 ≤ length (now slack)) ⌝ }
+    ensures { λ r. ⌜ (r .done ≤ run .done + leftOf c .0) × ((react : ℕ) (s : Plant) (l : List Float) → Under binary64 (taskOf arm react w c s (now (rows .entry))) g wait → Along binary64 (taskOf arm react w c s (now (rows .entry))) l 1 run (now (slack .entry)) → Along binary64 (taskOf arm react w c s (now (rows .entry))) l (suc (leftOf c .0)) r (now (slack .exit))) ⌝ }
 {
     let left = rollout::rows_left(c.commit, c.from).0 as usize;
     let mut r = run;
@@ -248,12 +255,7 @@ fn begin(
     let r = radius(arm, wait.value, v, n);
     let gap = workspace::slack_within(w, r.value, p, n);
     if !(wait.sound & (g.sound & (r.sound & gap.sound))) {
-        return Run {
-            plant: start,
-            margin: inf,
-            done: 0,
-            sound: false,
-        };
+        return halted(start, inf, 0);
     }
     slack[0] = gap.least;
     let margin = fmath::min(inf, gap.least);
@@ -297,12 +299,7 @@ pub fn stopping(
 {
     let inf = 1.0 / 0.0;
     if !roomy(c, rows.len(), slack.len()) {
-        return Run {
-            plant: start,
-            margin: inf,
-            done: 0,
-            sound: false,
-        };
+        return halted(start, inf, 0);
     }
     let brake = arm.brake;
     let g = ratio(brake);

@@ -2,7 +2,7 @@
 -- judging does, and it is accepted if and only if no reason applies. For each entry the reasons and their conditions stand in the theorem.
 use Prim.Native.Nat.{ℕ, zero, suc}
 use mathlib.Core.Path.{_≡_, refl, sym, ap}
-use mathlib.Core.Bool.{Bool, true, false, not, _||_, _&&_}
+use mathlib.Core.Bool.{Bool, true, false, not, _||_}
 use mathlib.Core.List.{List, [], _∷_, _++_}
 use native.Mathlib.Omega.{arith}
 use borrow.Author.Tests.{eqb-true, ne-eqb}
@@ -38,7 +38,7 @@ use Rattle.tier1.specs.Refusals.{none, prevJudged, stateJudged}
 use Rattle.tier1.specs.Of as tier1
 use Rattle.rollout.specs.Forecast.{Forecast, placeOf}
 use Rattle.brake.specs.declared.BrakeOut.the-variants as out
-use Rattle.brake.specs.Answer.{plan, lentJudged, rowLent, eachFinite, outcome, answerAt, sentAt, forecastRefusal, forecastAnswer, brakeSent, brakeRefusal, brakeAnswer, holdRefusal, holdAnswer}
+use Rattle.brake.specs.Answer.{plan, lentJudged, rowLent, outcome, answerAt, sentAt, forecastRefusal, forecastAnswer, brakeSent, brakeRefusal, brakeAnswer, holdRefusal, holdAnswer}
 use Rattle.lictor.specs.Answer.{numberOf as numberIn, maskNumber, countNumber, emptinessNumber, verdictNumber, binNumber, checkNumber, forecastNumber, sentNumber}
 
 -- n is the number of a call to which these reasons apply
@@ -202,11 +202,11 @@ sent-told (suc k) = refl
 
 pub brake-action-exactly :
     (c : FuseConfig) (p v : List Float) (room : ℕ)
-    → Exactly (sentNumber (brakeAnswer c p v room)) (among (configJudged c ++ (rowLent c (eachFinite p && eachFinite v) room ++ (computed when not (brakeSent c p v .sound) ∷ []))))
+    → Exactly (sentNumber (brakeAnswer c p v room)) (among (configJudged c ++ (rowLent c (someNotFinite p || someNotFinite v) room ++ (computed when not (brakeSent c p v .sound) ∷ []))))
 unfolding brakeAnswer brakeRefusal
 brake-action-exactly c p v room = exactly _ (sent-told _)
 
-pub hold-action-exactly : (c : FuseConfig) (p : List Float) (room : ℕ) → Exactly (sentNumber (holdAnswer c p room)) (among (configJudged c ++ rowLent c (eachFinite p) room))
+pub hold-action-exactly : (c : FuseConfig) (p : List Float) (room : ℕ) → Exactly (sentNumber (holdAnswer c p room)) (among (configJudged c ++ rowLent c (someNotFinite p) room))
 unfolding holdAnswer holdRefusal
 hold-action-exactly c p room = exactly _ (sent-told _)
 

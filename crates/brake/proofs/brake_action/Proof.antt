@@ -1,14 +1,16 @@
 -- `brake::brake_action` meets its contract: refused before the row is computed, refused by a computed number, or written.
-use mathlib.Core.Path.{sym, ap, _∙_}
-use mathlib.Core.Bool.{Bool, _&&_}
+use mathlib.Core.Path.{_≡_, sym, _∙_}
+use mathlib.Core.Bool.{Bool, not, _||_}
 use borrow.Author.Tests.{not-true, not-false}
 use denote.Ref.{now}
 use lib.ListN.{length}
-use Rattle.brake.specs.Answer.{eachFinite}
 use Rattle.brake.proofs.Sending.{sized, brake-refused, brake-unsound, brake-done}
 use borrow.Author.Needs.{needs}
 use Rattle.brake.proofs.brake_action.Statement.{statement}
 use Rattle.brake.proofs.brake_action.Tie as tie
+
+either : {a b x y : Bool} → a ≡ x → b ≡ y → (not a || not b) ≡ (not x || not y)
+either g h = rw (g, h)
 
 all-finite-requires : tie.Need-all-finite-requires
 all-finite-requires c κs = search needs
@@ -23,13 +25,13 @@ of-requires : tie.Need-of-requires
 of-requires c κs = search needs
 
 returns : tie.Need-returns
-returns c = let g = c .before .before .before .before .before .before .before .before .args in let w = brake-refused (g .c) (now (g .pos)) (now (g .vel)) (now (g .out)) (ap (λ (b : Bool). b && c .before .before .before .all-finite2 .result) (c .before .before .before .before .all-finite .ensures) ∙ ap (λ (b : Bool). eachFinite (now (g .pos)) && b) (c .before .before .before .all-finite2 .ensures)) (c .before .before .row-refusal .ensures) (c .before .if1 .taken) (c .of .ensures) in (w .gives, w .leaves)
+returns c = let g = c .before .before .before .before .before .before .before .before .args in let w = brake-refused (g .c) (now (g .pos)) (now (g .vel)) (now (g .out)) (either (c .before .before .before .before .all-finite .ensures) (c .before .before .before .all-finite2 .ensures)) (c .before .before .row-refusal .ensures) (c .before .if1 .taken) (c .of .ensures) in (w .gives, w .leaves)
 
 workspace-of-requires : tie.Need-workspace-of-requires
 workspace-of-requires c κs = search needs
 
 brake-row-requires : tie.Need-brake-row-requires
-brake-row-requires c κs = let g = c .before .before .before .before .before .before .before .before .args in sized (g .c) (c .before .before .before .before .all-finite .result && c .before .before .before .all-finite2 .result) (length (now (g .out))) (sym (c .before .before .row-refusal .ensures) ∙ c .before .if1 .left) .0
+brake-row-requires c κs = let g = c .before .before .before .before .before .before .before .before .args in sized (g .c) (not (c .before .before .before .before .all-finite .result) || not (c .before .before .before .all-finite2 .result)) (length (now (g .out))) (sym (c .before .before .row-refusal .ensures) ∙ c .before .if1 .left) .0
 
 of-requires-2 : tie.Need-of-requires-2
 of-requires-2 c κs = search needs
@@ -37,19 +39,26 @@ of-requires-2 c κs = search needs
 returns-2 : tie.Need-returns-2
 returns-2 c =
     let g = c .before .before .before .before .before .before .before .before .before .before .before .before .args in
-    let w = brake-unsound (g .c) (now (g .pos)) (now (g .vel)) (now (g .out)) (ap (λ (b : Bool). b && c .before .before .before .before .before .before .before .all-finite2 .result) (c .before .before .before .before .before .before .before .before .all-finite .ensures) ∙ ap (λ (b : Bool). eachFinite (now (g .pos)) && b) (c .before .before .before .before .before .before .before .all-finite2 .ensures)) (sym (c .before .before .before .before .before .before .row-refusal .ensures) ∙ c .before .before .before .before .before .if1 .left) (c .before .before .before .before .workspace-of .ensures) (c .before .before .before .brake-row .ensures) (not-true _ (c .before .if2 .taken)) (c .of2 .ensures) in
+    let w = brake-unsound (g .c) (now (g .pos)) (now (g .vel)) (now (g .out)) (either (c .before .before .before .before .before .before .before .before .all-finite .ensures) (c .before .before .before .before .before .before .before .all-finite2 .ensures)) (sym (c .before .before .before .before .before .before .row-refusal .ensures) ∙ c .before .before .before .before .before .if1 .left) (c .before .before .before .before .workspace-of .ensures) (c .before .before .before .brake-row .ensures) (not-true _ (c .before .if2 .taken)) (c .of2 .ensures) in
     (w .gives, w .leaves)
 
-write-row-requires : tie.Need-write-row-requires
-write-row-requires c κs = let g = c .before .before .before .before .before .before .before .before .before .before .before .before .before .args in sized (g .c) (c .before .before .before .before .before .before .before .before .before .all-finite .result && c .before .before .before .before .before .before .before .before .all-finite2 .result) (length (now (g .out))) (sym (c .before .before .before .before .before .before .before .row-refusal .ensures) ∙ c .before .before .before .before .before .before .if1 .left)
+slice-aggregate-put : tie.Need-slice-aggregate-put
+slice-aggregate-put c = search needs
+
+put-requires : tie.Need-put-requires
+put-requires c κs = search needs
 
 same-length : tie.Need-same-length
 same-length c = search needs
 
+-- the row has eight numbers
+long : (c : tie.After-put) → length (c .before .before .before .before .before .before .brake-row .result .at) ≡ 8
+long c = search needs
+
 returns-3 : tie.Need-returns-3
 returns-3 c =
-    let g = c .before .before .before .before .before .before .before .before .before .before .before .before .before .before .before .before .args in
-    let w = brake-done (g .c) (now (g .pos)) (now (g .vel)) (now (g .out)) (ap (λ (b : Bool). b && c .before .before .before .before .before .before .before .before .before .before .before .all-finite2 .result) (c .before .before .before .before .before .before .before .before .before .before .before .before .all-finite .ensures) ∙ ap (λ (b : Bool). eachFinite (now (g .pos)) && b) (c .before .before .before .before .before .before .before .before .before .before .before .all-finite2 .ensures)) (sym (c .before .before .before .before .before .before .before .before .before .before .row-refusal .ensures) ∙ c .before .before .before .before .before .before .before .before .before .if1 .left) (c .before .before .before .before .before .before .before .before .workspace-of .ensures) (c .before .before .before .before .before .before .before .brake-row .ensures) (not-false _ (c .before .before .before .before .before .if2 .left)) (c .before .before .write-row .ensures) in
+    let g = c .before .before .before .before .before .before .before .before .before .before .before .before .before .before .before .before .before .args in
+    let w = brake-done (g .c) (now (g .pos)) (now (g .vel)) (now (g .out)) (either (c .before .before .before .before .before .before .before .before .before .before .before .before .before .all-finite .ensures) (c .before .before .before .before .before .before .before .before .before .before .before .before .all-finite2 .ensures)) (sym (c .before .before .before .before .before .before .before .before .before .before .before .row-refusal .ensures) ∙ c .before .before .before .before .before .before .before .before .before .before .if1 .left) (c .before .before .before .before .before .before .before .before .before .workspace-of .ensures) (c .before .before .before .before .before .before .before .before .brake-row .ensures) (not-false _ (c .before .before .before .before .before .before .if2 .left)) (long (c .before .before)) (c .before .before .put .ensures) in
     (w .gives, w .leaves)
 
 pub brake-action-spec : {M : Type 1} → statement M
@@ -65,6 +74,7 @@ brake-action-spec =
     brake-row-requires
     of-requires-2
     returns-2
-    write-row-requires
+    slice-aggregate-put
+    put-requires
     same-length
     returns-3)

@@ -1,8 +1,9 @@
 -- `brake::hold_action` meets its contract: refused before the row is made, or written.
-use mathlib.Core.Path.{sym, _∙_}
+use mathlib.Core.Path.{_≡_, sym, ap, _∙_}
+use mathlib.Core.Bool.{not}
 use denote.Ref.{now}
 use lib.ListN.{length}
-use Rattle.brake.proofs.Sending.{sized, hold-refused, hold-done}
+use Rattle.brake.proofs.Sending.{hold-refused, hold-done}
 use borrow.Author.Needs.{needs}
 use Rattle.brake.proofs.hold_action.Statement.{statement}
 use Rattle.brake.proofs.hold_action.Tie as tie
@@ -17,7 +18,7 @@ of-requires : tie.Need-of-requires
 of-requires c κs = search needs
 
 returns : tie.Need-returns
-returns c = let g = c .before .before .before .before .before .before .args in let w = hold-refused (g .c) (now (g .pos)) (now (g .out)) (c .before .before .before .all-finite .ensures) (c .before .before .row-refusal .ensures) (c .before .if1 .taken) (c .of .ensures) in (w .gives, w .leaves)
+returns c = let g = c .before .before .before .before .before .before .args in let w = hold-refused (g .c) (now (g .pos)) (now (g .out)) (ap not (c .before .before .before .all-finite .ensures)) (c .before .before .row-refusal .ensures) (c .before .if1 .taken) (c .of .ensures) in (w .gives, w .leaves)
 
 workspace-of-requires : tie.Need-workspace-of-requires
 workspace-of-requires c κs = search needs
@@ -25,16 +26,23 @@ workspace-of-requires c κs = search needs
 hold-row-requires : tie.Need-hold-row-requires
 hold-row-requires c κs = search needs
 
-write-row-requires : tie.Need-write-row-requires
-write-row-requires c κs = let g = c .before .before .before .before .before .before .before .before .args in sized (g .c) (c .before .before .before .before .before .all-finite .result) (length (now (g .out))) (sym (c .before .before .before .before .row-refusal .ensures) ∙ c .before .before .before .if1 .left)
+slice-aggregate-put : tie.Need-slice-aggregate-put
+slice-aggregate-put c = search needs
+
+put-requires : tie.Need-put-requires
+put-requires c κs = search needs
 
 same-length : tie.Need-same-length
 same-length c = search needs
 
+-- the row has eight numbers
+long : (c : tie.After-put) → length (c .before .before .before .hold-row .result) ≡ 8
+long c = search needs
+
 returns-2 : tie.Need-returns-2
 returns-2 c =
-    let g = c .before .before .before .before .before .before .before .before .before .before .before .args in
-    let w = hold-done (g .c) (now (g .pos)) (now (g .out)) (c .before .before .before .before .before .before .before .before .all-finite .ensures) (sym (c .before .before .before .before .before .before .before .row-refusal .ensures) ∙ c .before .before .before .before .before .before .if1 .left) (c .before .before .before .before .before .workspace-of .ensures) (c .before .before .before .before .hold-row .ensures) (c .before .before .write-row .ensures) in
+    let g = c .before .before .before .before .before .before .before .before .before .before .before .before .args in
+    let w = hold-done (g .c) (now (g .pos)) (now (g .out)) (ap not (c .before .before .before .before .before .before .before .before .before .all-finite .ensures)) (sym (c .before .before .before .before .before .before .before .before .row-refusal .ensures) ∙ c .before .before .before .before .before .before .before .if1 .left) (c .before .before .before .before .before .before .workspace-of .ensures) (c .before .before .before .before .before .hold-row .ensures) (long (c .before .before)) (c .before .before .put .ensures) in
     (w .gives, w .leaves)
 
 pub hold-action-spec : {M : Type 1} → statement M
@@ -47,6 +55,7 @@ hold-action-spec =
     returns
     workspace-of-requires
     hold-row-requires
-    write-row-requires
+    slice-aggregate-put
+    put-requires
     same-length
     returns-2)

@@ -74,8 +74,8 @@ substep-requires c κs = (omega arith, search needs)
 slack-abreast-requires : tie.Need-slack-abreast-requires Inv-loop μ-loop
 slack-abreast-requires c κs = search needs
 
-joined-requires : tie.Need-joined-requires Inv-loop μ-loop
-joined-requires c κs = search needs
+ended-requires : tie.Need-ended-requires Inv-loop μ-loop
+ended-requires c κs = search needs
 
 same-length : tie.Need-same-length Inv-loop μ-loop
 same-length c = c .before .before .before .before .before .before .before .before .loop .inv .1 .0
@@ -84,19 +84,20 @@ returns-2 : tie.Need-returns-2 Inv-loop μ-loop
 returns-2 c =
     let s = c .before .before .before .before .before .before .before .before .before .before .before .before .before .before .before .before in
     let i = c .before .before .before .before .before .before .before .before .loop in
-    let sound : s .args .run .sound ≡ true = not-false _ (c .before .before .before .before .before .before .before .before .before .before .before .before .if1 .left) in (
-      omega (arith, i .inv .1 .1 .0),
+    let sound : s .args .run .sound ≡ true = not-false _ (c .before .before .before .before .before .before .before .before .before .before .before .before .if1 .left) in
+    let turns = c .before .before .before .before .before .before .before .loop-test .taken in
+    rw (c .ended .ensures) (
+      omega (arith, i .inv .1 .1 .0, turns),
       λ t l k u r towards.
           let h = subst (λ (q : Run). Along binary64 t l k q (now (s .args .slack))) (going (s .args .run) sound) r in
           let go : Towards binary64 t k (s .args .count) (now (s .args .a)) (first (s .args .run .plant) (s .args .run .margin) (s .args .run .done)) = λ _. towards sound in
-          rw (c .joined .ensures)
-          (along-at (forecast binary64 t) (after binary64 t) l (k + s .args .count) _ _ (k + i .s + 1 + (s .args .count - i .s - 1)) (omega arith)
+          along-at (forecast binary64 t) (after binary64 t) l (k + s .args .count) _ _ (k + i .s + 1 + (s .args .count - i .s - 1)) (omega (arith, turns))
           (along-rest (forecast binary64 t) (after binary64 t) l (k + i .s + 1) _ _ refl
           (wide-fails binary64 t l (k + i .s) (i .moved) (s .args .run .plant) (s .args .n) (i .margin) (i .at) (i .slack) (s .args .g) (s .args .w) (now (s .args .a)) (c .before .before .before .before .before .before .before .before .before .before .padded .result) u
           (i .inv .1 .1 .1 .1 .1 t l k u h go)
           (towards-next binary64 t l k (s .args .count) (i .s) (now (s .args .a)) (first (s .args .run .plant) (s .args .run .margin) (s .args .run .done)) (running (i .moved) (s .args .run .plant) (s .args .n) (i .margin) (i .at)) (now (s .args .slack)) (i .slack) h go (i .inv .1 .1 .1 .1 .1 t l k u h go) (omega arith))
           (s .pre .0) (i .inv .1 .1 .1 .0) (i .inv .1 .1 .1 .1 .0) (long s .0) (long s .1) (c .before .before .before .before .before .before .before .before .before .before .padded .ensures) (c .before .before .before .before .before .substep .result) (c .before .before .before .before .before .substep .ensures) (c .before .before .before .slack-abreast .result) (c .before .before .before .slack-abreast .ensures) (not-true _ (c .before .if2 .taken)))
-          (s .args .count - i .s - 1))),
+          (s .args .count - i .s - 1)),
     )
 
 mul-slack : tie.Need-mul-slack Inv-loop μ-loop
@@ -149,8 +150,8 @@ loop-again c =
       ),
     )
 
-joined-requires-2 : tie.Need-joined-requires-2 Inv-loop μ-loop
-joined-requires-2 c κs = search needs
+ended-requires-2 : tie.Need-ended-requires-2 Inv-loop μ-loop
+ended-requires-2 c κs = search needs
 
 same-length-2 : tie.Need-same-length-2 Inv-loop μ-loop
 same-length-2 c = c .before .before .loop .inv .1 .0
@@ -160,12 +161,12 @@ returns-3 c =
     let s = c .before .before .before .before .before .before .before .before .before .before in
     let i = c .before .before .loop in
     let sound : s .args .run .sound ≡ true = not-false _ (c .before .before .before .before .before .before .if1 .left) in
-    let e : i .s ≡ s .args .count = omega arith in (
-      omega (arith, i .inv .1 .1 .0),
+    let e : i .s ≡ s .args .count = omega arith in
+    rw (c .ended2 .ensures) (
+      omega (arith, i .inv .1 .1 .0, e),
       λ t l k u r towards.
-          rw (c .joined2 .ensures)
-          (along-at (forecast binary64 t) (after binary64 t) l (k + s .args .count) _ _ (k + i .s) (ap (λ (m : ℕ). k + m) e)
-          (i .inv .1 .1 .1 .1 .1 t l k u (subst (λ (q : Run). Along binary64 t l k q (now (s .args .slack))) (going (s .args .run) sound) r) (λ _. towards sound))),
+          along-at (forecast binary64 t) (after binary64 t) l (k + s .args .count) _ _ (k + i .s) (ap (λ (m : ℕ). k + m) e)
+          (i .inv .1 .1 .1 .1 .1 t l k u (subst (λ (q : Run). Along binary64 t l k q (now (s .args .slack))) (going (s .args .run) sound) r) (λ _. towards sound)),
     )
 
 pub abreast-spec : {M : Type 1} → statement M
@@ -180,7 +181,7 @@ abreast-spec =
     slice-aggregate-substep
     substep-requires
     slack-abreast-requires
-    joined-requires
+    ended-requires
     same-length
     returns-2
     mul-slack
@@ -190,6 +191,6 @@ abreast-spec =
     add-s
     loop-less
     loop-again
-    joined-requires-2
+    ended-requires-2
     same-length-2
     returns-3)

@@ -11,8 +11,9 @@ use lib.Ieee.{Float, binary64}
 use Rattle.chunk.proofs.Rows.{row-long}
 use Rattle.rollout.specs.declared.Plant.{Plant}
 use Rattle.rollout.specs.Rule.{after, forecast}
-use Rattle.rollout.specs.Of.{taskOf, Along}
+use Rattle.rollout.specs.Of.{taskOf, Along, leftOf}
 use Rattle.rollout.proofs.Along.{along-at}
+use Rattle.rollout.proofs.Room.{shape-of}
 use Rattle.rollout.proofs.Rows.{row-more, row-fits, aims-row}
 use Rattle.rollout.proofs.push.Statement.{statement}
 use Rattle.rollout.proofs.push.Tie as tie
@@ -20,7 +21,7 @@ use Rattle.rollout.proofs.push.Tie as tie
 abbrev Inv-loop : tie.InvT-loop
 Inv-loop g w c rows slack₀ left per r₀ i₀ slack r i =
     (i ≤ left)
-    × ((left ≡ c .commit .0 - c .from)
+    × ((left ≡ leftOf c .0)
     × ((per ≡ c .per .0)
     × ((length slack ≡ length slack₀)
     × ((r .done ≤ r₀ .done + i * per)
@@ -67,9 +68,10 @@ hold-requires : tie.Need-hold-requires Inv-loop μ-loop
 hold-requires c κs =
     let s = c .before .before .before .before .before .before .before .before .before .before in
     let i = c .before .before .before .before .loop in
+    let q = shape-of _ _ (s .pre .0) in
     let long : length (now (c .before .action .result)) ≡ s .args .c .dim =
-    ap length (c .before .action .ensures) ∙ row-long (now (s .args .rows)) (s .args .c .horizon) (s .args .c .dim) (s .args .c .from + i .i) (s .pre .2) (s .pre .3) in
-    (s .pre .0, omega (arith, long, s .pre .1), omega (arith, i .inv .1 .1 .1 .1 .0, i .inv .1 .0, i .inv .1 .1 .1 .0, row-fits (i .i) (s .args .c .commit .0 - s .args .c .from) (s .args .c .per .0) (omega (arith, i .inv .1 .0)), s .pre .4))
+    ap length (c .before .action .ensures) ∙ row-long (now (s .args .rows)) (s .args .c .horizon) (s .args .c .dim) (s .args .c .from + i .i) (q .rowed) (q .there) in
+    (q .axes, omega (arith, long, q .within), omega (arith, i .inv .1 .1 .1 .1 .0, i .inv .1 .0, i .inv .1 .1 .1 .0, row-fits (i .i) (leftOf (s .args .c) .0) (s .args .c .per .0) (omega (arith, i .inv .1 .0)), s .pre .1))
 
 add-i : tie.Need-add-i Inv-loop μ-loop
 add-i c = omega arith
@@ -77,7 +79,7 @@ add-i c = omega arith
 loop-less : tie.Need-loop-less Inv-loop μ-loop
 loop-less c = omega arith
 
-still : (c : tie.After-slice-known2 Inv-loop μ-loop) → c .before .before .before .before .before .before .before .loop .i < c .before .before .before .before .before .before .before .before .before .before .before .before .before .args .c .commit .0 - c .before .before .before .before .before .before .before .before .before .before .before .before .before .args .c .from
+still : (c : tie.After-slice-known2 Inv-loop μ-loop) → c .before .before .before .before .before .before .before .loop .i < leftOf (c .before .before .before .before .before .before .before .before .before .before .before .before .before .args .c) .0
 still c = omega (arith, c .before .before .before .before .before .before .loop-test .taken, c .before .before .before .before .before .before .before .loop .inv .1 .0)
 
 loop-again : tie.Need-loop-again Inv-loop μ-loop
@@ -114,9 +116,9 @@ returns c =
     let s = c .before .before .before .before .before .before .before in
     let i = c .before .loop in
     let per = s .args .c .per .0 in
-    let e : i .i ≡ s .args .c .commit .0 - s .args .c .from = omega (arith, i .inv .1 .0) in
-    let m : i .i * per ≡ (s .args .c .commit .0 - s .args .c .from) * per = ap (λ (x : ℕ). x * per) e in
-    (omega (arith, i .inv .1 .1 .1 .1 .0, m), λ q l h. along-at (forecast binary64 (taskOf (s .args .g) (s .args .w) (s .args .c) q (now (s .args .rows)))) (after binary64 (taskOf (s .args .g) (s .args .w) (s .args .c) q (now (s .args .rows)))) l ((s .args .c .commit .0 - s .args .c .from) * per) _ _ (i .i * per) m (i .inv .1 .1 .1 .1 .1 q l h))
+    let e : i .i ≡ leftOf (s .args .c) .0 = omega (arith, i .inv .1 .0) in
+    let m : i .i * per ≡ leftOf (s .args .c) .0 * per = ap (λ (x : ℕ). x * per) e in
+    (omega (arith, i .inv .1 .1 .1 .1 .0, m), λ q l h. along-at (forecast binary64 (taskOf (s .args .g) (s .args .w) (s .args .c) q (now (s .args .rows)))) (after binary64 (taskOf (s .args .g) (s .args .w) (s .args .c) q (now (s .args .rows)))) l (leftOf (s .args .c) .0 * per) _ _ (i .i * per) m (i .inv .1 .1 .1 .1 .1 q l h))
 
 pub push-spec : {M : Type 1} → statement M
 push-spec =

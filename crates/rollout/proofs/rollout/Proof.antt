@@ -1,5 +1,5 @@
 -- `rollout::rollout` meets its contract: the committed rows, then the setpoint that they leave, come along all N entries (`Along`).
-use Prim.Native.Nat.{ℕ, _+_, _-_, _*_}
+use Prim.Native.Nat.{ℕ, _+_, _*_, _≤_}
 use mathlib.Core.Path.{_≡_, refl, sym, ap, _∙_}
 use mathlib.Core.Bool.{true}
 use native.Mathlib.Nat.{add-mul, zero-add}
@@ -12,13 +12,16 @@ use lib.Ieee.{binary64, ofBits, div}
 use Rattle.workspace.specs.Rule.{inward}
 use Rattle.workspace.specs.Of.{wallsOf}
 use Rattle.rollout.specs.Plant.{State}
-use Rattle.rollout.specs.Rule.{Task, total, after, forecast}
-use Rattle.rollout.specs.Of.{taskOf, Along, Towards, roomy}
+use Rattle.rollout.specs.Rule.{Task, pushes, total, after, forecast}
+use Rattle.rollout.specs.Of.{taskOf, Along, Towards, leftOf, shaped, roomy}
 use Rattle.rollout.proofs.Along.{along-start, along-at, stands-at, run-is, written-is}
-use Rattle.rollout.proofs.Room.{Room, room-of}
+use Rattle.rollout.proofs.Room.{shape-of, room-of}
 use Rattle.rollout.proofs.Rows.{aims-setpoint}
 use Rattle.rollout.proofs.rollout.Statement.{statement}
 use Rattle.rollout.proofs.rollout.Tie as tie
+
+abbrev task : tie.Start → Task
+task s = taskOf (s .args .g) (s .args .w) (s .args .c) (s .args .start) (now (s .args .rows))
 
 roomy-requires : tie.Need-roomy-requires
 roomy-requires c κs = search needs
@@ -30,14 +33,14 @@ returns c = rw (sym (c .before .roomy .ensures) ∙ not-true _ (c .if1 .taken)) 
 has-room : (c : tie.Else1) → roomy (c .before .before .before .before .args .c) (length (now (c .before .before .before .before .args .rows))) (length (now (c .before .before .before .before .args .slack))) ≡ true
 has-room c = sym (c .before .roomy .ensures) ∙ not-false _ (c .if1 .left)
 
-room : (c : tie.Else1) → Room (c .before .before .before .before .args .c) (length (now (c .before .before .before .before .args .rows))) (length (now (c .before .before .before .before .args .slack)))
+room : (c : tie.Else1) → (shaped (c .before .before .before .before .args .c) (length (now (c .before .before .before .before .args .rows))) ≡ true) × (total (task (c .before .before .before .before)) ≤ length (now (c .before .before .before .before .args .slack)))
 room c = room-of _ _ _ (has-room c)
 
 push-requires : tie.Need-push-requires
 push-requires c κs =
     let s = c .before .before .before .before .before .args .c in
     let r = room (c .before) in
-    (r .axes, r .within, r .rowed, r .there, omega (arith, r .space, add-mul (s .commit .0 - s .from) (s .brake .0) (s .per .0)))
+    (r .0, omega (arith, r .1, add-mul (leftOf s .0) (s .brake .0) (s .per .0)))
 
 inward-requires : tie.Need-inward-requires
 inward-requires c κs = search needs
@@ -52,41 +55,35 @@ hold-requires : tie.Need-hold-requires
 hold-requires c κs =
     let s = c .before .before .before .before .before .before .before .before .before .before .before .before .before .before .args .c in
     let r = room (c .before .before .before .before .before .before .before .before .before .before) in
+    let axes = shape-of _ _ (r .0) .axes in
     let long : length (c .before .before .before .inward .result) ≡ 8 = search needs in
-    (r .axes, omega (arith, long, r .axes), omega (arith, r .space, add-mul (s .commit .0 - s .from) (s .brake .0) (s .per .0), c .before .before .before .before .before .before .before .before .push .ensures .0, c .before .before .substeps-in .ensures, c .before .before .before .before .before .before .before .before .push .kept .1 .1 .1 .1 .1 .0))
+    (axes, omega (arith, long, axes), omega (arith, r .1, add-mul (leftOf s .0) (s .brake .0) (s .per .0), c .before .before .before .before .before .before .before .before .push .ensures .0, c .before .before .substeps-in .ensures, c .before .before .before .before .before .before .before .before .push .kept .1 .1 .1 .1 .1 .0))
 
 same-length : tie.Need-same-length
 same-length c = search needs
 
--- the task, and the substeps under its rows
-abbrev task : tie.Start → Task
-task s = taskOf (s .args .g) (s .args .w) (s .args .c) (s .args .start) (now (s .args .rows))
-
-abbrev under-rows : tie.Start → ℕ
-under-rows s = (s .args .c .commit .0 - s .args .c .from) * s .args .c .per .0
-
-along-rows : (c : tie.After-push) → Along binary64 (task (c .before .before .before .before .before .before)) (now (c .before .before .before .before .before .before .args .slack)) (under-rows (c .before .before .before .before .before .before)) (c .push .result) (c .push .last .1 .1 .1 .1 .1 .0)
+along-rows : (c : tie.After-push) → Along binary64 (task (c .before .before .before .before .before .before)) (now (c .before .before .before .before .before .before .args .slack)) (pushes (task (c .before .before .before .before .before .before))) (c .push .result) (c .push .last .1 .1 .1 .1 .1 .0)
 unfolding ofBits div after
 along-rows c = let s = c .before .before .before .before .before .before in c .push .ensures .1 (s .args .start) (now (s .args .slack)) (along-start (forecast binary64 (task s)) (after binary64 (task s)) (now (s .args .slack)) (s .args .start) refl)
 
 -- N
-whole : (s : tie.Start) → under-rows s + (0 + s .args .c .brake .0) * s .args .c .per .0 ≡ total (task s)
-whole s = ap (λ (b : ℕ). under-rows s + b * s .args .c .per .0) (zero-add (s .args .c .brake .0)) ∙ sym (add-mul (s .args .c .commit .0 - s .args .c .from) (s .args .c .brake .0) (s .args .c .per .0))
+whole : (s : tie.Start) → pushes (task s) + (0 + s .args .c .brake .0) * s .args .c .per .0 ≡ total (task s)
+whole s = ap (λ (b : ℕ). pushes (task s) + b * s .args .c .per .0) (zero-add (s .args .c .brake .0)) ∙ sym (add-mul (leftOf (s .args .c) .0) (s .args .c .brake .0) (s .args .c .per .0))
 
 -- where the rows leave the plant, the setpoint is made
-towards-setpoint : (c : tie.After-hold) → Towards binary64 (task (c .before .before .before .before .before .before .before .before .before .before .before .before .before .before .before)) (under-rows (c .before .before .before .before .before .before .before .before .before .before .before .before .before .before .before)) (c .before .before .before .substeps-in .result) (c .before .before .before .before .inward .result) (c .before .before .before .before .before .before .before .before .before .push .result)
+towards-setpoint : (c : tie.After-hold) → Towards binary64 (task (c .before .before .before .before .before .before .before .before .before .before .before .before .before .before .before)) (pushes (task (c .before .before .before .before .before .before .before .before .before .before .before .before .before .before .before))) (c .before .before .before .substeps-in .result) (c .before .before .before .before .inward .result) (c .before .before .before .before .before .before .before .before .before .push .result)
 towards-setpoint c e j b =
     let s = c .before .before .before .before .before .before .before .before .before .before .before .before .before .before .before in
-    aims-setpoint binary64 (task s) (under-rows s + j) (omega arith)
-    ∙ ap (λ (q : State). inward (wallsOf (s .args .w)) (q .p) (s .args .c .live)) (sym (stands-at (forecast binary64 (task s)) (after binary64 (task s)) (now (s .args .slack)) (under-rows s) (c .before .before .before .before .before .before .before .before .before .push .result) (c .before .before .before .before .before .before .before .before .before .push .last .1 .1 .1 .1 .1 .0) (along-rows (c .before .before .before .before .before .before .before .before .before)) e))
+    aims-setpoint binary64 (task s) (pushes (task s) + j) (omega arith)
+    ∙ ap (λ (q : State). inward (wallsOf (s .args .w)) (q .p) (s .args .c .live)) (sym (stands-at (forecast binary64 (task s)) (after binary64 (task s)) (now (s .args .slack)) (pushes (task s)) (c .before .before .before .before .before .before .before .before .before .push .result) (c .before .before .before .before .before .before .before .before .before .push .last .1 .1 .1 .1 .1 .0) (along-rows (c .before .before .before .before .before .before .before .before .before)) e))
     ∙ sym (c .before .before .before .before .inward .ensures)
 
 along-whole : (c : tie.After-hold) → Along binary64 (task (c .before .before .before .before .before .before .before .before .before .before .before .before .before .before .before)) (now (c .before .before .before .before .before .before .before .before .before .before .before .before .before .before .before .args .slack)) (total (task (c .before .before .before .before .before .before .before .before .before .before .before .before .before .before .before))) (c .hold .result) (c .hold .last .1 .1 .1 .1 .1 .1 .0)
 along-whole c =
     let s = c .before .before .before .before .before .before .before .before .before .before .before .before .before .before .before in
-    along-at (forecast binary64 (task s)) (after binary64 (task s)) (now (s .args .slack)) (total (task s)) (c .hold .result) (c .hold .last .1 .1 .1 .1 .1 .1 .0) (under-rows s + c .before .before .before .substeps-in .result)
-    (ap (λ (n : ℕ). under-rows s + n) (c .before .before .before .substeps-in .ensures) ∙ whole s)
-    (c .hold .ensures .1 (task s) (now (s .args .slack)) (under-rows s) (record { gains = refl; walls = refl; live = refl }) (along-rows (c .before .before .before .before .before .before .before .before .before)) (towards-setpoint c))
+    along-at (forecast binary64 (task s)) (after binary64 (task s)) (now (s .args .slack)) (total (task s)) (c .hold .result) (c .hold .last .1 .1 .1 .1 .1 .1 .0) (pushes (task s) + c .before .before .before .substeps-in .result)
+    (ap (λ (n : ℕ). pushes (task s) + n) (c .before .before .before .substeps-in .ensures) ∙ whole s)
+    (c .hold .ensures .1 (task s) (now (s .args .slack)) (pushes (task s)) (record { gains = refl; walls = refl; live = refl }) (along-rows (c .before .before .before .before .before .before .before .before .before)) (towards-setpoint c))
 
 returns-2 : tie.Need-returns-2
 returns-2 c =

@@ -3,7 +3,7 @@ use native.Mathlib.Omega.{arith}
 use borrow.Author.Needs.{needs}
 use Rattle.fmath.specs.Each.{every}
 use Rattle.chunk.proofs.Rows.{place-small}
-use Rattle.rollout.specs.Of.{roomy}
+use Rattle.rollout.specs.Of.{shaped, roomy}
 use Rattle.rollout.proofs.roomy.Statement.{statement}
 use Rattle.rollout.proofs.roomy.Tie as tie
 
@@ -26,11 +26,9 @@ cast-result : tie.Need-cast-result
 cast-result c = search needs
 
 returns : tie.Need-returns
-unfolding roomy every
+unfolding shaped roomy every
 returns c =
-    let s = c .before .before .before .before .before .before .before .before .before in
-    let e = c .before .before .before .before .before .before .before .substeps-in .ensures in
-    rw (e, c .before .before .before .before .before .before .before .before .rows-left .ensures)
+    rw (c .before .before .before .before .before .before .before .substeps-in .ensures, c .before .before .before .before .before .before .before .before .rows-left .ensures)
 
 pub roomy-spec : {M : Type 1} → statement M
 roomy-spec = tie.close (tie.spec rows-left-requires substeps-in-requires cast-shape cast-shape-2 mul-shape cast-result returns)

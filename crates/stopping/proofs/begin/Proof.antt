@@ -16,11 +16,14 @@ radius-requires c κs = search needs
 slack-within-requires : tie.Need-slack-within-requires
 slack-within-requires c κs = search needs
 
+halted-requires : tie.Need-halted-requires
+halted-requires c κs = search needs
+
 returns : tie.Need-returns
 unfolding ofBits div
 returns c =
-    let s = c .before .before .before .before .before .before .before .before .before .before in
-    (omega arith, λ react rows g w. start-fails binary64 (taskOf (s .args .arm) react (s .args .w) (s .args .c) (s .args .start) rows) (now (s .args .slack)) (s .args .start) refl (s .args .g) g (s .args .wait) w (c .before .before .before .before .before .before .radius .result) (c .before .before .before .before .before .before .radius .ensures) (c .before .before .before .before .before .slack-within .result) (c .before .before .before .before .before .slack-within .ensures) (not-true _ (c .if1 .taken)))
+    let s = c .before .before .before .before .before .before .before .before .before .before .before in
+    rw (c .halted .ensures) (omega arith, λ react rows g w. start-fails binary64 (taskOf (s .args .arm) react (s .args .w) (s .args .c) (s .args .start) rows) (now (s .args .slack)) (s .args .start) refl (s .args .g) g (s .args .wait) w (c .before .before .before .before .before .before .before .radius .result) (c .before .before .before .before .before .before .before .radius .ensures) (c .before .before .before .before .before .before .slack-within .result) (c .before .before .before .before .before .before .slack-within .ensures) (not-true _ (c .before .if1 .taken)))
 
 slice-write-slack : tie.Need-slice-write-slack
 slice-write-slack c = search needs
@@ -43,6 +46,7 @@ begin-spec =
     (tie.spec
     radius-requires
     slack-within-requires
+    halted-requires
     returns
     slice-write-slack
     min-requires

@@ -9,7 +9,9 @@ use lib.ListN.{length}
 use lib.Ieee.{Float, binary64}
 use Rattle.chunk.proofs.Rows.{row-long}
 use Rattle.rollout.specs.declared.Plant.{Plant}
+use Rattle.rollout.specs.Of.{leftOf}
 use Rattle.rollout.proofs.Along.{along-at}
+use Rattle.rollout.proofs.Room.{shape-of}
 use Rattle.stopping.specs.Rule.{stand, forecast}
 use Rattle.stopping.specs.Of.{taskOf, Along, Under}
 use Rattle.stopping.proofs.follow.Statement.{statement}
@@ -18,7 +20,7 @@ use Rattle.stopping.proofs.follow.Tie as tie
 abbrev Inv-loop : tie.InvT-loop
 Inv-loop arm w c g wait rows slack₀ left r₀ i₀ slack r i =
     (i ≤ left)
-    × ((left ≡ c .commit .0 - c .from)
+    × ((left ≡ leftOf c .0)
     × ((length slack ≡ length slack₀)
     × ((r .done ≤ r₀ .done + i)
     × ((react : ℕ) (s : Plant) (l : List Float) → Under binary64 (taskOf arm react w c s rows) g wait → Along binary64 (taskOf arm react w c s rows) l 1 r₀ slack₀ → Along binary64 (taskOf arm react w c s rows) l (suc i) r slack))))
@@ -45,9 +47,10 @@ row-requires : tie.Need-row-requires Inv-loop μ-loop
 row-requires c κs =
     let s = c .before .before .before .before .before .before .before .before .before in
     let i = c .before .before .before .before .loop in
+    let q = shape-of _ _ (s .pre .0) in
     let long : length (now (c .before .action .result)) ≡ s .args .c .dim =
-    ap length (c .before .action .ensures) ∙ row-long (now (s .args .rows)) (s .args .c .horizon) (s .args .c .dim) (s .args .c .from + i .i) (s .pre .2) (s .pre .3) in
-    (s .pre .0, omega (arith, long, s .pre .1), omega (arith, i .inv .1 .1 .1 .0, i .inv .1 .0, i .inv .1 .1 .0, c .before .before .before .loop-test .taken, s .pre .4))
+    ap length (c .before .action .ensures) ∙ row-long (now (s .args .rows)) (s .args .c .horizon) (s .args .c .dim) (s .args .c .from + i .i) (q .rowed) (q .there) in
+    (q .axes, omega (arith, long, q .within), omega (arith, i .inv .1 .1 .1 .0, i .inv .1 .0, i .inv .1 .1 .0, c .before .before .before .loop-test .taken, s .pre .1))
 
 add-i : tie.Need-add-i Inv-loop μ-loop
 add-i c = omega arith
@@ -83,8 +86,8 @@ returns : tie.Need-returns Inv-loop μ-loop
 returns c =
     let s = c .before .before .before .before .before .before in
     let i = c .before .loop in
-    let e : i .i ≡ s .args .c .commit .0 - s .args .c .from = omega (arith, i .inv .1 .0) in
-    (omega (arith, i .inv .1 .1 .1 .0, e), λ react q l u h. let t = taskOf (s .args .arm) react (s .args .w) (s .args .c) q (now (s .args .rows)) in along-at (forecast binary64 t) (stand binary64 t) l (suc (s .args .c .commit .0 - s .args .c .from)) _ _ (suc (i .i)) (ap suc e) (i .inv .1 .1 .1 .1 react q l u h))
+    let e : i .i ≡ leftOf (s .args .c) .0 = omega (arith, i .inv .1 .0) in
+    (omega (arith, i .inv .1 .1 .1 .0, e), λ react q l u h. let t = taskOf (s .args .arm) react (s .args .w) (s .args .c) q (now (s .args .rows)) in along-at (forecast binary64 t) (stand binary64 t) l (suc (leftOf (s .args .c) .0)) _ _ (suc (i .i)) (ap suc e) (i .inv .1 .1 .1 .1 react q l u h))
 
 pub follow-spec : {M : Type 1} → statement M
 follow-spec =

@@ -3,6 +3,7 @@ use native.Mathlib.Omega.{arith}
 use borrow.Author.Needs.{needs}
 use Rattle.fmath.specs.Each.{every}
 use Rattle.chunk.proofs.Rows.{place-small}
+use Rattle.rollout.specs.Of.{shaped}
 use Rattle.stopping.specs.Of.{roomy}
 use Rattle.stopping.proofs.roomy.Statement.{statement}
 use Rattle.stopping.proofs.roomy.Tie as tie
@@ -26,7 +27,7 @@ cast-result : tie.Need-cast-result
 cast-result c = search needs
 
 returns : tie.Need-returns
-unfolding roomy every
+unfolding shaped roomy every
 returns c = rw (c .before .before .before .before .before .before .before .rows-left .ensures)
 
 pub roomy-spec : {M : Type 1} → statement M

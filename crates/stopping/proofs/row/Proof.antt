@@ -35,15 +35,18 @@ slack-within-requires c κs = search needs
 step-requires : tie.Need-step-requires
 step-requires c κs = search needs
 
+halted-requires : tie.Need-halted-requires
+halted-requires c κs = search needs
+
 returns-2 : tie.Need-returns-2
-returns-2 c = (
+returns-2 c = rw (c .halted .ensures) (
   omega arith,
   λ react q rows l k u h go.
-      let s = c .before .before .before .before .before .before .before .before .before .before .before .before .before .before .before in
-      let live = not-false _ (c .before .before .before .before .before .before .before .before .before .before .before .if1 .left) in
+      let s = c .before .before .before .before .before .before .before .before .before .before .before .before .before .before .before .before in
+      let live = not-false _ (c .before .before .before .before .before .before .before .before .before .before .before .before .if1 .left) in
       turn-fails binary64 (taskOf (s .args .arm) react (s .args .w) (s .args .c) q rows) l k (s .args .run) (now (s .args .slack)) h live (s .args .g) (s .args .wait) u (now (s .args .a)) (go live) (axes s)
-      (c .before .before .before .before .before .before .before .before .command .result) (c .before .before .before .before .before .before .before .before .command .ensures) (c .before .before .before .before .before .before .before .radius .result) (c .before .before .before .before .before .before .before .radius .ensures) (c .before .before .before .before .before .before .slack-within .result) (c .before .before .before .before .before .before .slack-within .ensures) (c .before .before .before .before .before .step .result) (c .before .before .before .before .before .step .ensures)
-      (not-true _ (c .if2 .taken)),
+      (c .before .before .before .before .before .before .before .before .before .command .result) (c .before .before .before .before .before .before .before .before .before .command .ensures) (c .before .before .before .before .before .before .before .before .radius .result) (c .before .before .before .before .before .before .before .before .radius .ensures) (c .before .before .before .before .before .before .before .slack-within .result) (c .before .before .before .before .before .before .before .slack-within .ensures) (c .before .before .before .before .before .before .step .result) (c .before .before .before .before .before .before .step .ensures)
+      (not-true _ (c .before .if2 .taken)),
 )
 
 mul-slack : tie.Need-mul-slack
@@ -81,6 +84,7 @@ row-spec =
     radius-requires
     slack-within-requires
     step-requires
+    halted-requires
     returns-2
     mul-slack
     slice-write-slack

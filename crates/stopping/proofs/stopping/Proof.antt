@@ -1,5 +1,5 @@
 -- `stopping::stopping` meets its contract: the start, then the committed rows, come along all the entries (`Along`).
-use Prim.Native.Nat.{suc, _-_}
+use Prim.Native.Nat.{suc, _<_}
 use mathlib.Core.Path.{_≡_, refl, sym, ap, _∙_}
 use mathlib.Core.Bool.{true}
 use native.Mathlib.Omega.{arith}
@@ -12,22 +12,26 @@ use Rattle.rollout.proofs.Along.{run-is, written-is}
 use Rattle.rollout.specs.declared.Reckoned.{Reckoned}
 use Rattle.stopping.specs.Rule.{Task, stand, reaction, gain, forecast}
 use Rattle.stopping.specs.Of.{taskOf, Along, roomy}
-use Rattle.rollout.specs.Of.{reckonedFrom}
-use Rattle.stopping.proofs.Room.{Room, room-of}
+use Rattle.rollout.specs.Of.{reckonedFrom, leftOf, shaped}
+use Rattle.rollout.proofs.Room.{shape-of}
+use Rattle.stopping.proofs.Room.{room-of}
 use Rattle.stopping.proofs.stopping.Statement.{statement}
 use Rattle.stopping.proofs.stopping.Tie as tie
 
 roomy-requires : tie.Need-roomy-requires
 roomy-requires c κs = search needs
 
+halted-requires : tie.Need-halted-requires
+halted-requires c κs = search needs
+
 returns : tie.Need-returns
 unfolding ofBits div
-returns c = rw (sym (c .before .roomy .ensures) ∙ not-true _ (c .if1 .taken)) (refl, refl)
+returns c = rw (c .halted .ensures, sym (c .before .before .roomy .ensures) ∙ not-true _ (c .before .if1 .taken)) (refl, refl)
 
 has-room : (c : tie.Else1) → roomy (c .before .before .before .before .args .c) (length (now (c .before .before .before .before .args .rows))) (length (now (c .before .before .before .before .args .slack))) ≡ true
 has-room c = sym (c .before .roomy .ensures) ∙ not-false _ (c .if1 .left)
 
-room : (c : tie.Else1) → Room (c .before .before .before .before .args .c) (length (now (c .before .before .before .before .args .rows))) (length (now (c .before .before .before .before .args .slack)))
+room : (c : tie.Else1) → (shaped (c .before .before .before .before .args .c) (length (now (c .before .before .before .before .args .rows))) ≡ true) × (leftOf (c .before .before .before .before .args .c) .0 < length (now (c .before .before .before .before .args .slack)))
 room c = room-of _ _ _ (has-room c)
 
 ratio-requires : tie.Need-ratio-requires
@@ -37,13 +41,13 @@ reaction-requires : tie.Need-reaction-requires
 reaction-requires c κs = search needs
 
 begin-requires : tie.Need-begin-requires
-begin-requires c κs = let r = room (c .before .before .before) in (r .axes, omega (arith, r .space))
+begin-requires c κs = let r = room (c .before .before .before) in (shape-of _ _ (r .0) .axes, omega (arith, r .1))
 
 follow-requires : tie.Need-follow-requires
 follow-requires c κs =
     let r = room (c .before .before .before .before .before .before .before) in
     let call = c .before .before .before .begin in
-    (r .axes, r .within, r .rowed, r .there, omega (arith, r .space, call .ensures .0, call .kept .1 .1 .1 .1 .1 .1 .0))
+    (r .0, omega (arith, r .1, call .ensures .0, call .kept .1 .1 .1 .1 .1 .1 .0))
 
 same-length : tie.Need-same-length
 same-length c = search needs
@@ -58,7 +62,7 @@ delay : (c : tie.After-follow) → reckonedFrom (reaction binary64 (task (c .bef
 unfolding reaction
 delay c = sym (c .before .before .before .before .before .before .reaction .ensures)
 
-along-whole : (c : tie.After-follow) → Along binary64 (task (c .before .before .before .before .before .before .before .before .before .before .before .before)) (now (c .before .before .before .before .before .before .before .before .before .before .before .before .args .slack)) (suc (c .before .before .before .before .before .before .before .before .before .before .before .before .args .c .commit .0 - c .before .before .before .before .before .before .before .before .before .before .before .before .args .c .from)) (c .follow .result) (c .follow .last .1 .1 .1 .1 .1 .1 .1 .0)
+along-whole : (c : tie.After-follow) → Along binary64 (task (c .before .before .before .before .before .before .before .before .before .before .before .before)) (now (c .before .before .before .before .before .before .before .before .before .before .before .before .args .slack)) (suc (leftOf (c .before .before .before .before .before .before .before .before .before .before .before .before .args .c) .0)) (c .follow .result) (c .follow .last .1 .1 .1 .1 .1 .1 .1 .0)
 along-whole c =
     let s = c .before .before .before .before .before .before .before .before .before .before .before .before in
     c .follow .ensures .1 (s .args .react) (s .args .start) (now (s .args .slack))
@@ -76,6 +80,7 @@ stopping-spec =
     tie.close
     (tie.spec
     roomy-requires
+    halted-requires
     returns
     ratio-requires
     reaction-requires
