@@ -4,7 +4,6 @@ ghost use mathlib.Core.List.{List};
 ghost use Prim.Native.Nat.{_*_, _≤_, _<_};
 ghost use lib.ListN.{length};
 ghost use lib.Ieee.{Float, binary64};
-ghost use Rattle.fmath.specs.Each.{at, over};
 ghost use Rattle.envelope.specs.Whole.{whole};
 ghost use Rattle.tier0.specs.Rule.{checkAction};
 ghost use Rattle.tier0.specs.Chunk.{checkChunk};
@@ -15,7 +14,6 @@ use crate::measure::raw_row;
 use crate::measure::start_row;
 use crate::projected::projected_rows;
 use crate::projected::projection;
-use crate::projected::write_rows;
 use crate::refusals::action_refusal;
 use crate::refusals::chunk_refusal;
 use crate::trips::out_of_box;
@@ -188,18 +186,6 @@ fn judge_action(s: Checks, pos: &[f64], aux: &[f64], prev: &[f64], a: &[f64]) ->
     }
 }
 
-// The first n numbers of a row, written over a slice; the rest stays.
-fn write_row(r: [f64; 8], n: usize, out: &mut [f64])
-    requires { ⌜ (n ≤ 8) × (n ≤ length (now out)) ⌝ }
-    ensures { λ _. ⌜ now (out .exit) ≡ over (at r) (now (out .entry)) n ⌝ }
-{
-    let mut i = 0;
-    while i < n {
-        out[i] = r[i];
-        i += 1;
-    }
-}
-
 // `check_action` of settings and lent tables.
 pub fn check_action_with<'a>(
     c: Settings,
@@ -223,7 +209,7 @@ pub fn check_action_with<'a>(
         return Check::Refused(Refusal::of(Refusal::COMPUTED));
     }
     let at = v.at;
-    write_row(at, c.dim, out);
+    fmath::put(&at, c.dim, out);
     Check::Passed {
         trips: v.trips,
         clamped_dims: v.mask,
@@ -326,7 +312,7 @@ pub fn check_chunk_with<'a>(
     if !v.sound {
         return Check::Refused(Refusal::of(Refusal::COMPUTED));
     }
-    write_rows(&all, h * c.dim, out);
+    fmath::put(&all, h * c.dim, out);
     Check::Passed {
         trips: v.trips,
         clamped_dims: v.mask,
