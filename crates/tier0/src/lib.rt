@@ -19,8 +19,7 @@ use crate::refusals::chunk_refusal;
 use crate::trips::out_of_box;
 use crate::trips::out_of_reach;
 use crate::trips::step_rows;
-use crate::trips::too_bent;
-use crate::trips::too_jolted;
+use crate::trips::too_large;
 use crate::trips::trip_bits;
 use crate::zone::slow_zone;
 use envelope::ClampMode;
@@ -77,6 +76,12 @@ pub struct SlowZone {
 pub struct Row {
     pub at: [f64; 8],
     pub sound: bool,
+}
+
+// The differences of rows that have a limit.
+pub enum Difference {
+    Accel,
+    Jerk,
 }
 
 // Whether a limit is exceeded.
@@ -252,8 +257,8 @@ fn judge_chunk(
     let t = step_rows(s, z.step, q, rows, h);
     let peak = t.peak * s.inv_dt;
     let fine = fmath::finite(peak);
-    let bent = too_bent(s, q, rows, h);
-    let jolted = too_jolted(s, q, rows, h);
+    let bent = too_large(s, Difference::Accel, q, rows, h);
+    let jolted = too_large(s, Difference::Jerk, q, rows, h);
     let first = raw_row(rows, s.dim, 0);
     let far = out_of_reach(s, pos, &first);
     let speed = armed(s, TripMask::SPEED);
