@@ -5,6 +5,7 @@ ghost use Prim.Native.Nat.{_*_, _≤_, _<_};
 ghost use lib.ListN.{length};
 ghost use lib.Ieee.{Float, binary64};
 ghost use Rattle.envelope.specs.Whole.{whole};
+ghost use Rattle.tier0.specs.declared.Check.the-variants.{Passed};
 ghost use Rattle.tier0.specs.Rule.{checkAction};
 ghost use Rattle.tier0.specs.Chunk.{checkChunk};
 ghost use Rattle.tier0.specs.Of.{checksOf, verdictFrom, rulingFrom, actionAnswer, actionOut, chunkAnswer, chunkOut};
@@ -157,6 +158,17 @@ fn checks_of(c: Settings) -> Checks
     }
 }
 
+// The answer where nothing is refused.
+fn found(trips: u32, clamped_dims: u32, peak_speed: f64) -> Check
+    ensures { λ r. ⌜ r ≡ Passed trips «clamped_dims» «peak_speed» ⌝ }
+{
+    Check::Passed {
+        trips,
+        clamped_dims,
+        peak_speed,
+    }
+}
+
 // ---- the check of one action
 
 // Trips on the action as it came, its speed, and its projection.
@@ -215,11 +227,7 @@ pub fn check_action_with<'a>(
     }
     let at = v.at;
     fmath::put(&at, c.dim, out);
-    Check::Passed {
-        trips: v.trips,
-        clamped_dims: v.mask,
-        peak_speed: v.peak,
-    }
+    found(v.trips, v.mask, v.peak)
 }
 
 // The check of the action a against its predecessor: which limits it exceeds, its speed, and, in out, its projection; the
@@ -318,11 +326,7 @@ pub fn check_chunk_with<'a>(
         return Check::Refused(Refusal::of(Refusal::COMPUTED));
     }
     fmath::put(&all, h * c.dim, out);
-    Check::Passed {
-        trips: v.trips,
-        clamped_dims: v.mask,
-        peak_speed: v.peak,
-    }
+    found(v.trips, v.mask, v.peak)
 }
 
 // The check of a chunk of rows: which limits they exceed, the greatest speed, and, in out, the projected rows; the rest of

@@ -202,6 +202,7 @@ fn further(d: Difference) -> usize
     }
 }
 
+// The trip bit of a difference.
 fn trip_of(d: Difference) -> u32
     ensures { λ r. ⌜ r ≡ tripOf d ⌝ }
 {

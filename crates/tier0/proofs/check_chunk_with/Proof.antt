@@ -45,12 +45,15 @@ mul-put c = let g = c .before .before .before .before .before .before .before .b
 put-requires : tie.Need-put-requires
 put-requires c κs = search needs
 
+found-requires : tie.Need-found-requires
+found-requires c κs = search needs
+
 same-length : tie.Need-same-length
 same-length c = search needs
 
 returns-3 : tie.Need-returns-3
 unfolding ofBits
-returns-3 c = let g = c .before .before .before .before .before .before .before .before .before .before .before .before .before .before .before .before .before .before .args in let w = passes (whole (g .c) (now (g .center)) (now (g .scale))) (now (g .pos)) (now (g .aux)) (now (g .rows)) (g .horizon) (g .dim) (g .exec-steps) (now (g .out)) (sym (c .before .before .before .before .before .before .before .before .before .before .before .before .before .chunk-refusal .ensures) ∙ c .before .before .before .before .before .before .before .before .before .before .before .before .if1 .left) (c .before .before .before .before .before .before .before .before .before .before .before .checks-of .ensures _ _) refl (c .before .before .before .before .before .before .before .before .before .judge-chunk .ensures) (not-false _ (c .before .before .before .before .before .before .if2 .left)) (c .before .before .put .ensures) (le-of-eq (slice-aggregate-put (c .before .before .before .before .before))) in (w .gives, w .leaves)
+returns-3 c = let g = c .before .before .before .before .before .before .before .before .before .before .before .before .before .before .before .before .before .before .before .args in let w = passes (whole (g .c) (now (g .center)) (now (g .scale))) (now (g .pos)) (now (g .aux)) (now (g .rows)) (g .horizon) (g .dim) (g .exec-steps) (now (g .out)) (sym (c .before .before .before .before .before .before .before .before .before .before .before .before .before .before .chunk-refusal .ensures) ∙ c .before .before .before .before .before .before .before .before .before .before .before .before .before .if1 .left) (c .before .before .before .before .before .before .before .before .before .before .before .before .checks-of .ensures _ _) refl (c .before .before .before .before .before .before .before .before .before .before .judge-chunk .ensures) (not-false _ (c .before .before .before .before .before .before .before .if2 .left)) (c .before .before .before .put .ensures) (le-of-eq (slice-aggregate-put (c .before .before .before .before .before .before))) in (c .found .ensures ∙ w .gives, w .leaves)
 
 pub check-chunk-with-spec : {M : Type 1} → statement M
 check-chunk-with-spec =
@@ -67,5 +70,6 @@ check-chunk-with-spec =
     slice-aggregate-put
     mul-put
     put-requires
+    found-requires
     same-length
     returns-3)
