@@ -1,6 +1,7 @@
 // The configuration: 44 numbers, 26 counts and codes, and the calibration's two tables of 192.
 ghost use mathlib.Core.Path.{_≡_};
 ghost use Prim.Native.Nat.{_+_, _≤_};
+ghost use Rattle.envelope.specs.Whole.{whole};
 ghost use Rattle.layout.specs.Places.{part};
 ghost use Rattle.layout.specs.Config.{kindOf, clampOf, brakeKindOf, contactOf, limitsOf, brakeOf, zoneOf, normOf, wallsOf, gateOf, settingsOf, configOf, zoneFits, gateFits, countsFit, derivedFlat};
 use crate::places::to_u8;
@@ -197,6 +198,20 @@ pub fn settings_of(n: &[f64; 44], c: &[u64; 26]) -> Settings
     }
 }
 
+// The calibration of settings, its tables copied.
+fn calibration_of(s: Settings, center: &[f64; 192], scale: &[f64; 192]) -> Calibration
+    ensures { λ r. ⌜ r ≡ whole s (now (center .entry)) (now (scale .entry)) .calib ⌝ }
+{
+    let gate = s.gate;
+    Calibration {
+        center: *center,
+        scale: *scale,
+        mask: s.mask,
+        gate,
+        tau: s.tau,
+    }
+}
+
 // The configuration that the arrays stand for, its tables copied.
 pub fn config_of(
     n: &[f64; 44],
@@ -214,14 +229,7 @@ pub fn config_of(
     let contact = s.contact;
     let brake = s.brake;
     let clamp = s.clamp;
-    let gate = s.gate;
-    let calib = Calibration {
-        center: *center,
-        scale: *scale,
-        mask: s.mask,
-        gate,
-        tau: s.tau,
-    };
+    let calib = calibration_of(s, center, scale);
     FuseConfig {
         kind,
         dim: s.dim,

@@ -1,5 +1,4 @@
 // Module 7 for C: the stopping forecast, and the rows that brake and hold.
-ghost use mathlib.Core.Path.{_≡_};
 ghost use lib.ListN.{length};
 ghost use Rattle.layout.specs.Config.{configOf, countsFit};
 ghost use Rattle.brake.specs.Answer.{forecastAnswer, forecastSlacks, brakeAnswer, brakeOutput, holdAnswer, holdOutput};

@@ -1,5 +1,4 @@
 // Module 5 for C: the checks of an action and of a chunk.
-ghost use mathlib.Core.Path.{_≡_};
 ghost use lib.ListN.{length};
 ghost use Rattle.layout.specs.Config.{configOf, countsFit};
 ghost use Rattle.tier0.specs.Of.{actionAnswer, actionOut, chunkAnswer, chunkOut};

@@ -21,13 +21,12 @@ lent b start n {r} {v} ev er =
     sym (length-take-le r v (omega (arith, er, ap length ev ∙ numbers-length b start n)))
 
 -- .. and it is the record's list
-pub listed : (b : List ℕ) (start n : ℕ) {k r : ℕ} {v : List Float}
+pub listed : (b : List ℕ) (start n : ℕ) {r : ℕ} {v : List Float}
     → v ≡ numbers b (suc start) n
-    → k ≡ count b start
-    → r ≡ min k n
+    → r ≡ min (count b start) n
     → take r v ≡ list b start n
 unfolding list
-listed b start n ev ek er = rw (er, ek, ev)
+listed b start n ev er = rw (er, ev)
 
 -- .. or a chunk's rows
 pub rowed : (b : List ℕ) (start h d : ℕ) {r : ℕ} {v : List Float} → v ≡ numbers b start 32 → r ≡ min (h * d) 32 → take r v ≡ rowsAt b start h d
@@ -35,6 +34,6 @@ unfolding rowsAt
 rowed b start h d ev er = rw (er, ev)
 
 -- .. or an action
-pub acted : (b : List ℕ) (start : ℕ) {k r : ℕ} {v : List Float} → v ≡ numbers b start 8 → k ≡ count b 0 → r ≡ min k 8 → take r v ≡ actionAt b start
+pub acted : (b : List ℕ) (start : ℕ) {r : ℕ} {v : List Float} → v ≡ numbers b start 8 → r ≡ min (count b 0) 8 → take r v ≡ actionAt b start
 unfolding actionAt
-acted b start ev ek er = rw (er, ek, ev)
+acted b start ev er = rw (er, ev)

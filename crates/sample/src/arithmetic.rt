@@ -3,10 +3,10 @@ ghost use mathlib.Core.Path.{_≡_};
 ghost use Rattle.sample.specs.Arithmetic.{isNumber, sqrtAgrees, normAgrees, distAgrees, isBin, timeBinAgrees};
 use crate::record::count;
 use crate::record::long;
+use crate::record::many;
 use crate::record::num;
 use crate::record::same;
 use crate::record::ten;
-use crate::record::within;
 use conformal::TimeBin;
 use fmath::Number;
 
@@ -31,7 +31,7 @@ pub(crate) fn norm_agrees(b: &[u8]) -> bool
     ensures { λ r. ⌜ r ≡ normAgrees (now (b .entry)) ⌝ }
 {
     let v = ten(b, 2);
-    let n = within(count(b, 1), 10);
+    let n = many(b, 1, 10);
     let a = fmath::norm(&v[..n], count(b, 0) as usize);
     is_number(a, num(b, 12))
 }
@@ -41,8 +41,8 @@ pub(crate) fn dist_agrees(b: &[u8]) -> bool
 {
     let u = ten(b, 2);
     let v = ten(b, 13);
-    let m = within(count(b, 1), 10);
-    let n = within(count(b, 12), 10);
+    let m = many(b, 1, 10);
+    let n = many(b, 12, 10);
     let a = fmath::dist(&u[..m], &v[..n], count(b, 0) as usize);
     is_number(a, num(b, 23))
 }

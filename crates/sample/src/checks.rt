@@ -5,12 +5,12 @@ use crate::config::config;
 use crate::record::area;
 use crate::record::count;
 use crate::record::eight;
+use crate::record::many;
 use crate::record::num;
 use crate::record::same;
 use crate::record::same_from;
 use crate::record::short;
 use crate::record::thirty_two;
-use crate::record::within;
 use tier0::Check;
 
 // Whether an answer is these trips, clamped dims and peak speed.
@@ -32,12 +32,12 @@ pub(crate) fn check_action_agrees(b: &[u8]) -> bool
 {
     let c = config(b);
     let pos = eight(b, 58);
-    let p = within(count(b, 57), 8);
+    let p = many(b, 57, 8);
     let aux = eight(b, 67);
-    let x = within(count(b, 66), 8);
+    let x = many(b, 66, 8);
     let prev = eight(b, 75);
     let act = eight(b, 83);
-    let d = within(count(b, 0), 8);
+    let d = many(b, 0, 8);
     let mut out = [0.0; 8];
     let a = tier0::check_action(c, &pos[..p], &aux[..x], &prev[..d], &act[..d], &mut out);
     let found = is_check(a, count(b, 91), count(b, 92), num(b, 93));
@@ -50,9 +50,9 @@ pub(crate) fn check_chunk_agrees(b: &[u8]) -> bool
 {
     let c = config(b);
     let pos = eight(b, 58);
-    let p = within(count(b, 57), 8);
+    let p = many(b, 57, 8);
     let aux = eight(b, 67);
-    let x = within(count(b, 66), 8);
+    let x = many(b, 66, 8);
     let h = short(b, 76);
     let d = short(b, 0);
     let rows = thirty_two(b, 77);

@@ -7,10 +7,10 @@ use crate::record::area;
 use crate::record::count;
 use crate::record::eight;
 use crate::record::long;
+use crate::record::many;
 use crate::record::same_from;
 use crate::record::short;
 use crate::record::thirty_two;
-use crate::record::within;
 use chunk::ChunkBuf;
 use conformal::Scores;
 use tier1::Featured;
@@ -56,7 +56,7 @@ fn state(b: &[u8]) -> Tier1Rt
     ensures { λ r. ⌜ r ≡ stateAt (now (b .entry)) ⌝ }
 {
     let prev = kept(b);
-    let n = within(count(b, 57), 24);
+    let n = many(b, 57, 24);
     let trail = trail(b, n);
     let have_prev = count(b, 250) != 0;
     Tier1Rt {
@@ -114,9 +114,9 @@ pub(crate) fn features_agree(b: &[u8]) -> bool
     let c = config(b);
     let rt = state(b);
     let pos = eight(b, 287);
-    let p = within(count(b, 286), 8);
+    let p = many(b, 286, 8);
     let ext = eight(b, 296);
-    let e = within(count(b, 295), 8);
+    let e = many(b, 295, 8);
     let k = head(b);
     let rows = thirty_two(b, 306);
     let n = area(k.horizon, k.dim);

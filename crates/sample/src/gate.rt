@@ -1,12 +1,6 @@
 // Records of the gate: standardise, then aggregate, then trip, with one row of centres and scales for every time bin.
 ghost use mathlib.Core.Path.{_≡_};
-ghost use mathlib.Core.List.{[], _∷_};
-ghost use Prim.Native.Nat.{ℕ, _+_, _%_, _≤_};
-ghost use lib.ListN.{replicate};
-ghost use Rattle.fmath.specs.Each.{over};
-ghost use Rattle.fmath.specs.Finite.{+0};
-ghost use Rattle.layout.specs.Places.{in32};
-ghost use Rattle.sample.specs.Record.{count, num};
+ghost use Prim.Native.Nat.{_+_, _≤_};
 ghost use Rattle.sample.specs.Gate.{tableAt, gateAt, calibrationAt, scoresAt, isTrip, scoredAs, gateAgrees};
 use crate::record::count;
 use crate::record::long;

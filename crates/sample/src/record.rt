@@ -92,10 +92,18 @@ pub(crate) fn short(b: &[u8], i: usize) -> u16
 }
 
 // A count, no more than there is room for.
-pub(crate) fn within(n: u64, room: usize) -> usize
+fn within(n: u64, room: usize) -> usize
     ensures { λ r. ⌜ (r ≡ min n room) × (r ≤ room) ⌝ }
 {
     if n < room as u64 { n as usize } else { room }
+}
+
+// Word i as the length of a list, likewise.
+pub(crate) fn many(b: &[u8], i: usize, room: usize) -> usize
+    requires { ⌜ i < 512 ⌝ }
+    ensures { λ r. ⌜ (r ≡ min (count (now (b .entry)) i) room) × (r ≤ room) ⌝ }
+{
+    within(count(b, i), room)
 }
 
 // How many numbers h rows of d have, no more than there is room for in a record.

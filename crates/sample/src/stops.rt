@@ -5,12 +5,12 @@ use crate::config::config;
 use crate::record::area;
 use crate::record::count;
 use crate::record::eight;
+use crate::record::many;
 use crate::record::num;
 use crate::record::same;
 use crate::record::same_from;
 use crate::record::short;
 use crate::record::thirty_two;
-use crate::record::within;
 use brake::BrakeOut;
 use brake::Sent;
 
@@ -39,9 +39,9 @@ pub(crate) fn forecast_agrees(b: &[u8]) -> bool
 {
     let c = config(b);
     let pos = eight(b, 58);
-    let p = within(count(b, 57), 8);
+    let p = many(b, 57, 8);
     let vel = eight(b, 67);
-    let v = within(count(b, 66), 8);
+    let v = many(b, 66, 8);
     let h = short(b, 76);
     let d = short(b, 0);
     let rows = thirty_two(b, 77);
@@ -79,9 +79,9 @@ pub(crate) fn rows_agree(b: &[u8]) -> bool
 {
     let c = config(b);
     let pos = eight(b, 58);
-    let p = within(count(b, 57), 8);
+    let p = many(b, 57, 8);
     let vel = eight(b, 67);
-    let v = within(count(b, 66), 8);
+    let v = many(b, 66, 8);
     let mut brake = [0.0; 8];
     let mut hold = [0.0; 8];
     let x = brake::brake_action(c, &pos[..p], &vel[..v], &mut brake);

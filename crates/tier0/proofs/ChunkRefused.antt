@@ -1,8 +1,9 @@
 -- The number of a chunk's refusal, case by case; what is known where nothing is refused; and the whole answer in each case.
-use Prim.Native.Nat.{ℕ, _*_, _≤_, _<_}
+use Prim.Native.Nat.{ℕ, _*_, _≤_, _<_, min}
 use mathlib.Core.Path.{_≡_, sym, ap, _∙_}
 use mathlib.Core.Bool.{Bool, true, false, not}
 use mathlib.Core.List.{List, [], _∷_, _++_}
+use native.Mathlib.Nat.{le-trans}
 use native.Mathlib.Omega.{arith}
 use borrow.Author.Tests.{ltb-false, eqb-true, eq-eqb, ne-eqb, not-false}
 use lib.Dec.{ltb, eqb}
@@ -13,6 +14,7 @@ use Rattle.refusal.specs.Chain.{first-refuses, first-passes, both-pass, passes-
 use Rattle.refusal.specs.declared.Refusal.{Refusal}
 use Rattle.fmath.specs.Each.{at, over}
 use Rattle.fmath.specs.Finite.{+0}
+use Rattle.fmath.proofs.Copy.{all-put}
 use Rattle.chunk.specs.Refusals.{chunkReasons}
 use Rattle.chunk.proofs.Judged.{Accepted, sizes-accepted, accepted-fits}
 use Rattle.envelope.specs.Refusals.{configJudged}
@@ -151,6 +153,9 @@ module _ (c : FuseConfig) (p aux rows : List Float) (h d e : ℕ) where
       pub not-sound : v .sound ≡ false → {r : Refusal} → r ≡ refusedFor 13 → Answered c p aux rows h d e l (Refused r) l
       not-sound y = numbered 13 (sym (known false y)) (λ z. omega arith)
 
-      pub passes : v .sound ≡ true → {o : List Float} → o ≡ over (at z) l (h * c .dim) → Answered c p aux rows h d e l (Passed (v .trips) (v .mask) (v .peak)) o
+      pub passes : v .sound ≡ true → {o : List Float} {k : ℕ} → o ≡ over (at z) l (min (h * c .dim) (min k (length l))) → 512 ≤ k → Answered c p aux rows h d e l (Passed (v .trips) (v .mask) (v .peak)) o
       unfolding chunkAnswer chunkOut
-      passes y i = record { gives = rw (known true y, ruled); leaves = i ∙ rw (known true y, ruled-rows) }
+      passes y i b =
+          let w = accepted-sizes (length l) g in
+          let whole-rows = all-put l z (le-trans (w .small) b) (w .out) i in
+          record { gives = rw (known true y, ruled); leaves = whole-rows ∙ rw (known true y, ruled-rows) }

@@ -25,8 +25,9 @@ use Rattle.envelope.specs.declared.ClampMode.the-variants.{Off, Project}
 use Rattle.envelope.specs.declared.Contact.{Contact}
 use Rattle.envelope.specs.declared.Contact.the-variants.{None, Zone}
 use Rattle.tier0.specs.declared.Checks.{Checks}
+use Rattle.tier0.specs.declared.Difference.the-variants.{Accel, Jerk}
 use Rattle.tier0.specs.Rule.{WORKSPACE, SPEED, ACCEL, JERK, REACH, CONTACT, arms, shared, Slow, clear, seen, inZone, zoneIn, slowZone, outOfBox, outOfReach, tripBits, leash, boxed, leashed, reached, moves, held, moved, project, projection, checkAction}
-use Rattle.tier0.specs.Chunk.{startRow, stepTo, someLonger, someOutOfBox, tooBent, tooJolted, rawRow, exceeds, putRow, nextRow, runRows, projectedRows, checkChunk}
+use Rattle.tier0.specs.Chunk.{startRow, stepTo, someLonger, someOutOfBox, tooLarge, rawRow, exceeds, putRow, nextRow, runRows, projectedRows, checkChunk}
 use Rattle.tier0.proofs.Rows.{row-fits}
 
 -- ---- the bits
@@ -75,11 +76,11 @@ module _ (f : Format) (s : Checks) (p aux rows l : List Float) (h : ℕ) where
   unfolding checkChunk
   chunk-speed-exactly = bits _ _ _ _ _ _ .1
 
-  pub chunk-accel-exactly : raised ACCEL chunkTrips ≡ tooBent f s q rows h .value
+  pub chunk-accel-exactly : raised ACCEL chunkTrips ≡ tooLarge f s Accel q rows h .value
   unfolding checkChunk
   chunk-accel-exactly = bits _ _ _ _ _ _ .2
 
-  pub chunk-jerk-exactly : raised JERK chunkTrips ≡ tooJolted f s q rows h .value
+  pub chunk-jerk-exactly : raised JERK chunkTrips ≡ tooLarge f s Jerk q rows h .value
   unfolding checkChunk
   chunk-jerk-exactly = bits _ _ _ _ _ _ .3
 

@@ -1,8 +1,9 @@
 -- The number of a refusal, case by case; what is known where nothing is refused; and the whole answer in each case.
-use Prim.Native.Nat.{ℕ, zero, suc, _≤_, _<_}
+use Prim.Native.Nat.{ℕ, zero, suc, _≤_, _<_, min}
 use mathlib.Core.Path.{_≡_, refl, sym, ap, _∙_}
 use mathlib.Core.Bool.{Bool, true, false, not, _&&_, _||_}
 use mathlib.Core.List.{List, [], _∷_, _++_}
+use native.Mathlib.Nat.{le-trans}
 use native.Mathlib.Omega.{arith}
 use borrow.Author.Tests.{ltb-true, ltb-false}
 use lib.Dec.{leb, ltb}
@@ -12,6 +13,7 @@ use Rattle.refusal.specs.Order.{Judged, short, notFinite, computed, _when_, ref
 use Rattle.refusal.specs.Chain.{first-refuses, first-passes, both-pass, passes-at}
 use Rattle.refusal.specs.declared.Refusal.{Refusal}
 use Rattle.fmath.specs.Each.{at, over}
+use Rattle.fmath.proofs.Copy.{all-put}
 use Rattle.fmath.proofs.Each.{and-left, and-right}
 use Rattle.envelope.specs.Refusals.{configJudged}
 use Rattle.envelope.specs.declared.FuseConfig.{FuseConfig}
@@ -144,6 +146,9 @@ module _ (c : FuseConfig) (p aux prev a : List Float) where
       pub not-sound : v .sound ≡ false → {r : Refusal} → r ≡ refusedFor 13 → Answered c p aux prev a l (Refused r) l
       not-sound h = numbered 13 (sym (known false h)) (λ z. omega arith)
 
-      pub passes : v .sound ≡ true → {m : List Float} → m ≡ over (at (v .at)) l (c .dim) → Answered c p aux prev a l (Passed (v .trips) (v .mask) (v .peak)) m
+      pub passes : v .sound ≡ true → {m : List Float} {k : ℕ} → m ≡ over (at (v .at)) l (min (c .dim) (min k (length l))) → 8 ≤ k → Answered c p aux prev a l (Passed (v .trips) (v .mask) (v .peak)) m
       unfolding actionAnswer actionOut
-      passes h g = record { gives = rw (known true h, ruled); leaves = g ∙ rw (known true h, ruled) }
+      passes h g b =
+          let w = accepted-sizes (length l) e in
+          let whole-row = all-put l (v .at) (le-trans (w .narrow) b) (w .out) g in
+          record { gives = rw (known true h, ruled); leaves = whole-row ∙ rw (known true h, ruled) }

@@ -24,14 +24,16 @@ use Rattle.fmath.proofs.Told.{Tells, implied, dist-tells, norm-tells}
 use Rattle.envelope.specs.declared.ClampMode.{ClampMode}
 use Rattle.envelope.specs.declared.ClampMode.the-variants as M
 use Rattle.tier0.specs.declared.Checks.{Checks}
+use Rattle.tier0.specs.declared.Difference.{Difference}
+use Rattle.tier0.specs.declared.Difference.the-variants as D
 use Rattle.tier0.specs.declared.SlowZone.{SlowZone}
 use Rattle.tier0.specs.declared.Ruling.{Ruling}
 use Rattle.tier0.specs.declared.Row.{Row}
 use Rattle.tier0.specs.declared.Test.{Test}
 use Rattle.tier0.specs.declared.Stride.{Stride}
 use Rattle.tier0.specs.declared.Ran.{Ran}
-use Rattle.tier0.specs.Rule.{Slow, SPEED, ACCEL, JERK, arms, slowZone, outOfBox, outOfReach, tripBits, moves, moved, Projected}
-use Rattle.tier0.specs.Chunk.{rawRow, startRow, rowBefore, stepTo, peakStep, someLonger, someOutOfBox, someOf, bend, jolt, bends, jolts, exceeds, bentAt, tooBent, joltedAt, tooJolted, putRow, Run, nextRow, runRows, projectedRows, checkChunk}
+use Rattle.tier0.specs.Rule.{Slow, SPEED, arms, slowZone, outOfBox, outOfReach, tripBits, moves, moved, Projected}
+use Rattle.tier0.specs.Chunk.{rawRow, startRow, rowBefore, stepTo, peakStep, someLonger, someOutOfBox, someOf, bend, jolt, bends, jolts, exceeds, largeAt, further, tripOf, tooLarge, putRow, Run, nextRow, runRows, projectedRows, checkChunk}
 use Rattle.tier0.specs.Of.{slowOf, zoneFrom, rowFrom, testFrom, stepsFrom, runFrom, ranFrom, rulingFrom}
 
 -- ---- one row
@@ -46,14 +48,9 @@ row-fits i h n len l b =
     let e : (i + 1) * n ≡ i * n + n = rw (add-mul, one-mul) in
     le-trans (rw e at (mul-le-mul-right {m = i + 1} {n = h} n (omega arith))) b
 
--- .. and so does the row before it
-pub before-fits : (i n len : ℕ) → (i ≡ 0 → ⊥) → i * n + n ≤ len → (i - 1) * n + n ≤ len
-before-fits zero n len h b = absurd (h refl)
-before-fits (suc i) n len h b =
-    let e : (i + 1) * n ≡ i * n + n = rw (add-mul, one-mul) in
-    let g : i * n + n + n ≤ len = rw (← add-one, e) at b in
-    let k : suc i - 1 ≡ i = omega arith in
-    rw k (omega arith)
+-- .. and so does every row before it
+pub earlier-fits : (i j n len : ℕ) → i ≤ j → j * n + n ≤ len → i * n + n ≤ len
+earlier-fits i j n len l b = let w = mul-le-mul-right {m = i} {n = j} n l in omega arith
 
 -- where a row starts is small
 pub start-small : (i n : ℕ) → i < 64 → n ≤ 8 → i * n ≤ 512
@@ -125,22 +122,30 @@ some-turn g i b k t h e = (some-more (λ (j : ℕ). g j .value) i b (t .holds) (
 pub some-found : (g : ℕ → Checked Bool) {i n : ℕ} {b k : Bool} → i ≡ n → (b ≡ someOf g i .value) × (k ≡ someOf g i .sound) → _≡_ {A = Test} (record { holds = b; sound = k }) (testFrom (someOf g n))
 some-found g e h = rw (← e, h .0, h .1)
 
-module _ (f : Format) (s : Checks) (q rows : List Float) (h : ℕ) {k : Bool} where
-  pub bent-off : k ≡ arms s ACCEL → k ≡ false → _≡_ {A = Test} (record { holds = false; sound = true }) (testFrom (tooBent f s q rows h))
-  unfolding tooBent
-  bent-off e g = rw (sym e ∙ g)
+pub trips-some : (d : Difference) → 0 < tripOf d
+trips-some D.Accel = omega arith
+trips-some D.Jerk = omega arith
 
-  pub bent-on : k ≡ arms s ACCEL → k ≡ true → {t : Test} → t ≡ testFrom (someOf (bentAt f s q rows) (h - 1)) → t ≡ testFrom (tooBent f s q rows h)
-  unfolding tooBent
-  bent-on e g u = rw (sym e ∙ g) u
+module _ (f : Format) (s : Checks) (d : Difference) (q rows : List Float) (h : ℕ) {k : Bool} where
+  pub large-off : k ≡ arms s (tripOf d) → k ≡ false → _≡_ {A = Test} (record { holds = false; sound = true }) (testFrom (tooLarge f s d q rows h))
+  unfolding tooLarge
+  large-off e g = rw (sym e ∙ g)
 
-  pub jolted-off : k ≡ arms s JERK → k ≡ false → _≡_ {A = Test} (record { holds = false; sound = true }) (testFrom (tooJolted f s q rows h))
-  unfolding tooJolted
-  jolted-off e g = rw (sym e ∙ g)
+  pub large-on : k ≡ arms s (tripOf d) → k ≡ true → {t : Test} → t ≡ testFrom (someOf (largeAt f s d q rows) (h - further d)) → t ≡ testFrom (tooLarge f s d q rows h)
+  unfolding tooLarge
+  large-on e g u = rw (sym e ∙ g) u
 
-  pub jolted-on : k ≡ arms s JERK → k ≡ true → {t : Test} → t ≡ testFrom (someOf (joltedAt f s q rows) (h - 2)) → t ≡ testFrom (tooJolted f s q rows h)
-  unfolding tooJolted
-  jolted-on e g u = rw (sym e ∙ g) u
+-- a difference reads few rows, and all that it reads lie in the rows
+pub reads-few : (d : Difference) → further d ≤ 2
+reads-few D.Accel = omega arith
+reads-few D.Jerk = omega arith
+
+module _ {d : Difference} (i n len : ℕ) (few : i + further d < 64) (b : (i + further d) * n + n ≤ len) where
+  pub accel-fits : d ≡ D.Accel → (i < 63) × (i * n + n ≤ len) × ((i + 1) * n + n ≤ len)
+  accel-fits e = let l = rw e at few in let w = rw e at b in (omega arith, earlier-fits i (i + 1) n len (omega arith) w, w)
+
+  pub jerk-fits : d ≡ D.Jerk → (i < 62) × (i * n + n ≤ len) × ((i + 1) * n + n ≤ len) × ((i + 2) * n + n ≤ len)
+  jerk-fits e = let l = rw e at few in let w = rw e at b in (omega arith, earlier-fits i (i + 2) n len (omega arith) w, earlier-fits (i + 1) (i + 2) n len (omega arith) w, w)
 
 -- what the loop over the projected rows keeps
 pub record Kept (x : Checked Run) (q out : List Float) (mask : ℕ) (ok : Bool) : Type 0 where
@@ -218,13 +223,13 @@ module _ (f : Format) (s : Checks) (slow : Float) (q rows : List Float) where
 module _ (f : Format) (s : Checks) (q rows : List Float) (i : ℕ) {before here next : List Float} {d : Row} {v : Float} {k : Bool}
     (eb : before ≡ rowBefore q rows (s .dim) i) (eh : here ≡ rawRow rows (s .dim) i) (en : next ≡ rawRow rows (s .dim) (i + 1)) (ev : v ≡ norm f (d .at) (s .dim) .value) where
   pub bent-at-is : d ≡ rowFrom (each (bends f next here before) (replicate 8 +0) (s .dim)) → k ≡ finite (mul f v (s .«inv_dt2»))
-      → _≡_ {A = Test} (record { holds = lt (s .«a_max») (mul f v (s .«inv_dt2»)); sound = d .sound && k }) (testFrom (bentAt f s q rows i))
-  unfolding bentAt
+      → _≡_ {A = Test} (record { holds = lt (s .«a_max») (mul f v (s .«inv_dt2»)); sound = d .sound && k }) (testFrom (largeAt f s D.Accel q rows i))
+  unfolding largeAt
   bent-at-is ed ek = exceeds-is f _ (s .dim) (s .«inv_dt2») (s .«a_max») (ed ∙ rw (en, eh, eb)) ev ek
 
   pub jolted-at-is : {second : List Float} → second ≡ rawRow rows (s .dim) (i + 2) → d ≡ rowFrom (each (jolts f second next here before) (replicate 8 +0) (s .dim)) → k ≡ finite (mul f v (s .«inv_dt3»))
-      → _≡_ {A = Test} (record { holds = lt (s .«j_max») (mul f v (s .«inv_dt3»)); sound = d .sound && k }) (testFrom (joltedAt f s q rows i))
-  unfolding joltedAt
+      → _≡_ {A = Test} (record { holds = lt (s .«j_max») (mul f v (s .«inv_dt3»)); sound = d .sound && k }) (testFrom (largeAt f s D.Jerk q rows i))
+  unfolding largeAt
   jolted-at-is es ed ek = exceeds-is f _ (s .dim) (s .«inv_dt3») (s .«j_max») (ed ∙ rw (es, en, eh, eb)) ev ek
 
 pub strides-are : (s : Checks) (slow : Float) (q rows : List Float) {i h : ℕ} {peak : Float} {fast close out ok : Bool} → i ≡ h
@@ -251,8 +256,8 @@ pub judge-chunk-is : (s : Checks) (p aux rows l : List Float) (h : ℕ) {z : Slo
     → q ≡ startRow s p rows
     → t ≡ stepsFrom s (z .step) q rows h
     → k ≡ finite (mul binary64 (t .peak) (s .«inv_dt»))
-    → bent ≡ testFrom (tooBent binary64 s q rows h)
-    → jolted ≡ testFrom (tooJolted binary64 s q rows h)
+    → bent ≡ testFrom (tooLarge binary64 s D.Accel q rows h)
+    → jolted ≡ testFrom (tooLarge binary64 s D.Jerk q rows h)
     → first ≡ rawRow rows (s .dim) 0
     → far ≡ testFrom (outOfReach binary64 s p first)
     → speed ≡ arms s SPEED

@@ -16,6 +16,8 @@ use Rattle.fmath.specs.Norm.{norm, dist}
 use Rattle.envelope.specs.declared.ClampMode.{ClampMode}
 use Rattle.envelope.specs.declared.ClampMode.the-variants.{Off, Project}
 use Rattle.tier0.specs.declared.Checks.{Checks}
+use Rattle.tier0.specs.declared.Difference.{Difference}
+use Rattle.tier0.specs.declared.Difference.the-variants.{Accel, Jerk}
 use Rattle.tier0.specs.Rule.{SPEED, ACCEL, JERK, arms, shared, Slow, slowZone, outOfBox, outOfReach, tripBits, held, moves, moved, Projected, Judgement}
 
 -- ---- rows
@@ -85,21 +87,23 @@ exceeds f g n inv most = do
   w ← times f v inv
   pure (lt most w)
 
--- ACCEL at row i, with inv_dt2
-unfoldable pub bentAt : Format → Checks → List Float → List Float → ℕ → Checked Bool
-bentAt f s q rows i = exceeds f (bends f (rawRow rows (s .dim) (i + 1)) (rawRow rows (s .dim) i) (rowBefore q rows (s .dim) i)) (s .dim) (s .«inv_dt2») (s .«a_max»)
+-- ACCEL at row i, with inv_dt2; JERK, with inv_dt3
+unfoldable pub largeAt : Format → Checks → Difference → List Float → List Float → ℕ → Checked Bool
+largeAt f s Accel q rows i = exceeds f (bends f (rawRow rows (s .dim) (i + 1)) (rawRow rows (s .dim) i) (rowBefore q rows (s .dim) i)) (s .dim) (s .«inv_dt2») (s .«a_max»)
+largeAt f s Jerk q rows i = exceeds f (jolts f (rawRow rows (s .dim) (i + 2)) (rawRow rows (s .dim) (i + 1)) (rawRow rows (s .dim) i) (rowBefore q rows (s .dim) i)) (s .dim) (s .«inv_dt3») (s .«j_max»)
 
--- .. which needs 2 rows
-unfoldable pub tooBent : Format → Checks → List Float → List Float → ℕ → Checked Bool
-tooBent f s q rows h = if arms s ACCEL then someOf (bentAt f s q rows) (h - 1) else pure false
+-- the rows that it reads after row i: ACCEL needs 2 rows, JERK 3
+abbrev pub further : Difference → ℕ
+further Accel = 1
+further Jerk = 2
 
--- JERK at row i, with inv_dt3
-unfoldable pub joltedAt : Format → Checks → List Float → List Float → ℕ → Checked Bool
-joltedAt f s q rows i = exceeds f (jolts f (rawRow rows (s .dim) (i + 2)) (rawRow rows (s .dim) (i + 1)) (rawRow rows (s .dim) i) (rowBefore q rows (s .dim) i)) (s .dim) (s .«inv_dt3») (s .«j_max»)
+abbrev pub tripOf : Difference → ℕ
+tripOf Accel = ACCEL
+tripOf Jerk = JERK
 
--- .. which needs 3 rows
-unfoldable pub tooJolted : Format → Checks → List Float → List Float → ℕ → Checked Bool
-tooJolted f s q rows h = if arms s JERK then someOf (joltedAt f s q rows) (h - 2) else pure false
+-- .. at some of h rows, where it is armed
+unfoldable pub tooLarge : Format → Checks → Difference → List Float → List Float → ℕ → Checked Bool
+tooLarge f s d q rows h = if arms s (tripOf d) then someOf (largeAt f s d q rows) (h - further d) else pure false
 
 -- ---- projection
 
@@ -142,8 +146,8 @@ checkChunk f s p aux rows l h = do
   z ← slowZone f s p aux
   n ← peakStep f q rows (s .dim) h
   v ← times f n (s .«inv_dt»)
-  bent ← tooBent f s q rows h
-  jolted ← tooJolted f s q rows h
+  bent ← tooLarge f s Accel q rows h
+  jolted ← tooLarge f s Jerk q rows h
   far ← outOfReach f s p (rawRow rows (s .dim) 0)
   after ← projectedRows f s (s .clamp) z p rows q l h
   let fast = arms s SPEED && someLonger f q rows (s .dim) (s .«step_max») h

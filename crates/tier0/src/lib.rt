@@ -4,8 +4,8 @@ ghost use mathlib.Core.List.{List};
 ghost use Prim.Native.Nat.{_*_, _≤_, _<_};
 ghost use lib.ListN.{length};
 ghost use lib.Ieee.{Float, binary64};
-ghost use Rattle.fmath.specs.Each.{at, over};
 ghost use Rattle.envelope.specs.Whole.{whole};
+ghost use Rattle.tier0.specs.declared.Check.the-variants.{Passed};
 ghost use Rattle.tier0.specs.Rule.{checkAction};
 ghost use Rattle.tier0.specs.Chunk.{checkChunk};
 ghost use Rattle.tier0.specs.Of.{checksOf, verdictFrom, rulingFrom, actionAnswer, actionOut, chunkAnswer, chunkOut};
@@ -15,14 +15,12 @@ use crate::measure::raw_row;
 use crate::measure::start_row;
 use crate::projected::projected_rows;
 use crate::projected::projection;
-use crate::projected::write_rows;
 use crate::refusals::action_refusal;
 use crate::refusals::chunk_refusal;
 use crate::trips::out_of_box;
 use crate::trips::out_of_reach;
 use crate::trips::step_rows;
-use crate::trips::too_bent;
-use crate::trips::too_jolted;
+use crate::trips::too_large;
 use crate::trips::trip_bits;
 use crate::zone::slow_zone;
 use envelope::ClampMode;
@@ -79,6 +77,12 @@ pub struct SlowZone {
 pub struct Row {
     pub at: [f64; 8],
     pub sound: bool,
+}
+
+// The differences of rows that have a limit.
+pub enum Difference {
+    Accel,
+    Jerk,
 }
 
 // Whether a limit is exceeded.
@@ -154,6 +158,17 @@ fn checks_of(c: Settings) -> Checks
     }
 }
 
+// The answer where nothing is refused.
+fn found(trips: u32, clamped_dims: u32, peak_speed: f64) -> Check
+    ensures { λ r. ⌜ r ≡ Passed trips «clamped_dims» «peak_speed» ⌝ }
+{
+    Check::Passed {
+        trips,
+        clamped_dims,
+        peak_speed,
+    }
+}
+
 // ---- the check of one action
 
 // Trips on the action as it came, its speed, and its projection.
@@ -188,18 +203,6 @@ fn judge_action(s: Checks, pos: &[f64], aux: &[f64], prev: &[f64], a: &[f64]) ->
     }
 }
 
-// The first n numbers of a row, written over a slice; the rest stays.
-fn write_row(r: [f64; 8], n: usize, out: &mut [f64])
-    requires { ⌜ (n ≤ 8) × (n ≤ length (now out)) ⌝ }
-    ensures { λ _. ⌜ now (out .exit) ≡ over (at r) (now (out .entry)) n ⌝ }
-{
-    let mut i = 0;
-    while i < n {
-        out[i] = r[i];
-        i += 1;
-    }
-}
-
 // `check_action` of settings and lent tables.
 pub fn check_action_with<'a>(
     c: Settings,
@@ -223,12 +226,8 @@ pub fn check_action_with<'a>(
         return Check::Refused(Refusal::of(Refusal::COMPUTED));
     }
     let at = v.at;
-    write_row(at, c.dim, out);
-    Check::Passed {
-        trips: v.trips,
-        clamped_dims: v.mask,
-        peak_speed: v.peak,
-    }
+    fmath::put(&at, c.dim, out);
+    found(v.trips, v.mask, v.peak)
 }
 
 // The check of the action a against its predecessor: which limits it exceeds, its speed, and, in out, its projection; the
@@ -266,8 +265,8 @@ fn judge_chunk(
     let t = step_rows(s, z.step, q, rows, h);
     let peak = t.peak * s.inv_dt;
     let fine = fmath::finite(peak);
-    let bent = too_bent(s, q, rows, h);
-    let jolted = too_jolted(s, q, rows, h);
+    let bent = too_large(s, Difference::Accel, q, rows, h);
+    let jolted = too_large(s, Difference::Jerk, q, rows, h);
     let first = raw_row(rows, s.dim, 0);
     let far = out_of_reach(s, pos, &first);
     let speed = armed(s, TripMask::SPEED);
@@ -326,12 +325,8 @@ pub fn check_chunk_with<'a>(
     if !v.sound {
         return Check::Refused(Refusal::of(Refusal::COMPUTED));
     }
-    write_rows(&all, h * c.dim, out);
-    Check::Passed {
-        trips: v.trips,
-        clamped_dims: v.mask,
-        peak_speed: v.peak,
-    }
+    fmath::put(&all, h * c.dim, out);
+    found(v.trips, v.mask, v.peak)
 }
 
 // The check of a chunk of rows: which limits they exceed, the greatest speed, and, in out, the projected rows; the rest of

@@ -3,7 +3,6 @@ ghost use mathlib.Core.Path.{_≡_};
 ghost use Prim.Native.Nat.{_+_, _*_, _≤_};
 ghost use lib.ListN.{length};
 ghost use lib.Ieee.{binary64};
-ghost use Rattle.fmath.specs.Each.{at, over};
 ghost use Rattle.fmath.specs.Checked.{each};
 ghost use Rattle.tier0.specs.Rule.{towards, shortened, pulled, leash, boxed, leashed, reached, moves, moved, project, projection};
 ghost use Rattle.tier0.specs.Chunk.{putRow, runRows, projectedRows};
@@ -243,18 +242,6 @@ fn run_rows(
     Ran { mask, sound }
 }
 
-// The first n numbers of a slice, written over another; the rest stays.
-pub(crate) fn write_rows(rows: &[f64], n: usize, out: &mut [f64])
-    requires { ⌜ (n ≤ 512) × (n ≤ length (now rows)) × (n ≤ length (now out)) ⌝ }
-    ensures { λ _. ⌜ now (out .exit) ≡ over (at (now (rows .entry))) (now (out .entry)) n ⌝ }
-{
-    let mut i = 0usize;
-    while i < n {
-        out[i] = rows[i];
-        i += 1;
-    }
-}
-
 // The rows projected, or as they came under ClampMode Off, written over out.
 pub(crate) fn projected_rows(
     s: Checks,
@@ -271,7 +258,7 @@ pub(crate) fn projected_rows(
     let mode = s.clamp;
     match mode {
         ClampMode::Off => {
-            write_rows(rows, h * s.dim, out);
+            fmath::put(rows, h * s.dim, out);
             Ran {
                 mask: 0,
                 sound: true,

@@ -6,9 +6,11 @@ ghost use lib.Ieee.{binary64};
 ghost use Rattle.fmath.specs.Checked.{each};
 ghost use Rattle.fmath.specs.Finite.{+0};
 ghost use Rattle.tier0.specs.Rule.{outOfBox, outOfReach, bit, tripBits};
-ghost use Rattle.tier0.specs.Chunk.{bends, jolts, someOf, bentAt, tooBent, joltedAt, tooJolted};
+ghost use Rattle.tier0.specs.Chunk.{bends, jolts, someOf, largeAt, further, tripOf, tooLarge};
+ghost use Rattle.tier0.specs.declared.Difference.the-variants.{Accel, Jerk};
 ghost use Rattle.tier0.specs.Of.{rowFrom, testFrom, stepsFrom};
 use crate::Checks;
+use crate::Difference;
 use crate::Row;
 use crate::Stride;
 use crate::Test;
@@ -143,7 +145,7 @@ fn jolted(second: &[f64; 8], next: &[f64; 8], here: &[f64; 8], before: &[f64; 8]
 // ACCEL at row i.
 fn bent_at(s: Checks, q: [f64; 8], rows: &[f64], i: usize) -> Test
     requires { ⌜ (s .dim ≤ 8) × (i < 63) × (i * s .dim + s .dim ≤ length (now rows)) × ((i + 1) * s .dim + s .dim ≤ length (now rows)) ⌝ }
-    ensures { λ r. ⌜ r ≡ testFrom (bentAt binary64 s q (now (rows .entry)) i) ⌝ }
+    ensures { λ r. ⌜ r ≡ testFrom (largeAt binary64 s Accel q (now (rows .entry)) i) ⌝ }
 {
     let next = raw_row(rows, s.dim, i + 1);
     let here = raw_row(rows, s.dim, i);
@@ -162,7 +164,7 @@ fn bent_at(s: Checks, q: [f64; 8], rows: &[f64], i: usize) -> Test
 // JERK at row i.
 fn jolted_at(s: Checks, q: [f64; 8], rows: &[f64], i: usize) -> Test
     requires { ⌜ (s .dim ≤ 8) × (i < 62) × (i * s .dim + s .dim ≤ length (now rows)) × ((i + 1) * s .dim + s .dim ≤ length (now rows)) × ((i + 2) * s .dim + s .dim ≤ length (now rows)) ⌝ }
-    ensures { λ r. ⌜ r ≡ testFrom (joltedAt binary64 s q (now (rows .entry)) i) ⌝ }
+    ensures { λ r. ⌜ r ≡ testFrom (largeAt binary64 s Jerk q (now (rows .entry)) i) ⌝ }
 {
     let second = raw_row(rows, s.dim, i + 2);
     let next = raw_row(rows, s.dim, i + 1);
@@ -179,16 +181,48 @@ fn jolted_at(s: Checks, q: [f64; 8], rows: &[f64], i: usize) -> Test
     }
 }
 
-// ACCEL at some of the first h - 1 rows.
-fn bent_rows(s: Checks, q: [f64; 8], rows: &[f64], h: usize) -> Test
-    requires { ⌜ (s .dim ≤ 8) × (h ≤ 64) × (h * s .dim ≤ length (now rows)) ⌝ }
-    ensures { λ r. ⌜ r ≡ testFrom (someOf (bentAt binary64 s q (now (rows .entry))) (h - 1)) ⌝ }
+// A difference at row i exceeds its limit.
+fn large_at(s: Checks, d: Difference, q: [f64; 8], rows: &[f64], i: usize) -> Test
+    requires { ⌜ (s .dim ≤ 8) × (i + further d < 64) × ((i + further d) * s .dim + s .dim ≤ length (now rows)) ⌝ }
+    ensures { λ r. ⌜ r ≡ testFrom (largeAt binary64 s d q (now (rows .entry)) i) ⌝ }
 {
+    match d {
+        Difference::Accel => bent_at(s, q, rows, i),
+        Difference::Jerk => jolted_at(s, q, rows, i),
+    }
+}
+
+// How many rows after row i the difference at row i reads.
+fn further(d: Difference) -> usize
+    ensures { λ r. ⌜ r ≡ further d ⌝ }
+{
+    match d {
+        Difference::Accel => 1,
+        Difference::Jerk => 2,
+    }
+}
+
+// The trip bit of a difference.
+fn trip_of(d: Difference) -> u32
+    ensures { λ r. ⌜ r ≡ tripOf d ⌝ }
+{
+    match d {
+        Difference::Accel => TripMask::ACCEL,
+        Difference::Jerk => TripMask::JERK,
+    }
+}
+
+// A difference exceeds its limit at some of h rows.
+fn large_rows(s: Checks, d: Difference, q: [f64; 8], rows: &[f64], h: usize) -> Test
+    requires { ⌜ (s .dim ≤ 8) × (h ≤ 64) × (h * s .dim ≤ length (now rows)) ⌝ }
+    ensures { λ r. ⌜ r ≡ testFrom (someOf (largeAt binary64 s d q (now (rows .entry))) (h - further d)) ⌝ }
+{
+    let n = further(d);
     let mut holds = false;
     let mut sound = true;
     let mut i = 0usize;
-    while i + 1 < h {
-        let t = bent_at(s, q, rows, i);
+    while i + n < h {
+        let t = large_at(s, d, q, rows, i);
         holds = holds | t.holds;
         sound = sound & t.sound;
         i += 1;
@@ -196,47 +230,16 @@ fn bent_rows(s: Checks, q: [f64; 8], rows: &[f64], h: usize) -> Test
     Test { holds, sound }
 }
 
-// ACCEL over h rows, where it is armed.
-pub(crate) fn too_bent(s: Checks, q: [f64; 8], rows: &[f64], h: usize) -> Test
+// A difference exceeds its limit at some of h rows, where it is armed.
+pub(crate) fn too_large(s: Checks, d: Difference, q: [f64; 8], rows: &[f64], h: usize) -> Test
     requires { ⌜ (s .dim ≤ 8) × (h ≤ 64) × (h * s .dim ≤ length (now rows)) ⌝ }
-    ensures { λ r. ⌜ r ≡ testFrom (tooBent binary64 s q (now (rows .entry)) h) ⌝ }
+    ensures { λ r. ⌜ r ≡ testFrom (tooLarge binary64 s d q (now (rows .entry)) h) ⌝ }
 {
-    if !armed(s, TripMask::ACCEL) {
+    if !armed(s, trip_of(d)) {
         return Test {
             holds: false,
             sound: true,
         };
     }
-    bent_rows(s, q, rows, h)
-}
-
-// JERK at some of the first h - 2 rows.
-fn jolted_rows(s: Checks, q: [f64; 8], rows: &[f64], h: usize) -> Test
-    requires { ⌜ (s .dim ≤ 8) × (h ≤ 64) × (h * s .dim ≤ length (now rows)) ⌝ }
-    ensures { λ r. ⌜ r ≡ testFrom (someOf (joltedAt binary64 s q (now (rows .entry))) (h - 2)) ⌝ }
-{
-    let mut holds = false;
-    let mut sound = true;
-    let mut i = 0usize;
-    while i + 2 < h {
-        let t = jolted_at(s, q, rows, i);
-        holds = holds | t.holds;
-        sound = sound & t.sound;
-        i += 1;
-    }
-    Test { holds, sound }
-}
-
-// JERK over h rows, where it is armed.
-pub(crate) fn too_jolted(s: Checks, q: [f64; 8], rows: &[f64], h: usize) -> Test
-    requires { ⌜ (s .dim ≤ 8) × (h ≤ 64) × (h * s .dim ≤ length (now rows)) ⌝ }
-    ensures { λ r. ⌜ r ≡ testFrom (tooJolted binary64 s q (now (rows .entry)) h) ⌝ }
-{
-    if !armed(s, TripMask::JERK) {
-        return Test {
-            holds: false,
-            sound: true,
-        };
-    }
-    jolted_rows(s, q, rows, h)
+    large_rows(s, d, q, rows, h)
 }

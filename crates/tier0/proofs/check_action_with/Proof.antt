@@ -1,5 +1,6 @@
 -- `tier0::check_action_with` meets its contract: refused by what is lent, refused by a computed number, or passed.
 use mathlib.Core.Path.{sym, _∙_}
+use native.Mathlib.Nat.{le-of-eq}
 use borrow.Author.Tests.{not-true, not-false}
 use denote.Ref.{now}
 use Rattle.tier0.proofs.Refused.{accepted-sizes, sized-checks, lent-refused, not-sound, passes}
@@ -29,14 +30,20 @@ of-requires-2 c κs = search needs
 returns-2 : tie.Need-returns-2
 returns-2 c = let g = c .before .before .before .before .before .before .before .before .before .before .before .before .args in let w = not-sound (whole (g .c) (now (g .center)) (now (g .scale))) (now (g .pos)) (now (g .aux)) (now (g .prev)) (now (g .a)) (now (g .out)) (sym (c .before .before .before .before .before .before .action-refusal .ensures) ∙ c .before .before .before .before .before .if1 .left) (c .before .before .before .before .checks-of .ensures _ _) (c .before .before .before .judge-action .ensures) (not-true _ (c .before .if2 .taken)) (c .of2 .ensures) in (w .gives, w .leaves)
 
-write-row-requires : tie.Need-write-row-requires
-write-row-requires c κs = let g = c .before .before .before .before .before .before .before .before .before .before .before .before .before .args in let w = accepted-sizes (whole (g .c) (now (g .center)) (now (g .scale))) (now (g .pos)) (now (g .aux)) (now (g .prev)) (now (g .a)) _ (sym (c .before .before .before .before .before .before .before .action-refusal .ensures) ∙ c .before .before .before .before .before .before .if1 .left) in (w .narrow, w .out)
+slice-aggregate-put : tie.Need-slice-aggregate-put
+slice-aggregate-put c = search needs
+
+put-requires : tie.Need-put-requires
+put-requires c κs = search needs
+
+found-requires : tie.Need-found-requires
+found-requires c κs = search needs
 
 same-length : tie.Need-same-length
 same-length c = search needs
 
 returns-3 : tie.Need-returns-3
-returns-3 c = let g = c .before .before .before .before .before .before .before .before .before .before .before .before .before .before .before .before .args in let w = passes (whole (g .c) (now (g .center)) (now (g .scale))) (now (g .pos)) (now (g .aux)) (now (g .prev)) (now (g .a)) (now (g .out)) (sym (c .before .before .before .before .before .before .before .before .before .before .action-refusal .ensures) ∙ c .before .before .before .before .before .before .before .before .before .if1 .left) (c .before .before .before .before .before .before .before .before .checks-of .ensures _ _) (c .before .before .before .before .before .before .before .judge-action .ensures) (not-false _ (c .before .before .before .before .before .if2 .left)) (c .before .before .write-row .ensures) in (w .gives, w .leaves)
+returns-3 c = let g = c .before .before .before .before .before .before .before .before .before .before .before .before .before .before .before .before .before .before .args in let w = passes (whole (g .c) (now (g .center)) (now (g .scale))) (now (g .pos)) (now (g .aux)) (now (g .prev)) (now (g .a)) (now (g .out)) (sym (c .before .before .before .before .before .before .before .before .before .before .before .before .action-refusal .ensures) ∙ c .before .before .before .before .before .before .before .before .before .before .before .if1 .left) (c .before .before .before .before .before .before .before .before .before .before .checks-of .ensures _ _) (c .before .before .before .before .before .before .before .before .before .judge-action .ensures) (not-false _ (c .before .before .before .before .before .before .before .if2 .left)) (c .before .before .before .put .ensures) (le-of-eq (slice-aggregate-put (c .before .before .before .before .before))) in (c .found .ensures ∙ w .gives, w .leaves)
 
 pub check-action-with-spec : {M : Type 1} → statement M
-check-action-with-spec = tie.close (tie.spec action-refusal-requires of-requires returns checks-of-requires judge-action-requires of-requires-2 returns-2 write-row-requires same-length returns-3)
+check-action-with-spec = tie.close (tie.spec action-refusal-requires of-requires returns checks-of-requires judge-action-requires of-requires-2 returns-2 slice-aggregate-put put-requires found-requires same-length returns-3)

@@ -1,5 +1,6 @@
 -- `tier0::check_chunk_with` meets its contract: refused by what is lent, refused by a computed number, or passed.
 use mathlib.Core.Path.{refl, sym, _∙_}
+use native.Mathlib.Nat.{le-of-eq}
 use native.Mathlib.Omega.{arith}
 use borrow.Author.Tests.{not-true, not-false}
 use denote.Ref.{now}
@@ -35,21 +36,24 @@ returns-2 : tie.Need-returns-2
 unfolding ofBits
 returns-2 c = let g = c .before .before .before .before .before .before .before .before .before .before .before .before .before .args in let w = not-sound (whole (g .c) (now (g .center)) (now (g .scale))) (now (g .pos)) (now (g .aux)) (now (g .rows)) (g .horizon) (g .dim) (g .exec-steps) (now (g .out)) (sym (c .before .before .before .before .before .before .before .before .chunk-refusal .ensures) ∙ c .before .before .before .before .before .before .before .if1 .left) (c .before .before .before .before .before .before .checks-of .ensures _ _) refl (c .before .before .before .before .judge-chunk .ensures) (not-true _ (c .before .if2 .taken)) (c .of2 .ensures) in (w .gives, w .leaves)
 
-slice-aggregate-write-rows : tie.Need-slice-aggregate-write-rows
-slice-aggregate-write-rows c = search needs
+slice-aggregate-put : tie.Need-slice-aggregate-put
+slice-aggregate-put c = search needs
 
-mul-write-rows : tie.Need-mul-write-rows
-mul-write-rows c = let g = c .before .before .before .before .before .before .before .before .before .before .before .before .before .before .args in let w = accepted-sizes (whole (g .c) (now (g .center)) (now (g .scale))) (now (g .pos)) (now (g .aux)) (now (g .rows)) (g .horizon) (g .dim) (g .exec-steps) _ (sym (c .before .before .before .before .before .before .before .before .before .chunk-refusal .ensures) ∙ c .before .before .before .before .before .before .before .before .if1 .left) in let k = w .small in omega arith
+mul-put : tie.Need-mul-put
+mul-put c = let g = c .before .before .before .before .before .before .before .before .before .before .before .before .before .before .args in let w = accepted-sizes (whole (g .c) (now (g .center)) (now (g .scale))) (now (g .pos)) (now (g .aux)) (now (g .rows)) (g .horizon) (g .dim) (g .exec-steps) _ (sym (c .before .before .before .before .before .before .before .before .before .chunk-refusal .ensures) ∙ c .before .before .before .before .before .before .before .before .if1 .left) in let k = w .small in omega arith
 
-write-rows-requires : tie.Need-write-rows-requires
-write-rows-requires c κs = let g = c .before .before .before .before .before .before .before .before .before .before .before .before .before .before .before .args in let w = accepted-sizes (whole (g .c) (now (g .center)) (now (g .scale))) (now (g .pos)) (now (g .aux)) (now (g .rows)) (g .horizon) (g .dim) (g .exec-steps) _ (sym (c .before .before .before .before .before .before .before .before .before .before .chunk-refusal .ensures) ∙ c .before .before .before .before .before .before .before .before .before .if1 .left) in (w .small, search (needs, w), w .out)
+put-requires : tie.Need-put-requires
+put-requires c κs = search needs
+
+found-requires : tie.Need-found-requires
+found-requires c κs = search needs
 
 same-length : tie.Need-same-length
 same-length c = search needs
 
 returns-3 : tie.Need-returns-3
 unfolding ofBits
-returns-3 c = let g = c .before .before .before .before .before .before .before .before .before .before .before .before .before .before .before .before .before .before .args in let w = passes (whole (g .c) (now (g .center)) (now (g .scale))) (now (g .pos)) (now (g .aux)) (now (g .rows)) (g .horizon) (g .dim) (g .exec-steps) (now (g .out)) (sym (c .before .before .before .before .before .before .before .before .before .before .before .before .before .chunk-refusal .ensures) ∙ c .before .before .before .before .before .before .before .before .before .before .before .before .if1 .left) (c .before .before .before .before .before .before .before .before .before .before .before .checks-of .ensures _ _) refl (c .before .before .before .before .before .before .before .before .before .judge-chunk .ensures) (not-false _ (c .before .before .before .before .before .before .if2 .left)) (c .before .before .write-rows .ensures) in (w .gives, w .leaves)
+returns-3 c = let g = c .before .before .before .before .before .before .before .before .before .before .before .before .before .before .before .before .before .before .before .args in let w = passes (whole (g .c) (now (g .center)) (now (g .scale))) (now (g .pos)) (now (g .aux)) (now (g .rows)) (g .horizon) (g .dim) (g .exec-steps) (now (g .out)) (sym (c .before .before .before .before .before .before .before .before .before .before .before .before .before .before .chunk-refusal .ensures) ∙ c .before .before .before .before .before .before .before .before .before .before .before .before .before .if1 .left) (c .before .before .before .before .before .before .before .before .before .before .before .before .checks-of .ensures _ _) refl (c .before .before .before .before .before .before .before .before .before .before .judge-chunk .ensures) (not-false _ (c .before .before .before .before .before .before .before .if2 .left)) (c .before .before .before .put .ensures) (le-of-eq (slice-aggregate-put (c .before .before .before .before .before .before))) in (c .found .ensures ∙ w .gives, w .leaves)
 
 pub check-chunk-with-spec : {M : Type 1} → statement M
 check-chunk-with-spec =
@@ -63,8 +67,9 @@ check-chunk-with-spec =
     judge-chunk-requires
     of-requires-2
     returns-2
-    slice-aggregate-write-rows
-    mul-write-rows
-    write-rows-requires
+    slice-aggregate-put
+    mul-put
+    put-requires
+    found-requires
     same-length
     returns-3)

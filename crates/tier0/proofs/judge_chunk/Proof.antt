@@ -17,11 +17,11 @@ step-rows-requires c κs = search needs
 finite-requires : tie.Need-finite-requires
 finite-requires c κs = search needs
 
-too-bent-requires : tie.Need-too-bent-requires
-too-bent-requires c κs = search needs
+too-large-requires : tie.Need-too-large-requires
+too-large-requires c κs = search needs
 
-too-jolted-requires : tie.Need-too-jolted-requires
-too-jolted-requires c κs = search needs
+too-large-requires-2 : tie.Need-too-large-requires-2
+too-large-requires-2 c κs = search needs
 
 raw-row-requires : tie.Need-raw-row-requires
 raw-row-requires c κs = let w = c .before .before .before .before .before .before .before .before .before .before .before .before .pre in (w .0, omega arith, row-fits 0 _ _ _ (w .2) (w .4))
@@ -45,7 +45,7 @@ same-length : tie.Need-same-length
 same-length c = search needs
 
 returns : tie.Need-returns
-returns c = judge-chunk-is _ _ _ _ _ _ (c .before .before .before .before .before .before .before .before .before .before .before .before .before .before .before .before .before .before .before .before .before .before .before .before .before .slow-zone .ensures) (c .before .before .before .before .before .before .before .before .before .before .before .before .before .before .before .before .before .before .before .before .before .before .before .before .start-row .ensures) (c .before .before .before .before .before .before .before .before .before .before .before .before .before .before .before .before .before .before .before .before .before .before .before .step-rows .ensures) (c .before .before .before .before .before .before .before .before .before .before .before .before .before .before .before .before .before .before .before .before .finite .ensures) (c .before .before .before .before .before .before .before .before .before .before .before .before .before .before .before .before .before .before .before .too-bent .ensures) (c .before .before .before .before .before .before .before .before .before .before .before .before .before .before .before .before .before .before .too-jolted .ensures) (c .before .before .before .before .before .before .before .before .before .before .before .before .before .before .before .before .before .raw-row .ensures) (c .before .before .before .before .before .before .before .before .before .before .before .before .before .before .before .out-of-reach .ensures) (c .before .before .before .before .before .before .before .before .before .before .before .before .before .before .armed .ensures) (c .before .before .before .before .before .before .before .before .before .before .trip-bits .ensures) (c .before .before .before .before .before .before .before .before .projected-rows .ensures)
+returns c = judge-chunk-is _ _ _ _ _ _ (c .before .before .before .before .before .before .before .before .before .before .before .before .before .before .before .before .before .before .before .before .before .before .before .before .before .slow-zone .ensures) (c .before .before .before .before .before .before .before .before .before .before .before .before .before .before .before .before .before .before .before .before .before .before .before .before .start-row .ensures) (c .before .before .before .before .before .before .before .before .before .before .before .before .before .before .before .before .before .before .before .before .before .before .before .step-rows .ensures) (c .before .before .before .before .before .before .before .before .before .before .before .before .before .before .before .before .before .before .before .before .finite .ensures) (c .before .before .before .before .before .before .before .before .before .before .before .before .before .before .before .before .before .before .before .too-large .ensures) (c .before .before .before .before .before .before .before .before .before .before .before .before .before .before .before .before .before .before .too-large2 .ensures) (c .before .before .before .before .before .before .before .before .before .before .before .before .before .before .before .before .before .raw-row .ensures) (c .before .before .before .before .before .before .before .before .before .before .before .before .before .before .before .out-of-reach .ensures) (c .before .before .before .before .before .before .before .before .before .before .before .before .before .before .armed .ensures) (c .before .before .before .before .before .before .before .before .before .before .trip-bits .ensures) (c .before .before .before .before .before .before .before .before .projected-rows .ensures)
 
 pub judge-chunk-spec : {M : Type 1} → statement M
 judge-chunk-spec =
@@ -55,8 +55,8 @@ judge-chunk-spec =
     start-row-requires
     step-rows-requires
     finite-requires
-    too-bent-requires
-    too-jolted-requires
+    too-large-requires
+    too-large-requires-2
     raw-row-requires
     slice-aggregate-out-of-reach
     out-of-reach-requires

@@ -44,20 +44,14 @@ state-requires c κs = search needs
 eight-requires : tie.Need-eight-requires
 eight-requires c κs = search needs
 
-count-requires : tie.Need-count-requires
-count-requires c κs = search needs
-
-within-requires : tie.Need-within-requires
-within-requires c κs = search needs
+many-requires : tie.Need-many-requires
+many-requires c κs = search needs
 
 eight-requires-2 : tie.Need-eight-requires-2
 eight-requires-2 c κs = search needs
 
-count-requires-2 : tie.Need-count-requires-2
-count-requires-2 c κs = search needs
-
-within-requires-2 : tie.Need-within-requires-2
-within-requires-2 c κs = search needs
+many-requires-2 : tie.Need-many-requires-2
+many-requires-2 c κs = search needs
 
 head-requires : tie.Need-head-requires
 head-requires c κs = search needs
@@ -72,22 +66,22 @@ new-scores-requires : tie.Need-new-scores-requires
 new-scores-requires c κs = search needs
 
 array-share-prefix-pos : tie.Need-array-share-prefix-pos
-array-share-prefix-pos c = let long : length (c .before .before .before .before .before .before .before .before .before .eight .result) ≡ 8 = ap length (c .before .before .before .before .before .before .before .before .before .eight .ensures) ∙ numbers-length (now (c .before .before .before .before .before .before .before .before .before .before .before .before .before .args .b)) 287 8 in omega (arith, long, c .before .before .before .before .before .before .before .within .ensures .1)
+array-share-prefix-pos c = let long : length (c .before .before .before .before .before .before .before .eight .result) ≡ 8 = ap length (c .before .before .before .before .before .before .before .eight .ensures) ∙ numbers-length (now (c .before .before .before .before .before .before .before .before .before .before .before .args .b)) 287 8 in omega (arith, long, c .before .before .before .before .before .before .many .ensures .1)
 
 slice-aggregate-features : tie.Need-slice-aggregate-features
-slice-aggregate-features c = lent (now (c .before .before .before .before .before .before .before .before .before .before .before .before .before .before .args .b)) 287 8 (c .before .before .before .before .before .before .before .before .before .before .eight .ensures) (c .before .before .before .before .before .before .before .before .within .ensures .1)
+slice-aggregate-features c = lent (now (c .before .before .before .before .before .before .before .before .before .before .before .before .args .b)) 287 8 (c .before .before .before .before .before .before .before .before .eight .ensures) (c .before .before .before .before .before .before .before .many .ensures .1)
 
 array-share-prefix-ext : tie.Need-array-share-prefix-ext
 array-share-prefix-ext c = search needs
 
 slice-aggregate-features-2 : tie.Need-slice-aggregate-features-2
-slice-aggregate-features-2 c = lent (now (c .before .before .before .before .before .before .before .before .before .before .before .before .before .before .before .args .b)) 296 8 (c .before .before .before .before .before .before .before .before .eight2 .ensures) (c .before .before .before .before .before .before .within2 .ensures .1)
+slice-aggregate-features-2 c = lent (now (c .before .before .before .before .before .before .before .before .before .before .before .before .before .args .b)) 296 8 (c .before .before .before .before .before .before .before .eight2 .ensures) (c .before .before .before .before .before .before .many2 .ensures .1)
 
 array-share-prefix-rows : tie.Need-array-share-prefix-rows
 array-share-prefix-rows c = search needs
 
 slice-aggregate-features-3 : tie.Need-slice-aggregate-features-3
-slice-aggregate-features-3 c = lent (now (c .before .before .before .before .before .before .before .before .before .before .before .before .before .before .before .before .args .b)) 306 32 (c .before .before .before .before .before .thirty-two .ensures) (c .before .before .before .before .area .ensures .1)
+slice-aggregate-features-3 c = lent (now (c .before .before .before .before .before .before .before .before .before .before .before .before .before .before .args .b)) 306 32 (c .before .before .before .before .before .thirty-two .ensures) (c .before .before .before .before .area .ensures .1)
 
 features-requires : tie.Need-features-requires
 features-requires c κs = search needs
@@ -96,7 +90,7 @@ featured-as-requires : tie.Need-featured-as-requires
 featured-as-requires c κs = search needs
 
 returns : tie.Need-returns
-returns c = let b = now (c .before .before .before .before .before .before .before .before .before .before .before .before .before .before .before .before .before .before .args .b) in let pos = listed b 286 8 (c .before .before .before .before .before .before .before .before .before .before .before .before .before .before .eight .ensures) (c .before .before .before .before .before .before .before .before .before .before .before .before .before .count .ensures) (c .before .before .before .before .before .before .before .before .before .before .before .before .within .ensures .0) in let ext = listed b 295 8 (c .before .before .before .before .before .before .before .before .before .before .before .eight2 .ensures) (c .before .before .before .before .before .before .before .before .before .before .count2 .ensures) (c .before .before .before .before .before .before .before .before .before .within2 .ensures .0) in let rows = rowed b 306 (c .before .before .before .before .before .before .before .before .head .result .horizon) (c .before .before .before .before .before .before .before .before .head .result .dim) (c .before .before .before .before .before .before .before .thirty-two .ensures) (c .before .before .before .before .before .before .area .ensures .0) in ticked b (c .featured-as .ensures) (c .before .features .ensures) (c .before .before .before .before .before .before .before .before .before .before .before .before .before .before .before .before .config .ensures) (c .before .before .before .before .before .before .before .before .before .before .before .before .before .before .before .state .ensures) pos ext (c .before .before .before .before .before .before .before .before .head .ensures) rows (c .before .before .before .before .before .new-scores .ensures)
+returns c = let b = now (c .before .before .before .before .before .before .before .before .before .before .before .before .before .before .before .before .args .b) in let pos = listed b 286 8 (c .before .before .before .before .before .before .before .before .before .before .before .before .eight .ensures) (c .before .before .before .before .before .before .before .before .before .before .before .many .ensures .0) in let ext = listed b 295 8 (c .before .before .before .before .before .before .before .before .before .before .eight2 .ensures) (c .before .before .before .before .before .before .before .before .before .many2 .ensures .0) in let rows = rowed b 306 (c .before .before .before .before .before .before .before .before .head .result .horizon) (c .before .before .before .before .before .before .before .before .head .result .dim) (c .before .before .before .before .before .before .before .thirty-two .ensures) (c .before .before .before .before .before .before .area .ensures .0) in ticked b (c .featured-as .ensures) (c .before .features .ensures) (c .before .before .before .before .before .before .before .before .before .before .before .before .before .before .config .ensures) (c .before .before .before .before .before .before .before .before .before .before .before .before .before .state .ensures) pos ext (c .before .before .before .before .before .before .before .before .head .ensures) rows (c .before .before .before .before .before .new-scores .ensures)
 
 pub features-agree-spec : {M : Type 1} → statement M
 features-agree-spec =
@@ -105,11 +99,9 @@ features-agree-spec =
     config-requires
     state-requires
     eight-requires
-    count-requires
-    within-requires
+    many-requires
     eight-requires-2
-    count-requires-2
-    within-requires-2
+    many-requires-2
     head-requires
     thirty-two-requires
     area-requires

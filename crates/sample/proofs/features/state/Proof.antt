@@ -8,23 +8,20 @@ use Rattle.sample.proofs.features.state.Tie as tie
 kept-requires : tie.Need-kept-requires
 kept-requires c κs = search needs
 
-count-requires : tie.Need-count-requires
-count-requires c κs = search needs
-
-within-requires : tie.Need-within-requires
-within-requires c κs = search needs
+many-requires : tie.Need-many-requires
+many-requires c κs = search needs
 
 trail-requires : tie.Need-trail-requires
 trail-requires c κs = search needs
 
-count-requires-2 : tie.Need-count-requires-2
-count-requires-2 c κs = search needs
+count-requires : tie.Need-count-requires
+count-requires c κs = search needs
 
 returns : tie.Need-returns
 unfolding stateAt ofBits
-returns c = rw (c .count2 .ensures, c .before .trail .ensures, c .before .before .within .ensures .0, c .before .before .before .count .ensures, c .before .before .before .before .kept .ensures)
+returns c = rw (c .count .ensures, c .before .trail .ensures, c .before .before .many .ensures .0, c .before .before .before .kept .ensures)
 
 pub state-spec : {M : Type 1} → statement M
 state-spec =
     tie.close
-    (tie.spec kept-requires count-requires within-requires trail-requires count-requires-2 returns)
+    (tie.spec kept-requires many-requires trail-requires count-requires returns)

@@ -13,32 +13,26 @@ config-requires c κs = search needs
 eight-requires : tie.Need-eight-requires
 eight-requires c κs = search needs
 
-count-requires : tie.Need-count-requires
-count-requires c κs = search needs
-
-within-requires : tie.Need-within-requires
-within-requires c κs = search needs
+many-requires : tie.Need-many-requires
+many-requires c κs = search needs
 
 eight-requires-2 : tie.Need-eight-requires-2
 eight-requires-2 c κs = search needs
 
-count-requires-2 : tie.Need-count-requires-2
-count-requires-2 c κs = search needs
-
-within-requires-2 : tie.Need-within-requires-2
-within-requires-2 c κs = search needs
+many-requires-2 : tie.Need-many-requires-2
+many-requires-2 c κs = search needs
 
 array-share-prefix-pos : tie.Need-array-share-prefix-pos
 array-share-prefix-pos c = search needs
 
 slice-aggregate-brake-action : tie.Need-slice-aggregate-brake-action
-slice-aggregate-brake-action c = lent (now (c .before .before .before .before .before .before .before .before .before .args .b)) 58 8 (c .before .before .before .before .before .before .eight .ensures) (c .before .before .before .before .within .ensures .1)
+slice-aggregate-brake-action c = lent (now (c .before .before .before .before .before .before .before .args .b)) 58 8 (c .before .before .before .before .eight .ensures) (c .before .before .before .many .ensures .1)
 
 array-share-prefix-vel : tie.Need-array-share-prefix-vel
 array-share-prefix-vel c = search needs
 
 slice-aggregate-brake-action-2 : tie.Need-slice-aggregate-brake-action-2
-slice-aggregate-brake-action-2 c = lent (now (c .before .before .before .before .before .before .before .before .before .before .args .b)) 67 8 (c .before .before .before .before .eight2 .ensures) (c .before .before .within2 .ensures .1)
+slice-aggregate-brake-action-2 c = lent (now (c .before .before .before .before .before .before .before .before .args .b)) 67 8 (c .before .before .before .eight2 .ensures) (c .before .before .many2 .ensures .1)
 
 slice-aggregate-brake-action-3 : tie.Need-slice-aggregate-brake-action-3
 slice-aggregate-brake-action-3 c = search needs
@@ -50,7 +44,7 @@ array-share-prefix-pos-2 : tie.Need-array-share-prefix-pos-2
 array-share-prefix-pos-2 c = search needs
 
 slice-aggregate-hold-action : tie.Need-slice-aggregate-hold-action
-slice-aggregate-hold-action c = lent (now (c .before .before .before .before .before .before .before .before .before .before .before .before .before .before .args .b)) 58 8 (c .before .before .before .before .before .before .before .before .before .before .before .eight .ensures) (c .before .before .before .before .before .before .before .before .before .within .ensures .1)
+slice-aggregate-hold-action c = lent (now (c .before .before .before .before .before .before .before .before .before .before .before .before .args .b)) 58 8 (c .before .before .before .before .before .before .before .before .before .eight .ensures) (c .before .before .before .before .before .before .before .before .many .ensures .1)
 
 slice-aggregate-hold-action-2 : tie.Need-slice-aggregate-hold-action-2
 slice-aggregate-hold-action-2 c = search needs
@@ -78,7 +72,7 @@ same-from-requires-2 c κs = search needs
 
 returns : tie.Need-returns
 unfolding rowsAgree ofBits
-returns c = let b = now (c .before .before .before .before .before .before .before .before .before .before .before .before .before .before .before .before .before .before .before .before .before .before .before .args .b) in let pos = listed b 57 8 (c .before .before .before .before .before .before .before .before .before .before .before .before .before .before .before .before .before .before .before .before .eight .ensures) (c .before .before .before .before .before .before .before .before .before .before .before .before .before .before .before .before .before .before .before .count .ensures) (c .before .before .before .before .before .before .before .before .before .before .before .before .before .before .before .before .before .before .within .ensures .0) in let vel = listed b 66 8 (c .before .before .before .before .before .before .before .before .before .before .before .before .before .before .before .before .before .eight2 .ensures) (c .before .before .before .before .before .before .before .before .before .before .before .before .before .before .before .before .count2 .ensures) (c .before .before .before .before .before .before .before .before .before .before .before .before .before .before .before .within2 .ensures .0) in rw (c .same-from2 .ensures, c .before .before .is-done2 .ensures, c .before .before .before .same-from .ensures, c .before .before .before .before .before .is-done .ensures, c .before .before .before .before .before .before .before .hold-action .ensures .0, c .before .before .before .before .before .before .before .hold-action .ensures .1, c .before .before .before .before .before .before .before .before .before .before .before .brake-action .ensures .0, c .before .before .before .before .before .before .before .before .before .before .before .brake-action .ensures .1, pos, vel, c .before .before .before .before .before .before .before .before .before .before .before .before .before .before .before .before .before .before .before .before .before .config .ensures)
+returns c = let b = now (c .before .before .before .before .before .before .before .before .before .before .before .before .before .before .before .before .before .before .before .before .before .args .b) in let pos = listed b 57 8 (c .before .before .before .before .before .before .before .before .before .before .before .before .before .before .before .before .before .before .eight .ensures) (c .before .before .before .before .before .before .before .before .before .before .before .before .before .before .before .before .before .many .ensures .0) in let vel = listed b 66 8 (c .before .before .before .before .before .before .before .before .before .before .before .before .before .before .before .before .eight2 .ensures) (c .before .before .before .before .before .before .before .before .before .before .before .before .before .before .before .many2 .ensures .0) in rw (c .same-from2 .ensures, c .before .before .is-done2 .ensures, c .before .before .before .same-from .ensures, c .before .before .before .before .before .is-done .ensures, c .before .before .before .before .before .before .before .hold-action .ensures .0, c .before .before .before .before .before .before .before .hold-action .ensures .1, c .before .before .before .before .before .before .before .before .before .before .before .brake-action .ensures .0, c .before .before .before .before .before .before .before .before .before .before .before .brake-action .ensures .1, pos, vel, c .before .before .before .before .before .before .before .before .before .before .before .before .before .before .before .before .before .before .before .config .ensures)
 
 pub rows-agree-spec : {M : Type 1} → statement M
 rows-agree-spec =
@@ -86,11 +80,9 @@ rows-agree-spec =
     (tie.spec
     config-requires
     eight-requires
-    count-requires
-    within-requires
+    many-requires
     eight-requires-2
-    count-requires-2
-    within-requires-2
+    many-requires-2
     array-share-prefix-pos
     slice-aggregate-brake-action
     array-share-prefix-vel

@@ -1,6 +1,8 @@
 -- `tier0::projected::projected_rows` meets its contract under each mode.
 use native.Mathlib.Omega.{arith}
+use denote.Ref.{now}
 use lib.Ieee.{binary64}
+use Rattle.fmath.proofs.Copy.{all-put}
 use Rattle.tier0.proofs.Rows.{rows-off, rows-on, size-small}
 use borrow.Author.Needs.{needs}
 use Rattle.tier0.proofs.projected.projected_rows.Statement.{statement}
@@ -9,11 +11,11 @@ use Rattle.tier0.proofs.projected.projected_rows.Tie as tie
 enum-told : tie.Need-enum-told
 enum-told c = search needs
 
-mul-write-rows : tie.Need-mul-write-rows
-mul-write-rows c = let w = c .before .before .before .before .before .before in let h = size-small (w .args .h) (w .args .s .dim) (w .pre .2) (w .pre .0) in omega arith
+mul-put : tie.Need-mul-put
+mul-put c = let w = c .before .before .before .before .before .before in let h = size-small (w .args .h) (w .args .s .dim) (w .pre .2) (w .pre .0) in omega arith
 
-write-rows-requires : tie.Need-write-rows-requires
-write-rows-requires c κs = let w = c .before .before .before .before .before .before .before in (size-small _ _ (w .pre .2) (w .pre .0), w .pre .3, w .pre .4)
+put-requires : tie.Need-put-requires
+put-requires c κs = search needs
 
 enum-told-2 : tie.Need-enum-told-2
 enum-told-2 c = search needs
@@ -25,7 +27,7 @@ same-length : tie.Need-same-length
 same-length c = search needs
 
 returns : tie.Need-returns
-returns c = rows-off binary64 _ _ _ _ _ _ _ _ (c .before .before .before .before .before .enum-told .given .1) (c .before .before .write-rows .ensures)
+returns c = let w = c .before .before .before .before .before .before .before .before .before .before in rows-off binary64 _ _ _ _ _ _ _ _ (c .before .before .before .before .before .enum-told .given .1) (all-put (now (w .args .out)) (now (w .args .rows)) (w .pre .3) (w .pre .4) (c .before .before .put .ensures))
 
 same-length-2 : tie.Need-same-length-2
 same-length-2 c = search needs
@@ -38,8 +40,8 @@ projected-rows-spec =
     tie.close
     (tie.spec
     enum-told
-    mul-write-rows
-    write-rows-requires
+    mul-put
+    put-requires
     enum-told-2
     run-rows-requires
     same-length
