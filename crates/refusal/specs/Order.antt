@@ -52,10 +52,10 @@ infix 70 _when_
 pub data Judged : Type 0 where
   _when_ : Reason → Bool → Judged
 
--- a reason that an entry does not list never applies there
+-- a reason applies at an entry where one of the conditions listed for it holds; one that is not listed never does
 abbrev pub among : List Judged → Reason → Bool
 among [] k = false
-among ((r when b) ∷ l) k = if eqb (numberOf r) (numberOf k) then b else among l k
+among ((r when b) ∷ l) k = if eqb (numberOf r) (numberOf k) then among l k || b else among l k
 
 -- the number that an entry gives, from what it judges, in whatever order it lists it
 abbrev pub refusal : List Judged → ℕ
