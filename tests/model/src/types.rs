@@ -225,9 +225,9 @@ impl ChunkBuf {
     pub const NEW: Self =
         Self { data: [0.0; MAX_H * MAX_D], seq: 0, t_emit: 0, horizon: 0, dim: 0, exec_steps: 0, filled: false };
 
-    /// The numbers of its rows, as far as the buffer goes.
+    /// The numbers of its rows; none where the buffer has fewer.
     pub fn rows(&self) -> &[f64] {
-        &self.data[..(self.horizon as usize * self.dim as usize).min(MAX_H * MAX_D)]
+        self.data.get(..self.horizon as usize * self.dim as usize).unwrap_or(&[])
     }
 }
 
