@@ -16,7 +16,7 @@
 extern "C" {
 #endif
 
-/* ---- refusals; the lowest that applies is given, LICTOR_BAD_CODE before all others */
+/* ---- refusals; the lowest that applies is given, LICTOR_MISFIT before all others */
 
 #define LICTOR_ACCEPTED 0
 /* dim, pos_dim, term count, feature bit, window length, trail head or trail count is out of size */
@@ -43,7 +43,7 @@ extern "C" {
 /* a computed number isn't finite */
 #define LICTOR_COMPUTED 13
 /* the boundary's own: a code is none of its kind, or a count doesn't fit its field */
-#define LICTOR_BAD_CODE 255
+#define LICTOR_MISFIT 255
 
 /* ---- numbers */
 
@@ -110,16 +110,16 @@ struct lictor_trail_marks {
     uint64_t head, len; /* the slot that is written next, at most 31; the samples held, at most 32 */
 };
 
-/* Records the first d coordinates of p, at most 8 and as many as there are; the slot's other numbers stay. LICTOR_BAD_CODE,
+/* Records the first d coordinates of p, at most 8 and as many as there are; the slot's other numbers stay. LICTOR_MISFIT,
    LICTOR_SIZE, LICTOR_NOT_FINITE. */
 uint64_t lictor_trail_push(double numbers[256], struct lictor_trail_marks *marks, const double *p, size_t p_count,
                            size_t d);
 
-/* Lets go of the samples; the numbers stay. LICTOR_BAD_CODE, LICTOR_SIZE, LICTOR_NOT_FINITE. */
+/* Lets go of the samples; the numbers stay. LICTOR_MISFIT, LICTOR_SIZE, LICTOR_NOT_FINITE. */
 uint64_t lictor_trail_clear(double numbers[256], struct lictor_trail_marks *marks);
 
 /* The distance from the oldest to the newest of the last w samples, over the first d coordinates; 0 for too few samples or a w
-   out of range. LICTOR_BAD_CODE, LICTOR_SIZE, LICTOR_NOT_FINITE, LICTOR_COMPUTED. */
+   out of range. LICTOR_MISFIT, LICTOR_SIZE, LICTOR_NOT_FINITE, LICTOR_COMPUTED. */
 uint64_t lictor_trail_net(const double numbers[256], const struct lictor_trail_marks *marks, size_t d, size_t w,
                           double *net);
 
@@ -127,7 +127,7 @@ uint64_t lictor_trail_net(const double numbers[256], const struct lictor_trail_m
 uint64_t lictor_trail_path(const double numbers[256], const struct lictor_trail_marks *marks, size_t d, size_t w,
                            double *path);
 
-/* How many samples are held. LICTOR_BAD_CODE, LICTOR_SIZE, LICTOR_NOT_FINITE. */
+/* How many samples are held. LICTOR_MISFIT, LICTOR_SIZE, LICTOR_NOT_FINITE. */
 uint64_t lictor_trail_len(const double numbers[256], const struct lictor_trail_marks *marks, uint64_t *len);
 
 /* 1 where none is held, else 0, likewise. */
@@ -191,7 +191,7 @@ struct lictor_derived {
     double inv_norm_scale[8];                  /* 1 / scale; 0 past dim */
 };
 
-/* Judges a configuration and derives from it. The tables hold feature j of time bin b at b x 12 + j. LICTOR_BAD_CODE,
+/* Judges a configuration and derives from it. The tables hold feature j of time bin b at b x 12 + j. LICTOR_MISFIT,
    LICTOR_SIZE, LICTOR_NUMBER, LICTOR_STEPS, LICTOR_CHANNELS. */
 uint64_t lictor_derive(const struct lictor_numbers *numbers, const struct lictor_counts *counts,
                        const double center[192], const double scale[192], struct lictor_derived *derived);
@@ -208,7 +208,7 @@ struct lictor_check_marks {
 };
 
 /* Checks a chunk from a position; aux is what the camera saw, and a slow zone whose channels it lacks is off. Writes the
-   first horizon x dim numbers of out, the marks, and the greatest speed. LICTOR_BAD_CODE, LICTOR_SIZE to
+   first horizon x dim numbers of out, the marks, and the greatest speed. LICTOR_MISFIT, LICTOR_SIZE to
    LICTOR_COMPUTED. */
 uint64_t lictor_check_chunk(const struct lictor_numbers *numbers, const struct lictor_counts *counts,
                             const double center[192], const double scale[192], const double *position,
@@ -217,7 +217,7 @@ uint64_t lictor_check_chunk(const struct lictor_numbers *numbers, const struct l
                             size_t out_count, struct lictor_check_marks *marks, double *peak_speed);
 
 /* Checks one action against the one before it, without LICTOR_TRIP_ACCEL and LICTOR_TRIP_JERK. Writes the first dim numbers
-   of out, the marks, and the speed. LICTOR_BAD_CODE, LICTOR_SIZE to LICTOR_CHANNELS, LICTOR_SHORT to LICTOR_COMPUTED. */
+   of out, the marks, and the speed. LICTOR_MISFIT, LICTOR_SIZE to LICTOR_CHANNELS, LICTOR_SHORT to LICTOR_COMPUTED. */
 uint64_t lictor_check_action(const struct lictor_numbers *numbers, const struct lictor_counts *counts,
                              const double center[192], const double scale[192], const double *position,
                              size_t position_count, const double *aux, size_t aux_count, const double *previous,
@@ -278,14 +278,14 @@ void lictor_tier1_new(double before[512], struct lictor_chunk_header *header, do
                       struct lictor_trail_marks *samples, double held[6], struct lictor_held_marks *kept);
 
 /* Lets go of the chunk before, the trail and the held features, as between episodes; the chunk's and the trail's numbers stay.
-   LICTOR_BAD_CODE, LICTOR_SIZE, LICTOR_EMPTY to LICTOR_LEN_MISMATCH for the chunk before, LICTOR_NOT_FINITE. */
+   LICTOR_MISFIT, LICTOR_SIZE, LICTOR_EMPTY to LICTOR_LEN_MISMATCH for the chunk before, LICTOR_NOT_FINITE. */
 uint64_t lictor_tier1_reset(double before[512], struct lictor_chunk_header *header, double trail[256],
                             struct lictor_trail_marks *samples, double held[6], struct lictor_held_marks *kept);
 
 /* The features of a tick, in the scores' f and valid; f is 0 where not valid, and z, s and fired stay. Where there isn't 0, a
    chunk came (seq to rows_count): it replaces all held features, invalid ones too, and the chunk before; else what is said
    of a chunk isn't read. The trail is only read. A position may be short: what is missing isn't shared with the action. At most four
-   external scalars are read. LICTOR_BAD_CODE, LICTOR_SIZE to LICTOR_WIDTH, LICTOR_NOT_FINITE, LICTOR_COMPUTED. */
+   external scalars are read. LICTOR_MISFIT, LICTOR_SIZE to LICTOR_WIDTH, LICTOR_NOT_FINITE, LICTOR_COMPUTED. */
 uint64_t lictor_features(const struct lictor_numbers *numbers, const struct lictor_counts *counts,
                          const double center[192], const double scale[192], double before[512],
                          struct lictor_chunk_header *header, const double trail[256],
@@ -297,13 +297,13 @@ uint64_t lictor_features(const struct lictor_numbers *numbers, const struct lict
 
 /* ---- the gate: scores held against a calibration (its tables, tau, mask of features, and the first n_terms of its terms) */
 
-/* Puts f in units of the calibration, in z; a bin above 15 is 15. LICTOR_BAD_CODE, LICTOR_SIZE, LICTOR_NUMBER,
+/* Puts f in units of the calibration, in z; a bin above 15 is 15. LICTOR_MISFIT, LICTOR_SIZE, LICTOR_NUMBER,
    LICTOR_NOT_FINITE, LICTOR_COMPUTED. */
 uint64_t lictor_standardise(const double center[192], const double scale[192], double tau, uint32_t mask,
                             uint8_t n_terms, const uint32_t terms[8], size_t bin, struct lictor_scores *scores,
                             struct lictor_marks *marks);
 
-/* Sets s and fired from z; s is negative infinity where no term is live. LICTOR_BAD_CODE, LICTOR_SIZE, LICTOR_NUMBER,
+/* Sets s and fired from z; s is negative infinity where no term is live. LICTOR_MISFIT, LICTOR_SIZE, LICTOR_NUMBER,
    LICTOR_NOT_FINITE. */
 uint64_t lictor_aggregate(const double center[192], const double scale[192], double tau, uint32_t mask,
                           uint8_t n_terms, const uint32_t terms[8], struct lictor_scores *scores,
@@ -332,7 +332,7 @@ struct lictor_forecast_reach {
 /* Forecasts from row `from` of a chunk through the committed rows and the braking after them. Writes the slacks in order, the
    marks and the reach; the rest of the slacks stays. A refusal sets place: for LICTOR_COMPUTED it is the place of the first
    number that isn't finite, counted from 1, and the slacks before it are written; for any other number it is 0.
-   LICTOR_BAD_CODE leaves place as it was. LICTOR_BAD_CODE, LICTOR_SIZE to LICTOR_COMPUTED. */
+   LICTOR_MISFIT leaves place as it was. LICTOR_MISFIT, LICTOR_SIZE to LICTOR_COMPUTED. */
 uint64_t lictor_brake_feasible(const struct lictor_numbers *numbers, const struct lictor_counts *counts,
                                const double center[192], const double scale[192], const double *position,
                                size_t position_count, const double *velocity, size_t velocity_count, const double *rows,
@@ -341,7 +341,7 @@ uint64_t lictor_brake_feasible(const struct lictor_numbers *numbers, const struc
                                struct lictor_forecast_reach *reach, uint64_t *place);
 
 /* The row that brakes, over the first dim numbers of out: the position inside its box, or the velocity ramped down. A position
-   or velocity may be short: what is missing counts as 0. LICTOR_BAD_CODE, LICTOR_SIZE to LICTOR_CHANNELS, LICTOR_SHORT to
+   or velocity may be short: what is missing counts as 0. LICTOR_MISFIT, LICTOR_SIZE to LICTOR_CHANNELS, LICTOR_SHORT to
    LICTOR_COMPUTED. */
 uint64_t lictor_brake_action(const struct lictor_numbers *numbers, const struct lictor_counts *counts,
                              const double center[192], const double scale[192], const double *position,
@@ -349,7 +349,7 @@ uint64_t lictor_brake_action(const struct lictor_numbers *numbers, const struct 
                              size_t out_count);
 
 /* The row that holds, over the first dim numbers of out: the latched position inside its box, or no velocity.
-   LICTOR_BAD_CODE, LICTOR_SIZE to LICTOR_CHANNELS, LICTOR_SHORT, LICTOR_NOT_FINITE. */
+   LICTOR_MISFIT, LICTOR_SIZE to LICTOR_CHANNELS, LICTOR_SHORT, LICTOR_NOT_FINITE. */
 uint64_t lictor_hold_action(const struct lictor_numbers *numbers, const struct lictor_counts *counts,
                             const double center[192], const double scale[192], const double *position,
                             size_t position_count, double *out, size_t out_count);

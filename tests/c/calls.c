@@ -67,8 +67,8 @@ static void trails(void) {
     EXPECT(lictor_trail_path(numbers, &marks, 2, 2, &x) == LICTOR_ACCEPTED && x == 5.0);
     EXPECT(lictor_trail_len(numbers, &marks, &held) == LICTOR_ACCEPTED && held == 2);
     marks.head = 256;
-    EXPECT(lictor_trail_len(numbers, &marks, &held) == LICTOR_BAD_CODE && held == 2);
-    EXPECT(lictor_trail_net(numbers, &marks, 2, 2, &x) == LICTOR_BAD_CODE && x == 5.0);
+    EXPECT(lictor_trail_len(numbers, &marks, &held) == LICTOR_MISFIT && held == 2);
+    EXPECT(lictor_trail_net(numbers, &marks, 2, 2, &x) == LICTOR_MISFIT && x == 5.0);
     marks.head = 32;
     EXPECT(lictor_trail_is_empty(numbers, &marks, &held) == LICTOR_SIZE && held == 2);
     EXPECT(lictor_trail_clear(numbers, &marks) == LICTOR_SIZE && marks.len == 2);
@@ -91,11 +91,11 @@ static void configuration(void) {
     c.mask = 4096, c.n_terms = 9, c.terms[0] = UINT64_MAX, n.tau = NAN;
     EXPECT(lictor_derive(&n, &c, center, scale, &d) == LICTOR_ACCEPTED);
     c.calibrated = 1;
-    EXPECT(lictor_derive(&n, &c, center, scale, &d) == LICTOR_BAD_CODE);
+    EXPECT(lictor_derive(&n, &c, center, scale, &d) == LICTOR_MISFIT);
     c.terms[0] = 1;
     EXPECT(lictor_derive(&n, &c, center, scale, &d) == LICTOR_SIZE);
     c.calibrated = 0, c.kind = 5;
-    EXPECT(lictor_derive(&n, &c, center, scale, &d) == LICTOR_BAD_CODE);
+    EXPECT(lictor_derive(&n, &c, center, scale, &d) == LICTOR_MISFIT);
     c.kind = LICTOR_OTHER, n.dt = 0.0;
     EXPECT(lictor_derive(&n, &c, center, scale, &d) == LICTOR_NUMBER && d.inv_dt == 2.0);
 }
@@ -122,7 +122,7 @@ static void checks(void) {
     EXPECT(out[0] == 3.0 * short_of && out[1] == 4.0 * short_of && out[2] == 7.0);
     EXPECT(ACTION(near) == LICTOR_ACCEPTED && m.trips == 0 && out[0] == 3.0 && out[1] == 4.0);
     c.clamp = 2;
-    EXPECT(CHUNK(far) == LICTOR_BAD_CODE && ACTION(far) == LICTOR_BAD_CODE && out[0] == 3.0 && m.trips == 0);
+    EXPECT(CHUNK(far) == LICTOR_MISFIT && ACTION(far) == LICTOR_MISFIT && out[0] == 3.0 && m.trips == 0);
     c.clamp = LICTOR_CLAMP_OFF, c.dim = 3;
     EXPECT(CHUNK(far) == LICTOR_NUMBER && speed == 5.0);
     n.norm_scale[2] = 1.0;
@@ -157,7 +157,7 @@ static void features(void) {
     EXPECT(TICK(0, 9, 2, 0) == LICTOR_ACCEPTED && m.valid == 63 + 64 + 128 + 256 && s.f[LICTOR_TCE] == 1.0);
     EXPECT(s.f[LICTOR_PATH_INEFF] == 1.0 && s.f[LICTOR_STALL] == 1.0 && t.header.t_emit == 1);
     t.kept.have_prev = 2;
-    EXPECT(TICK(0, 0, 1, 0) == LICTOR_BAD_CODE && lictor_tier1_reset(LICTOR_TIER1_PARTS(&t)) == LICTOR_BAD_CODE);
+    EXPECT(TICK(0, 0, 1, 0) == LICTOR_MISFIT && lictor_tier1_reset(LICTOR_TIER1_PARTS(&t)) == LICTOR_MISFIT);
     t.kept.have_prev = 1, t.samples.head = 32;
     EXPECT(TICK(0, 0, 1, 0) == LICTOR_SIZE && lictor_tier1_reset(LICTOR_TIER1_PARTS(&t)) == LICTOR_SIZE && t.held[0] == 1.0);
     t.samples.head = 20, c.dim = 2, n.norm_scale[1] = 1.0;
@@ -198,7 +198,7 @@ static void brakes(void) {
     c.kind = LICTOR_JOINT_VELOCITY;
     EXPECT(lictor_brake_action(&n, &c, center, scale, still, 1, far, 1, out, 0) == LICTOR_SHORT && out[0] == 0.0);
     c.kind = 5;
-    EXPECT(lictor_hold_action(&n, &c, center, scale, far, 1, out, 2) == LICTOR_BAD_CODE && out[0] == 0.0);
+    EXPECT(lictor_hold_action(&n, &c, center, scale, far, 1, out, 2) == LICTOR_MISFIT && out[0] == 0.0);
 }
 
 /* document 01: z (2,1), terms {0,1} and {0}: s = 2; tau 2 doesn't trip */
@@ -214,7 +214,7 @@ static void gate(void) {
     EXPECT(lictor_trip(center, scale, 1.0, 3, 2, terms, &s, &m, &trips) == LICTOR_ACCEPTED && trips == 1);
     EXPECT(lictor_aggregate(center, scale, 2.0, 3, 0, terms, &s, &m) == LICTOR_ACCEPTED && s.s == -INFINITY);
     m.fired = UINT64_MAX;
-    EXPECT(lictor_trip(center, scale, INFINITY, 3, 2, terms, &s, &m, &trips) == LICTOR_BAD_CODE && trips == 1);
+    EXPECT(lictor_trip(center, scale, INFINITY, 3, 2, terms, &s, &m, &trips) == LICTOR_MISFIT && trips == 1);
     EXPECT(lictor_time_bin(13, 200, &bin) == LICTOR_ACCEPTED && bin == 1);
     EXPECT(lictor_time_bin(13, 0, &bin) == LICTOR_STEPS && bin == 1);
 }

@@ -94,8 +94,9 @@ impl ChunkBuf {
         // SAFETY: the numbers are live.
         let held = unsafe { raw::lictor_held_rows(&self.data, self.horizon, self.dim, self.filled as u64) };
         let data = &self.data[..held];
-        let (horizon, dim) = if self.filled { (self.horizon, self.dim) } else { (0, 0) };
-        ChunkView { seq: self.seq, t_emit: self.t_emit, horizon, dim, exec_steps: self.exec_steps, data }
+        let sizes = (self.horizon, self.dim, self.exec_steps);
+        let (horizon, dim, exec_steps) = if self.filled { sizes } else { (0, 0, 0) };
+        ChunkView { seq: self.seq, t_emit: self.t_emit, horizon, dim, exec_steps, data }
     }
 
     /// Writes numbers over row `i`, the last row at or past the horizon, as many as both have.

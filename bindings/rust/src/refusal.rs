@@ -26,7 +26,7 @@ impl Refusal {
     pub const NOT_FINITE: u8 = 12;
     pub const COMPUTED: u8 = 13;
     /// The boundary's own: a code that is none of its kind, or a count that does not fit its field.
-    pub const BAD_CODE: u8 = 255;
+    pub const MISFIT: u8 = 255;
 
     /// What the number stands for.
     pub fn text(&self) -> &'static str {
@@ -44,7 +44,7 @@ impl Refusal {
             Self::SHORT => "a slice is too short",
             Self::NOT_FINITE => "an input number is not finite",
             Self::COMPUTED => "a computed number is not finite",
-            Self::BAD_CODE => "a code is none of its kind, or a count does not fit its field",
+            Self::MISFIT => "a code is none of its kind, or a count does not fit its field",
             _ => "an unknown refusal",
         }
     }

@@ -17,13 +17,13 @@ use window::Masked;
 use window::Recorded;
 
 // The number that is given: 255 where a code is none of its kind or a count does not fit its field.
-pub fn fitting(fits: bool, number: u8) -> u64
+pub(crate) fn fitting(fits: bool, number: u8) -> u64
     ensures { λ r. ⌜ r ≡ fitting fits number ⌝ }
 {
     if fits { number as u64 } else { 255 }
 }
 
-pub fn put_number(a: Number, value: &mut f64) -> u64
+pub(crate) fn put_number(a: Number, value: &mut f64) -> u64
     ensures { λ r. ⌜ NumberGiven a r (now (value .entry)) (now (value .exit)) ⌝ }
 {
     match a {
@@ -35,7 +35,7 @@ pub fn put_number(a: Number, value: &mut f64) -> u64
     }
 }
 
-pub fn put_filled(a: Filled, numbers: &mut [f64; 512], header: &mut [u64; 6]) -> u64
+pub(crate) fn put_filled(a: Filled, numbers: &mut [f64; 512], header: &mut [u64; 6]) -> u64
     ensures { λ r. ⌜ FilledGiven a r (now (numbers .entry)) (now (numbers .exit)) (now (header .entry)) (now (header .exit)) ⌝ }
 {
     let number = a.number as u64;
@@ -45,7 +45,7 @@ pub fn put_filled(a: Filled, numbers: &mut [f64; 512], header: &mut [u64; 6]) ->
     number
 }
 
-pub fn put_mask(a: Masked, mask: &mut u64) -> u64
+pub(crate) fn put_mask(a: Masked, mask: &mut u64) -> u64
     ensures { λ r. ⌜ MaskGiven a r (now (mask .entry)) (now (mask .exit)) ⌝ }
 {
     match a {
@@ -57,7 +57,12 @@ pub fn put_mask(a: Masked, mask: &mut u64) -> u64
     }
 }
 
-pub fn put_recorded(fits: bool, a: Recorded, numbers: &mut [f64; 256], marks: &mut [u64; 2]) -> u64
+pub(crate) fn put_recorded(
+    fits: bool,
+    a: Recorded,
+    numbers: &mut [f64; 256],
+    marks: &mut [u64; 2],
+) -> u64
     ensures { λ r. ⌜ RecordedGiven fits a r (now (numbers .entry)) (now (numbers .exit)) (now (marks .entry)) (now (marks .exit)) ⌝ }
 {
     let number = fitting(fits, a.number);
@@ -67,7 +72,7 @@ pub fn put_recorded(fits: bool, a: Recorded, numbers: &mut [f64; 256], marks: &m
     number
 }
 
-pub fn put_trail_number(fits: bool, a: Number, value: &mut f64) -> u64
+pub(crate) fn put_trail_number(fits: bool, a: Number, value: &mut f64) -> u64
     ensures { λ r. ⌜ TrailNumberGiven fits a r (now (value .entry)) (now (value .exit)) ⌝ }
 {
     if !fits {
@@ -76,7 +81,7 @@ pub fn put_trail_number(fits: bool, a: Number, value: &mut f64) -> u64
     put_number(a, value)
 }
 
-pub fn put_count(fits: bool, a: Count, len: &mut u64) -> u64
+pub(crate) fn put_count(fits: bool, a: Count, len: &mut u64) -> u64
     ensures { λ r. ⌜ CountGiven fits a r (now (len .entry)) (now (len .exit)) ⌝ }
 {
     if !fits {
@@ -91,7 +96,7 @@ pub fn put_count(fits: bool, a: Count, len: &mut u64) -> u64
     }
 }
 
-pub fn put_emptiness(fits: bool, a: Emptiness, empty: &mut u64) -> u64
+pub(crate) fn put_emptiness(fits: bool, a: Emptiness, empty: &mut u64) -> u64
     ensures { λ r. ⌜ EmptinessGiven fits a r (now (empty .entry)) (now (empty .exit)) ⌝ }
 {
     if !fits {
@@ -106,7 +111,7 @@ pub fn put_emptiness(fits: bool, a: Emptiness, empty: &mut u64) -> u64
     }
 }
 
-pub fn put_derived(number: u64, d: Derived, derived: &mut [f64; 29]) -> u64
+pub(crate) fn put_derived(number: u64, d: Derived, derived: &mut [f64; 29]) -> u64
     ensures { λ r. ⌜ DerivedGiven number d r (now (derived .entry)) (now (derived .exit)) ⌝ }
 {
     if number == 0 {
@@ -115,7 +120,7 @@ pub fn put_derived(number: u64, d: Derived, derived: &mut [f64; 29]) -> u64
     number
 }
 
-pub fn put_check(a: Check, marks: &mut [u64; 2], speed: &mut f64) -> u64
+pub(crate) fn put_check(a: Check, marks: &mut [u64; 2], speed: &mut f64) -> u64
     ensures { λ r. ⌜ CheckPut a r (now (marks .entry)) (now (marks .exit)) (now (speed .entry)) (now (speed .exit)) ⌝ }
 {
     match a {
@@ -132,7 +137,7 @@ pub fn put_check(a: Check, marks: &mut [u64; 2], speed: &mut f64) -> u64
     }
 }
 
-pub fn put_cleared(
+pub(crate) fn put_cleared(
     fits: bool,
     a: Cleared,
     rows: &mut [f64; 512],
@@ -156,7 +161,12 @@ pub fn put_cleared(
     number
 }
 
-pub fn put_forecast(a: BrakeOut, marks: &mut [u64; 2], reach: &mut [f64; 2], place: &mut u64) -> u64
+pub(crate) fn put_forecast(
+    a: BrakeOut,
+    marks: &mut [u64; 2],
+    reach: &mut [f64; 2],
+    place: &mut u64,
+) -> u64
     ensures { λ r. ⌜ ForecastPut a r (now (marks .entry)) (now (marks .exit)) (now (reach .entry)) (now (reach .exit)) (now (place .entry)) (now (place .exit)) ⌝ }
 {
     match a {
@@ -178,7 +188,7 @@ pub fn put_forecast(a: BrakeOut, marks: &mut [u64; 2], reach: &mut [f64; 2], pla
 }
 
 // A row is written by its entry; C is given the number.
-pub fn sent(a: Sent) -> u64
+pub(crate) fn sent(a: Sent) -> u64
     ensures { λ r. ⌜ r ≡ sentNumber a ⌝ }
 {
     match a {
@@ -187,7 +197,7 @@ pub fn sent(a: Sent) -> u64
     }
 }
 
-pub fn put_scored(fits: bool, a: Scored, scores: &mut [f64; 25], marks: &mut [u64; 2]) -> u64
+pub(crate) fn put_scored(fits: bool, a: Scored, scores: &mut [f64; 25], marks: &mut [u64; 2]) -> u64
     ensures { λ r. ⌜ ScoredGiven fits a r (now (scores .entry)) (now (scores .exit)) (now (marks .entry)) (now (marks .exit)) ⌝ }
 {
     let number = fitting(fits, a.refusal.number);
@@ -197,7 +207,7 @@ pub fn put_scored(fits: bool, a: Scored, scores: &mut [f64; 25], marks: &mut [u6
     number
 }
 
-pub fn put_verdict(fits: bool, a: Verdict, trips: &mut u64) -> u64
+pub(crate) fn put_verdict(fits: bool, a: Verdict, trips: &mut u64) -> u64
     ensures { λ r. ⌜ VerdictGiven fits a r (now (trips .entry)) (now (trips .exit)) ⌝ }
 {
     if !fits {
@@ -212,7 +222,7 @@ pub fn put_verdict(fits: bool, a: Verdict, trips: &mut u64) -> u64
     }
 }
 
-pub fn put_bin(a: TimeBin, bin: &mut u64) -> u64
+pub(crate) fn put_bin(a: TimeBin, bin: &mut u64) -> u64
     ensures { λ r. ⌜ BinGiven a r (now (bin .entry)) (now (bin .exit)) ⌝ }
 {
     match a {

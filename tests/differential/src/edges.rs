@@ -3,7 +3,7 @@
 
 use std::fmt::Debug;
 
-use model::{envelope, tier0, Calibration, ChunkView, ContactLimit, FuseConfig, Refusal, CONTACT};
+use model::{envelope, tier0, ChunkView, ContactLimit, FuseConfig, Refusal, CONTACT};
 
 use crate::port::Port;
 
@@ -22,22 +22,6 @@ struct Case {
     due: u8,
 }
 
-/// Two axes in -1..1, a zone, a calibration, nothing armed: everything that can be judged is there, and accepted.
-fn whole() -> FuseConfig {
-    FuseConfig {
-        dim: 2,
-        pos_dim: 2,
-        box_lo: [-1.0; 8],
-        box_hi: [1.0; 8],
-        contact: Some(ContactLimit { radius: 1.0, v_max: 1.0, a0: 0, a1: 1 }),
-        aux_count: 2,
-        calibrated: true,
-        cal: Calibration { mask: 0xfff, n_terms: 8, terms: [0xfff; 8], ..Calibration::DISARMED },
-        horizon_ticks: 1,
-        ..FuseConfig::PLAIN
-    }
-}
-
 fn zone(c: &mut FuseConfig) -> &mut ContactLimit {
     c.contact.as_mut().expect("a zone is configured")
 }
@@ -50,7 +34,7 @@ fn at<T: Copy + Debug>(
     values: &[(T, u8)],
 ) -> Condition {
     let case = |&(value, due): &(T, u8)| {
-        let mut cfg = whole();
+        let mut cfg = FuseConfig::WHOLE;
         set(&mut cfg, value);
         Case { value: format!("{value:?}"), cfg, due }
     };

@@ -37,6 +37,7 @@ pub fn port() -> Port {
         check_chunk: Some(|c, pos, aux, ch, out| found(tier0::check_chunk(&config(c), pos, aux, chunk_view(&ch), out))),
         check_action: Some(|c, pos, aux, prev, a, out| found(tier0::check_action(&config(c), pos, aux, prev, a, out))),
         features: Some(features),
+        reset: Some(|rt| on_state(rt, |lent| answer(lent.reset()))),
         brake_feasible: Some(|c, p, v, ch, from, slacks| {
             answer(brake::brake_feasible(&config(c), p, v, chunk_view(&ch), from, slacks)).map(forecast)
         }),
@@ -137,6 +138,16 @@ pub fn state(rt: &Tier1Rt) -> tier1::Tier1 {
     tier1::Tier1 { prev: chunk_buf(&rt.prev), have_prev, trail: trail(&rt.trail), held, held_valid }
 }
 
+/// A call that is lent the state.
+fn on_state(rt: &mut Tier1Rt, call: impl FnOnce(&mut tier1::Tier1) -> Answer<()>) -> Answer<()> {
+    let mut lent = state(rt);
+    let said = call(&mut lent);
+    keep(&mut rt.prev, &lent.prev);
+    keep_trail(&mut rt.trail, &lent.trail);
+    (rt.have_prev, rt.held, rt.held_valid) = (lent.have_prev, lent.held, lent.held_valid);
+    said
+}
+
 fn features(
     c: &FuseConfig,
     rt: &mut Tier1Rt,
@@ -145,12 +156,8 @@ fn features(
     new: Option<ChunkView<'_>>,
     sc: &mut Scores,
 ) -> Answer<()> {
-    let (c, mut lent) = (config(c), state(rt));
-    let said = on_scores(sc, |s| tier1::features(&c, &mut lent, pos, ext, new.as_ref().map(chunk_view), s));
-    keep(&mut rt.prev, &lent.prev);
-    keep_trail(&mut rt.trail, &lent.trail);
-    (rt.have_prev, rt.held, rt.held_valid) = (lent.have_prev, lent.held, lent.held_valid);
-    said
+    let (c, new) = (config(c), new.as_ref().map(chunk_view));
+    on_state(rt, |lent| on_scores(sc, |s| tier1::features(&c, lent, pos, ext, new, s)))
 }
 
 pub fn calibration(c: &Calibration) -> conformal::Calibration {

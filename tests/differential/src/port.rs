@@ -30,6 +30,7 @@ pub type Derive = fn(&FuseConfig) -> Answer<Derived>;
 pub type CheckChunk = fn(&FuseConfig, &[f64], &[f64], ChunkView<'_>, &mut [f64]) -> Answer<Tier0Out>;
 pub type CheckAction = fn(&FuseConfig, &[f64], &[f64], &[f64], &[f64], &mut [f64]) -> Answer<Tier0Out>;
 pub type Features = fn(&FuseConfig, &mut Tier1Rt, &[f64], &[f64], Option<ChunkView<'_>>, &mut Scores) -> Answer<()>;
+pub type Reset = fn(&mut Tier1Rt) -> Answer<()>;
 pub type BrakeFeasible = fn(&FuseConfig, &[f64], &[f64], ChunkView<'_>, usize, &mut [f64]) -> Answer<BrakeOut>;
 pub type BrakeAction = fn(&FuseConfig, &[f64], &[f64], &mut [f64]) -> Answer<()>;
 pub type HoldAction = fn(&FuseConfig, &[f64], &mut [f64]) -> Answer<()>;
@@ -63,6 +64,7 @@ pub struct Port {
     pub check_chunk: Option<CheckChunk>,
     pub check_action: Option<CheckAction>,
     pub features: Option<Features>,
+    pub reset: Option<Reset>,
     pub brake_feasible: Option<BrakeFeasible>,
     pub brake_action: Option<BrakeAction>,
     pub hold_action: Option<HoldAction>,

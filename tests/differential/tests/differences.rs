@@ -27,7 +27,7 @@ fn rows(dim: usize, data: &[f64]) -> ChunkView<'_> {
 
 /// Trips of the Rust, and the model's answer without its rows.
 fn checked(cfg: &FuseConfig, pos: &[f64], aux: &[f64], ch: ChunkView<'_>) -> (u32, Result<u32, Refusal>) {
-    let mut out = [0.0; 64];
+    let mut out = [0.0; 65];
     let rust = oracle::check_chunk(cfg, pos, aux, ch, &mut out).trips;
     (rust, tier0::check_chunk(cfg, pos, aux, ch, &mut out).map(|r| r.trips))
 }
@@ -94,9 +94,44 @@ fn a_brake_that_does_not_brake() {
 }
 
 #[test]
+fn a_brake_to_the_upper_corner() {
+    let (cfg, p) = (boxed(1), [f64::NAN]);
+    let mut out = [0.0];
+    oracle::brake_action(&cfg, &p, &[0.0], &mut out);
+    assert_eq!(out, [1.0]);
+    assert_eq!(brake::brake_action(&cfg, &p, &[0.0], &mut out), refused(12));
+    out = [0.0];
+    oracle::hold_action(&cfg, &p, &mut out);
+    assert_eq!(out, [1.0]);
+    assert_eq!(brake::hold_action(&cfg, &p, &mut out), refused(12));
+}
+
+#[test]
 fn a_nan_row_that_raises_nothing() {
     let cfg = FuseConfig { armed: 63, ..boxed(1) };
     assert_eq!(checked(&cfg, &[0.0], &[], rows(1, &[f64::NAN; 3])), (0, refused(12)));
+}
+
+#[test]
+fn a_nan_action_predecessor_or_position_that_raises_nothing() {
+    let cfg = FuseConfig { armed: SPEED | REACH, ..boxed(1) };
+    let nan = [f64::NAN];
+    assert_eq!(checked(&cfg, &nan, &[], rows(1, &[9.0])), (0, refused(12)));
+    assert_eq!(checked(&cfg, &[0.0], &[], rows(1, &[9.0])), (SPEED | REACH, Ok(SPEED | REACH)));
+    let speed = FuseConfig { armed: SPEED, ..cfg };
+    for (prev, a) in [(&nan, &[9.0]), (&[0.0], &nan)] {
+        let (rust, _, model) = checked_action(&speed, &[], prev, a);
+        assert_eq!((rust.trips, model), (0, refused(12)));
+    }
+}
+
+#[test]
+fn a_slow_zone_around_a_nan() {
+    let contact = Some(ContactLimit { radius: 1.0, v_max: 1.0, a0: 0, a1: 1 });
+    let cfg = FuseConfig { armed: CONTACT, contact, aux_count: 2, ..boxed(2) };
+    let far = rows(2, &[9.0, 0.0]);
+    assert_eq!(checked(&cfg, &[0.0, 0.0], &[f64::NAN, 0.0], far), (0, refused(12)));
+    assert_eq!(checked(&cfg, &[0.0, 0.0], &[0.0, 0.0], far), (CONTACT, Ok(CONTACT)));
 }
 
 #[test]
@@ -148,7 +183,62 @@ fn a_gate_that_drops_a_nan() {
     assert_eq!(conformal::aggregate(&cal, &mut sc), refused(12));
 }
 
+/// A gate that asks for one feature, and trips where it is above 0.
+fn gated(feature: usize) -> Calibration {
+    let bit = 1 << feature;
+    Calibration { mask: bit, n_terms: 1, terms: [bit, 0, 0, 0, 0, 0, 0, 0], ..Calibration::DISARMED }
+}
+
+#[test]
+fn an_external_scalar_that_is_a_nan() {
+    let (cfg, ext, cal) = (boxed(1), [f64::NAN], gated(EXT0));
+    let mut rust = Scores::NEW;
+    oracle::features(&cfg, &mut Tier1Rt::NEW.clone(), &[], &ext, None, &mut rust);
+    assert!(rust.f[EXT0].is_nan() && rust.valid == 1 << EXT0);
+    oracle::standardise(&cal, 0, &mut rust);
+    assert!(oracle::aggregate(&cal, &mut rust).is_nan() && !oracle::trip(&cal, &rust));
+    let mut sc = Scores::NEW;
+    assert_eq!(tier1::features(&cfg, &mut Tier1Rt::NEW.clone(), &[], &ext, None, &mut sc), refused(12));
+    sc.f[EXT0] = f64::NAN;
+    assert_eq!(conformal::standardise(&cal, 0, &mut sc), refused(12));
+}
+
+#[test]
+fn a_score_that_is_a_nan() {
+    let sc = Scores { s: f64::NAN, ..Scores::NEW };
+    assert!(!oracle::trip(&Calibration::DISARMED, &sc));
+    assert_eq!(conformal::trip(&Calibration::DISARMED, &sc), refused(12));
+}
+
 // ---- the Rust's other numbers that are not finite ----
+
+#[test]
+fn a_brake_right_despite_an_overflow() {
+    let cfg = FuseConfig { kind: ActionKind::JointVelocity, a_max: MAX, dt: 2.0, ..boxed(1) };
+    let mut out = [7.0];
+    oracle::brake_action(&cfg, &[], &[1.0], &mut out);
+    assert_eq!(out, [0.0], "an infinite deceleration leaves no speed");
+    assert_eq!(brake::brake_action(&cfg, &[], &[1.0], &mut out), refused(13));
+}
+
+#[test]
+fn a_brake_from_a_nan_speed() {
+    let cfg = FuseConfig { kind: ActionKind::JointVelocity, ..boxed(1) };
+    let mut out = [7.0];
+    oracle::brake_action(&cfg, &[], &[f64::NAN], &mut out);
+    assert!(out[0].is_nan());
+    assert_eq!(brake::brake_action(&cfg, &[], &[f64::NAN], &mut out), refused(12));
+}
+
+#[test]
+fn a_nan_in_the_trail() {
+    let mut t = Trail::NEW;
+    let mut rust = t;
+    oracle::trail_push(&mut rust, &[f64::NAN], 1);
+    assert!(oracle::net(&rust, 1, 1).is_nan());
+    assert_eq!(window::trail_push(&mut t, &[f64::NAN], 1), refused(12));
+    assert_eq!(window::net(&rust, 1, 1), refused(12));
+}
 
 #[test]
 fn a_root_without_a_number() {
@@ -162,6 +252,12 @@ fn a_root_without_a_number() {
 fn a_norm_of_an_overflow() {
     assert_eq!(oracle::norm(&[1e200], 1), f64::INFINITY);
     assert_eq!(fmath::norm(&[1e200], 1), refused(13));
+}
+
+#[test]
+fn a_norm_of_a_nan() {
+    assert!(oracle::norm(&[f64::NAN], 1).is_nan());
+    assert_eq!(fmath::norm(&[f64::NAN], 1), refused(12));
 }
 
 #[test]
@@ -203,6 +299,10 @@ fn nine_coordinates() {
 fn a_fill_with_a_nan() {
     assert_eq!(oracle::fill(&mut ChunkBuf::NEW.clone(), 0, 0, 1, 1, 0, &[f64::NAN]), Ok(()));
     assert_eq!(chunk::fill(&mut ChunkBuf::NEW.clone(), 0, 0, 1, 1, 0, &[f64::NAN]), refused(12));
+    let mut buf = ChunkBuf::NEW;
+    oracle::copy_from(&mut buf, rows(1, &[f64::NAN]));
+    assert!(buf.filled && buf.data[0].is_nan());
+    assert_eq!(chunk::copy_from(&mut buf, rows(1, &[f64::NAN])), refused(12));
 }
 
 #[test]
@@ -222,16 +322,68 @@ fn a_view_of_no_chunk() {
     assert_eq!((seen.seq, seen.horizon, seen.dim, seen.data.len()), (3, 0, 0, 0));
 }
 
+/// The Rust's sizes are private, but `copy_from` takes any.
+#[test]
+fn a_held_chunk_larger_than_its_buffer() {
+    let buf = ChunkBuf { horizon: 65, dim: 32, filled: true, ..ChunkBuf::NEW };
+    assert!(catch_unwind(|| oracle::view(&buf)).is_err());
+    let seen = chunk::view(&buf);
+    assert_eq!((seen.horizon, seen.dim, seen.data.len()), (65, 32, 0));
+    assert!(catch_unwind(|| oracle::fill_row(&mut buf.clone(), 64, 1.0)).is_err());
+    assert!(chunk::row_mut(&mut buf.clone(), 64).is_empty());
+    let long = ChunkBuf { horizon: 513, dim: 1, ..buf };
+    assert_eq!(oracle::fill_row(&mut long.clone(), 512, 1.0), 1, "a row in the Rust's buffer");
+    assert!(chunk::row_mut(&mut long.clone(), 512).is_empty());
+}
+
+#[test]
+fn a_held_chunk_that_does_not_fit() {
+    let rt = Tier1Rt { prev: ChunkBuf { dim: 1, filled: true, ..ChunkBuf::NEW }, have_prev: true, ..Tier1Rt::NEW };
+    let one = rows(1, &[0.0]);
+    let (valid, model) = featured(&boxed(1), &rt, Some(one));
+    assert_eq!((valid & 1 << TCE, model), (0, refused(5)));
+    assert!(!oracle::reset(&rt).prev.filled);
+    assert_eq!(tier1::reset(&mut rt.clone()), refused(5));
+}
+
+/// The features that the Rust finds valid without a position, and the model's answer.
+fn featured(cfg: &FuseConfig, rt: &Tier1Rt, new: Option<ChunkView<'_>>) -> (u32, Result<(), Refusal>) {
+    let mut rust = Scores::NEW;
+    oracle::features(cfg, &mut rt.clone(), &[], &[], new, &mut rust);
+    (rust.valid, tier1::features(cfg, &mut rt.clone(), &[], &[], new, &mut Scores::NEW.clone()))
+}
+
 #[test]
 fn a_chunk_of_another_width() {
     let cfg = FuseConfig { armed: WORKSPACE, ..boxed(2) };
-    assert_eq!(checked(&cfg, &[0.0, 0.0], &[], rows(1, &[0.0])), (0, refused(10)));
+    let narrow = rows(1, &[0.0]);
+    assert_eq!(checked(&cfg, &[0.0, 0.0], &[], narrow), (0, refused(10)));
+    assert_eq!(featured(&cfg, &Tier1Rt::NEW, Some(narrow)), (1 << SPEED_PEAK, refused(10)));
+    let (feasible, margin, model) = forecast(&closed(2), &[0.0, 9.0], &[0.0, 0.0], narrow);
+    assert_eq!((feasible, margin, model), (true, 1.0, refused(10)), "the second axis is left out");
+}
+
+/// A kind that inspects the start.
+fn closed(dim: usize) -> FuseConfig {
+    let mut cfg = boxed(dim);
+    cfg.brake.kind = BrakeKind::BoundedAccel;
+    cfg
 }
 
 #[test]
 fn a_short_position() {
     let cfg = FuseConfig { armed: WORKSPACE, ..boxed(1) };
     assert_eq!(checked(&cfg, &[], &[], rows(1, &[9.0])), (0, refused(11)));
+    let (feasible, margin, model) = forecast(&closed(1), &[], &[9.0], rows(1, &[0.0]));
+    assert_eq!((feasible, margin, model), (true, f64::INFINITY, refused(11)));
+}
+
+#[test]
+fn a_short_velocity() {
+    let (feasible, margin, model) = forecast(&closed(1), &[9.0], &[], rows(1, &[0.0]));
+    assert_eq!((feasible, margin, model), (true, f64::INFINITY, refused(11)));
+    let (feasible, margin, _) = forecast(&closed(1), &[9.0], &[0.0], rows(1, &[0.0]));
+    assert_eq!((feasible, margin), (false, -8.0));
 }
 
 #[test]
@@ -240,6 +392,20 @@ fn a_short_predecessor() {
     let (rust, out, model) = checked_action(&cfg, &[], &[], &[9.0]);
     assert_eq!((rust.trips, out), (0, 7.0), "nothing is checked or written");
     assert_eq!(model, refused(11));
+    oracle::brake_action(&cfg, &[0.0], &[0.0], &mut []);
+    assert_eq!(brake::brake_action(&cfg, &[0.0], &[0.0], &mut []), refused(11));
+    oracle::hold_action(&cfg, &[0.0], &mut []);
+    assert_eq!(brake::hold_action(&cfg, &[0.0], &mut []), refused(11));
+}
+
+#[test]
+fn an_output_for_the_rows_alone() {
+    let (cfg, ch) = (boxed(1), ChunkView { seq: 3, ..rows(1, &[0.0]) });
+    let mut buf = oracle::rust::ChunkBuf::new();
+    let seen = oracle::obs(&[0.0], &[], &[]);
+    oracle::rust::tier0::check_chunk(&oracle::config(&cfg), seen, oracle::chunk_view(ch), &mut buf);
+    assert_eq!(buf.view().map(|v| v.seq), Some(3));
+    assert_eq!(tier0::check_chunk(&cfg, &[0.0], &[], ch, &mut []), refused(11));
 }
 
 #[test]
@@ -248,6 +414,14 @@ fn a_chunk_that_does_not_fit_its_sizes() {
     assert_eq!(checked(&cfg, &[0.0], &[], rows(1, &[])), (0, refused(5)));
     assert_eq!(checked(&cfg, &[0.0], &[], ChunkView { exec_steps: 2, ..rows(1, &[9.0]) }), (WORKSPACE, refused(8)));
     assert_eq!(checked(&cfg, &[0.0], &[], ChunkView { horizon: 2, ..rows(1, &[9.0]) }), (WORKSPACE, refused(9)));
+    let mut long = [0.0; 65];
+    long[64] = 9.0;
+    assert_eq!(checked(&cfg, &[0.0], &[], rows(1, &long)), (0, refused(6)), "the last row is not checked");
+    assert_eq!(featured(&cfg, &Tier1Rt::NEW, Some(rows(1, &[]))), (0, refused(5)));
+    let mut cfg = cfg;
+    cfg.brake.commit = 1;
+    let (feasible, margin, model) = forecast(&cfg, &[0.0], &[0.0], ChunkView { horizon: 1, ..rows(1, &[]) });
+    assert_eq!((feasible, margin, model), (true, 1.0, refused(9)), "a row that is not there moves nothing");
 }
 
 #[test]
@@ -255,6 +429,49 @@ fn a_nan_that_is_not_read() {
     let cfg = FuseConfig { armed: WORKSPACE, ..boxed(1) };
     assert_eq!(checked(&cfg, &[0.0], &[f64::NAN], rows(1, &[9.0])), (WORKSPACE, refused(12)));
     assert_eq!(checked(&cfg, &[0.0, f64::NAN], &[], rows(1, &[9.0])), (WORKSPACE, refused(12)));
+    let (rust, _, model) = checked_action(&cfg, &[], &[0.0, f64::NAN], &[9.0, f64::NAN]);
+    assert_eq!((rust.trips, model), (WORKSPACE, refused(12)));
+    let (feasible, margin, model) = forecast(&boxed(1), &[0.0], &[0.0, f64::NAN], rows(1, &[f64::NAN]));
+    assert_eq!((feasible, margin, model), (true, f64::INFINITY, refused(12)));
+    assert_eq!((oracle::norm(&[5.0, f64::NAN], 1), fmath::norm(&[5.0, f64::NAN], 1)), (5.0, refused(12)));
+    let mut out = [7.0];
+    let velocities = FuseConfig { kind: ActionKind::JointVelocity, ..boxed(1) };
+    oracle::hold_action(&velocities, &[f64::NAN], &mut out);
+    assert_eq!((out, brake::hold_action(&velocities, &[f64::NAN], &mut out.clone())), ([0.0], refused(12)));
+}
+
+#[test]
+fn a_nan_score_that_is_not_read() {
+    let (cal, mut sc) = (Calibration::DISARMED, Scores { s: f64::NAN, ..Scores::NEW });
+    assert_eq!(oracle::aggregate(&cal, &mut sc.clone()), f64::NEG_INFINITY);
+    assert_eq!(conformal::aggregate(&cal, &mut sc.clone()), refused(12));
+    sc.f[0] = f64::NAN;
+    let mut rust = sc;
+    oracle::standardise(&cal, 0, &mut rust);
+    assert_eq!((rust.z, conformal::standardise(&cal, 0, &mut sc)), ([0.0; NFEAT], refused(12)));
+}
+
+#[test]
+fn a_nan_that_is_held_and_not_read() {
+    let mut trail = Trail::NEW;
+    trail.buf[255] = f64::NAN;
+    assert_eq!((oracle::net(&trail, 8, 1), window::net(&trail, 8, 1)), (0.0, refused(12)));
+    assert_eq!((oracle::path(&trail, 8, 2), window::path(&trail, 8, 2)), (0.0, refused(12)));
+    assert_eq!((oracle::trail_len(&trail), window::trail_len(&trail)), ((0, true), refused(12)));
+    let mut pushed = trail;
+    assert_eq!(window::trail_push(&mut pushed, &[1.0], 1), refused(12));
+    oracle::trail_push(&mut pushed, &[1.0], 1);
+    assert_eq!((pushed.head, pushed.len), (1, 1));
+    assert_eq!(window::trail_clear(&mut pushed), refused(12));
+    oracle::trail_clear(&mut pushed);
+    assert_eq!((pushed.head, pushed.len), (0, 0));
+    let prev = ChunkBuf { data: [f64::NAN; 512], horizon: 1, dim: 1, filled: true, ..ChunkBuf::NEW };
+    let held = [f64::NAN; HELD];
+    for rt in [Tier1Rt { trail, ..Tier1Rt::NEW }, Tier1Rt { held, ..Tier1Rt::NEW }, Tier1Rt { prev, ..Tier1Rt::NEW }] {
+        assert_eq!(featured(&boxed(1), &rt, None), (0, refused(12)));
+        assert_eq!(oracle::reset(&rt).held, [0.0; HELD]);
+        assert_eq!(tier1::reset(&mut rt.clone()), refused(12));
+    }
 }
 
 #[test]
@@ -264,10 +481,24 @@ fn a_norm_past_its_slice() {
 }
 
 #[test]
-fn a_trail_head_out_of_size() {
+fn a_trail_out_of_size() {
     let trail = Trail { head: 32, ..Trail::NEW };
     assert!(catch_unwind(|| oracle::trail_push(&mut trail.clone(), &[1.0], 1)).is_err());
     assert_eq!(window::trail_push(&mut trail.clone(), &[1.0], 1), refused(1));
+    assert_eq!((oracle::net(&trail, 1, 1), window::net(&trail, 1, 1)), (0.0, refused(1)));
+    let trail = Trail { len: 33, ..Trail::NEW };
+    assert_eq!((oracle::trail_len(&trail), window::trail_len(&trail)), ((33, false), refused(1)));
+}
+
+#[test]
+fn a_trail_of_nine_coordinates() {
+    let (start, end) = ([0.0; 9], [0.0, 0.0, 0.0, 0.0, 0.0, 0.0, 0.0, 0.0, 1.0]);
+    let (mut rust, mut t) = (oracle::rust::window::Trail::new(), Trail::NEW);
+    for p in [start, end] {
+        rust.push(&p, 9);
+        assert_eq!(window::trail_push(&mut t, &p, 9), Ok(()));
+    }
+    assert_eq!((rust.net(9, 2), window::net(&t, 9, 2)), (1.0, Ok(0.0)));
 }
 
 #[test]
@@ -288,9 +519,36 @@ fn a_scale_of_zero_and_an_infinite_tau() {
     oracle::standardise(&flat, 0, &mut rust);
     assert!(rust.z[0].is_nan());
     assert_eq!(conformal::standardise(&flat, 0, &mut sc), refused(2));
-    let never = Calibration { tau: f64::INFINITY, ..Calibration::DISARMED };
-    assert!(!oracle::trip(&never, &sc));
-    assert_eq!(conformal::trip(&never, &sc), refused(2));
+    sc.s = 1.0;
+    for tau in [f64::INFINITY, f64::NAN] {
+        let never = Calibration { tau, ..Calibration::DISARMED };
+        assert!(!oracle::trip(&never, &sc));
+        assert_eq!(conformal::trip(&never, &sc), refused(2));
+    }
+}
+
+#[test]
+fn a_negative_scale_and_a_center_that_is_a_nan() {
+    let mut sc = Scores { valid: 1, ..Scores::NEW };
+    sc.f[0] = 3.0;
+    let turned = Calibration { scale: [-1.0; 192], ..gated(TCE) };
+    let unread = Calibration { center: [f64::NAN; 192], ..Calibration::DISARMED };
+    for (cal, z) in [(turned, -3.0), (unread, 0.0)] {
+        let mut rust = sc;
+        oracle::standardise(&cal, 0, &mut rust);
+        assert_eq!((rust.z[0], conformal::standardise(&cal, 0, &mut sc.clone())), (z, refused(2)));
+    }
+}
+
+/// Each entry judges the whole configuration; the Rust's functions judge none.
+#[test]
+fn a_configuration_made_by_hand() {
+    let crossed = FuseConfig { box_lo: [1.0; 8], box_hi: [-1.0; 8], ..boxed(1) };
+    let mut out = [0.0];
+    oracle::hold_action(&crossed, &[0.0], &mut out);
+    assert_eq!((out, brake::hold_action(&crossed, &[0.0], &mut out.clone())), ([1.0], refused(2)));
+    let unread = FuseConfig { j_max: f64::NAN, armed: WORKSPACE, ..boxed(1) };
+    assert_eq!(checked(&unread, &[0.0], &[], rows(1, &[9.0])), (WORKSPACE, refused(2)));
 }
 
 #[test]
@@ -358,15 +616,19 @@ fn substeps_that_do_not_fill_the_period() {
 }
 
 #[test]
-fn the_second_order_kind_with_velocity_actions() {
-    only_the_rust_refuses(FuseConfig { kind: ActionKind::JointVelocity, ..compiled() }, compiled());
+fn the_second_order_kind_without_position_actions() {
+    for kind in [ActionKind::JointVelocity, ActionKind::EeDelta, ActionKind::Other] {
+        only_the_rust_refuses(FuseConfig { kind, ..compiled() }, compiled());
+    }
 }
 
 #[test]
-fn zero_velocity_hold_with_position_actions() {
+fn zero_velocity_hold_without_velocity_actions() {
     let mut bad = compiled();
     bad.brake.kind = BrakeKind::ZeroVelocityHold;
-    only_the_rust_refuses(bad, FuseConfig { kind: ActionKind::EeDelta, ..bad });
+    for kind in [ActionKind::EePosition, ActionKind::JointPosition, ActionKind::Other] {
+        only_the_rust_refuses(FuseConfig { kind, ..bad }, FuseConfig { kind: ActionKind::EeDelta, ..bad });
+    }
 }
 
 #[test]
@@ -377,6 +639,13 @@ fn contact_armed_without_a_zone() {
 #[test]
 fn seventeen_aux_numbers() {
     only_the_rust_refuses(FuseConfig { aux_count: 17, ..compiled() }, FuseConfig { aux_count: 16, ..compiled() });
+}
+
+#[test]
+fn no_ticks_without_a_calibration() {
+    assert_eq!(envelope::judge(&FuseConfig { horizon_ticks: 0, ..compiled() }), None);
+    assert!(oracle::compile_with_ticks(&compiled(), 0).is_err());
+    assert_eq!(oracle::compile_with_ticks(&compiled(), 1), Ok(()));
 }
 
 /// The gate's mask is asked for by `compile`; here any mask of the twelve features stands beside any terms.
@@ -419,4 +688,16 @@ fn more_than_4096_substeps_in_all() {
 fn a_zone_with_one_channel_twice() {
     let contact = Some(ContactLimit { radius: 1.0, v_max: 1.0, a0: 0, a1: 0 });
     only_the_port_refuses(FuseConfig { contact, aux_count: 1, ..compiled() }, 4);
+}
+
+#[test]
+fn a_calibration_out_of_size_or_range() {
+    let nine = Calibration { n_terms: 9, ..Calibration::DISARMED };
+    let flat = Calibration { scale: [0.0; 192], ..Calibration::DISARMED };
+    let unknown = Calibration { center: [f64::NAN; 192], ..Calibration::DISARMED };
+    let never = Calibration { tau: f64::INFINITY, ..Calibration::DISARMED };
+    for (cal, number) in [(nine, 1), (gated(12), 1), (flat, 2), (unknown, 2), (never, 2)] {
+        assert_eq!(envelope::judge_calibration(&cal), Some(number));
+        assert_eq!(oracle::compile_calibrated(&compiled(), &cal), Ok(()));
+    }
 }

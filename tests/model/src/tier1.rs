@@ -26,6 +26,15 @@ fn judge_state(rt: &Tier1Rt) -> Option<u8> {
     judge_numbers(&rt.trail).or(not_finite(&rt.held)).or(rows)
 }
 
+/// Forgets the chunk before, the trail's samples and the held features.
+pub fn reset(rt: &mut Tier1Rt) -> Result<(), Refusal> {
+    lowest(&[judge_size(&rt.trail), chunk::judge_held(&rt.prev), judge_state(rt)])?;
+    rt.prev.filled = false;
+    (rt.trail.head, rt.trail.len) = (0, 0);
+    *rt = Tier1Rt { prev: rt.prev, trail: rt.trail, ..Tier1Rt::NEW };
+    Ok(())
+}
+
 pub fn features(
     cfg: &FuseConfig,
     rt: &mut Tier1Rt,

@@ -168,6 +168,20 @@ impl FuseConfig {
         cal: Calibration::DISARMED,
         horizon_ticks: 0,
     };
+
+    /// Two axes in -1..1, a zone, a calibration, nothing armed: everything that can be judged is there, and accepted.
+    pub const WHOLE: Self = Self {
+        dim: 2,
+        pos_dim: 2,
+        box_lo: [-1.0; MAX_POS],
+        box_hi: [1.0; MAX_POS],
+        contact: Some(ContactLimit { radius: 1.0, v_max: 1.0, a0: 0, a1: 1 }),
+        aux_count: 2,
+        calibrated: true,
+        cal: Calibration { mask: 0xfff, n_terms: 8, terms: [0xfff; MAX_TERMS], ..Calibration::DISARMED },
+        horizon_ticks: 1,
+        ..Self::PLAIN
+    };
 }
 
 impl core::fmt::Debug for FuseConfig {
@@ -225,9 +239,9 @@ impl ChunkBuf {
     pub const NEW: Self =
         Self { data: [0.0; MAX_H * MAX_D], seq: 0, t_emit: 0, horizon: 0, dim: 0, exec_steps: 0, filled: false };
 
-    /// The numbers of its rows, as far as the buffer goes.
+    /// The numbers of its rows; none where the buffer has fewer.
     pub fn rows(&self) -> &[f64] {
-        &self.data[..(self.horizon as usize * self.dim as usize).min(MAX_H * MAX_D)]
+        self.data.get(..self.horizon as usize * self.dim as usize).unwrap_or(&[])
     }
 }
 

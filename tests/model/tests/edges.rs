@@ -2,27 +2,9 @@
 
 use model::*;
 
-/// Two axes in -1..1, a zone, a calibration: everything that can be judged is there, and accepted.
-fn whole() -> FuseConfig {
-    let mut cal = Calibration { mask: 0xfff, n_terms: 8, terms: [0xfff; 8], tau: 1.0, ..Calibration::DISARMED };
-    cal.center = [0.5; 192];
-    FuseConfig {
-        dim: 2,
-        pos_dim: 2,
-        box_lo: [-1.0; 8],
-        box_hi: [1.0; 8],
-        contact: Some(ContactLimit { radius: 1.0, v_max: 1.0, a0: 0, a1: 1 }),
-        aux_count: 2,
-        calibrated: true,
-        cal,
-        horizon_ticks: 1,
-        ..FuseConfig::PLAIN
-    }
-}
-
 /// What the configuration is answered after one change.
 fn judged(change: impl Fn(&mut FuseConfig)) -> Option<u8> {
-    let mut c = whole();
+    let mut c = FuseConfig::WHOLE;
     change(&mut c);
     let number = envelope::judge(&c);
     assert_eq!(envelope::derive(&c).err().map(|r| r.number), number);
@@ -192,7 +174,7 @@ fn chunks() {
 /// The number that `features` gives for a lent chunk and a held one.
 fn featured(new: Option<ChunkView<'_>>, held: ChunkBuf) -> Option<u8> {
     let mut rt = Tier1Rt { prev: held, ..Tier1Rt::NEW };
-    tier1::features(&whole(), &mut rt, &[], &[], new, &mut Scores::NEW.clone()).err().map(|r| r.number)
+    tier1::features(&FuseConfig::WHOLE, &mut rt, &[], &[], new, &mut Scores::NEW.clone()).err().map(|r| r.number)
 }
 
 #[test]
@@ -215,7 +197,7 @@ fn two_chunks() {
 
 #[test]
 fn slices_of_a_check() {
-    let cfg = whole();
+    let cfg = FuseConfig::WHOLE;
     let rows = view(1, 2, 0, &[0.0, 0.0]);
     let number = |pos: &[f64], aux: &[f64], out: usize| {
         tier0::check_chunk(&cfg, pos, aux, rows, &mut vec![f64::NAN; out]).err().map(|r| r.number)
@@ -230,7 +212,7 @@ fn slices_of_a_check() {
 
 #[test]
 fn slack_entries() {
-    let mut cfg = whole();
+    let mut cfg = FuseConfig::WHOLE;
     (cfg.brake.commit, cfg.brake.brake_steps, cfg.brake.substeps) = (2, 1, 3);
     let rows = view(1, 2, 0, &[0.0, 0.0]);
     let number = |cfg: &FuseConfig, from: usize, room: usize| {

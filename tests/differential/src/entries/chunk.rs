@@ -115,7 +115,9 @@ pub struct RowIn {
 
 fn row_in(rng: &mut Rng) -> RowIn {
     let dim = rng.within(1, MAX_D);
-    let buf = chunk_buf(rng, Field(1.0), dim);
+    let mut buf = chunk_buf(rng, Field(1.0), dim);
+    // a cleared buffer keeps its header
+    buf.filled &= !rng.one_in(4);
     let h = buf.horizon as usize;
     RowIn { buf, i: rng.pick(&[0, 1, h.saturating_sub(1), h, h + 1, usize::MAX]) }
 }
@@ -156,9 +158,7 @@ pub fn row_mut(port: &Port) -> Entry<RowIn> {
 fn viewed(f: View, i: &RowIn) -> Outcome {
     let v = f(&i.buf);
     let header = [v.seq as u64, v.t_emit as u64, v.horizon as u64, v.dim as u64, v.exec_steps as u64];
-    // an unfilled view has sizes 0; of its other numbers document 01 says nothing
-    let counts = if i.buf.filled { header.to_vec() } else { header[2..4].to_vec() };
-    accepted(Shown { numbers: v.data.to_vec(), counts })
+    accepted(Shown { numbers: v.data.to_vec(), counts: header.to_vec() })
 }
 
 /// The Rust has no view of an unfilled buffer.

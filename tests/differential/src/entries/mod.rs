@@ -37,6 +37,7 @@ pub fn all(port: &Port) -> Vec<Task> {
         window::path(port).task(),
         window::trail_len(port).task(),
         window::trail_clear(port).task(),
+        tier1::reset(port).task(),
         window::window_run(port).task(),
         window::mask(port).task(),
         window::push(port).task(),

@@ -1,8 +1,8 @@
 //! Module 6.
 
-use model::{tier1 as rule, window, FuseConfig, Refusal, Scores, Tier1Rt, Trail};
+use model::{tier1 as rule, window, FuseConfig, Refusal, Scores, Tier1Rt, Trail, MAX_D};
 
-use super::{all_finite, chunk::shown as chunk_shown, nothing, window::shown as trail_shown};
+use super::{all_finite, chunk::shown as chunk_shown, none, nothing, window::shown as trail_shown};
 use crate::{
     input::{
         chunk, chunk_buf, chunk_buf_parts, config, config_parts, held, narrower_config, scores, scores_parts, trail,
@@ -10,7 +10,7 @@ use crate::{
     },
     number::Field,
     part::Part,
-    port::{Features, Port, TrailPush},
+    port::{Features, Port, Reset, TrailPush},
     rng::Rng,
     run::{Entry, Outcome, Shown},
 };
@@ -35,16 +35,20 @@ fn shown(rt: &Tier1Rt, sc: &Scores) -> Shown {
     s
 }
 
-fn generate(rng: &mut Rng) -> FeaturesIn {
-    let field = Field::new(rng);
-    let cfg = config(rng, field);
-    let rt = Tier1Rt {
-        prev: chunk_buf(rng, field, cfg.dim),
+fn state(rng: &mut Rng, field: Field, dim: usize) -> Tier1Rt {
+    Tier1Rt {
+        prev: chunk_buf(rng, field, dim),
         have_prev: !rng.one_in(6),
         trail: trail(rng, field),
         held: held(rng, field),
         held_valid: rng.below(128) as u32,
-    };
+    }
+}
+
+fn generate(rng: &mut Rng) -> FeaturesIn {
+    let field = Field::new(rng);
+    let cfg = config(rng, field);
+    let rt = state(rng, field, cfg.dim);
     let (pos, ext) = (rng.within(cfg.pos_dim.saturating_sub(2), cfg.pos_dim + 1), rng.below(7));
     let new = (!rng.one_in(4)).then(|| chunk(rng, field, cfg.dim));
     let (pos, ext) = (field.numbers(rng, pos), field.numbers(rng, ext));
@@ -113,6 +117,39 @@ pub fn features(port: &Port) -> Entry<FeaturesIn> {
         rust: Box::new(|i| Some(computed(rust_features, i))),
         port: port.features.map(|f| Box::new(move |i: &FeaturesIn| computed(f, i)) as _),
     }
+}
+
+fn let_go(f: Reset, i: &Tier1Rt) -> Outcome {
+    let mut rt = *i;
+    let answer = f(&mut rt);
+    Outcome { answer: answer.map(|()| Shown::default()), buffers: shown(&rt, &Scores::NEW) }
+}
+
+pub fn reset(port: &Port) -> Entry<Tier1Rt> {
+    Entry {
+        name: "reset",
+        generate: |rng| {
+            let (field, dim) = (Field::new(rng), rng.within(1, MAX_D));
+            state(rng, field, dim)
+        },
+        parts: |i| {
+            let mut parts = chunk_buf_parts(&mut i.prev);
+            parts.extend(trail_parts(&mut i.trail));
+            parts.extend([Part::Flag(&mut i.have_prev), Part::Table(&mut i.held, 0.0), Part::Bits(&mut i.held_valid)]);
+            parts
+        },
+        narrower: none,
+        before: |i| shown(i, &Scores::NEW),
+        model: Box::new(|i| let_go(rule::reset, i)),
+        rust: Box::new(|i| Some(let_go(rust_reset, i))),
+        port: port.reset.map(|f| Box::new(move |i: &Tier1Rt| let_go(f, i)) as _),
+    }
+}
+
+/// The Rust, in the model's shape.
+fn rust_reset(rt: &mut Tier1Rt) -> Result<(), Refusal> {
+    *rt = oracle::reset(rt);
+    Ok(())
 }
 
 /// One tick: the position is pushed, then the features are computed.

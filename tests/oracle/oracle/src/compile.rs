@@ -18,6 +18,13 @@ pub fn compile_calibrated(c: &FuseConfig, cal: &Calibration) -> Result<(), Strin
     envelope(c, 1, 1).compile(FuseMode::Enforce, Some(cal)).map(|_| ()).map_err(|e| e.to_string())
 }
 
+/// Whether `compile` takes the configuration with this many ticks in its manifest, at a control period of 1.
+pub fn compile_with_ticks(c: &FuseConfig, horizon_ticks: u32) -> Result<(), String> {
+    let mut envelope = envelope(c, 1, 1);
+    envelope.embodiment.horizon_ticks = horizon_ticks;
+    envelope.compile(FuseMode::Enforce, None).map(|_| ()).map_err(|e| e.to_string())
+}
+
 fn envelope(c: &FuseConfig, num: u32, den: u32) -> SafetyEnvelope {
     let pos_dim = c.pos_dim.min(MAX_POS);
     SafetyEnvelope {

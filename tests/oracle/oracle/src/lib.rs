@@ -13,7 +13,7 @@ use lictor_watched::{flags, slacks_seen};
 use model::{BrakeOut, Calibration, ChunkBuf, FuseConfig, Scores, Tier0Out, Tier1Rt, Trail};
 
 pub use carry::{calibration, chunk_view, config, derived, scores, tier1_rt};
-pub use compile::{compile, compile_calibrated};
+pub use compile::{compile, compile_calibrated, compile_with_ticks};
 
 /// The published items themselves.
 pub mod rust {
@@ -178,6 +178,13 @@ pub fn features(
     watch(|| tier1::features(&cfg, &mut r, obs(pos, &[], ext), new.map(chunk_view), 0, &mut scores));
     *rt = carry::tier1_rt_back(&r, rt);
     *sc = carry::scores_back(&scores);
+}
+
+/// The state after a reset.
+pub fn reset(rt: &Tier1Rt) -> Tier1Rt {
+    let mut r = carry::tier1_rt(rt);
+    r.reset();
+    carry::tier1_rt_back(&r, rt)
 }
 
 /// The answer of the published file; the slacks that its watched copy shows, and the place of the first number there
