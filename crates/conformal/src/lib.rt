@@ -3,7 +3,7 @@ ghost use mathlib.Core.Path.{_≡_};
 ghost use mathlib.Core.Bool.{not};
 ghost use Prim.Native.Nat.{_<_, min};
 ghost use lib.Ieee.{binary64, isNan};
-ghost use Rattle.refusal.specs.Order.{number, _when_, if_then_else_};
+ghost use Rattle.refusal.specs.Order.{if_then_else_};
 ghost use Rattle.fmath.specs.Least.{lesser, greater};
 ghost use Rattle.conformal.specs.Bits.{bit};
 ghost use Rattle.conformal.specs.Rule.{live, standard, standards, aggregate, firedBits};

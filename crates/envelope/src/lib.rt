@@ -3,7 +3,7 @@ ghost use mathlib.Core.Path.{_≡_};
 ghost use mathlib.Core.Bool.{not, _||_};
 ghost use Prim.Native.Nat.{min};
 ghost use lib.Ieee.{binary64};
-ghost use Rattle.refusal.specs.Order.{_when_, refusal};
+ghost use Rattle.refusal.specs.Order.{refusal};
 ghost use Rattle.conformal.specs.Refusals as calibration;
 ghost use Rattle.envelope.specs.Derive.{kept, lowWalls, highWalls, inverses, isotropic, derivedFrom, derived};
 ghost use Rattle.envelope.specs.Whole.{whole, settingsOf};
