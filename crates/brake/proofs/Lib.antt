@@ -1,3 +1,4 @@
+pub mod Eight
 pub mod ByKind
 pub mod Outcome
 pub mod Judged

@@ -24,6 +24,7 @@ use Rattle.rollout.specs.Rule.{forecast}
 use Rattle.rollout.proofs.Promises.{Whole, whole-reached, written-in-order, others-kept, first-failing-place, failing-at-the-end}
 use Rattle.brake.specs.declared.BrakeOut.{BrakeOut}
 use Rattle.brake.specs.declared.BrakeOut.the-variants as out
+use Rattle.brake.proofs.Eight.{length-eight}
 use Rattle.brake.specs.Rule.{eight, wallsAt, setpoint, secondOrder, forecastBy}
 use Rattle.brake.specs.Answer.{outcome, plan, lentJudged, forecastAnswer, forecastSlacks, rowLent, brakeSent, brakeRefusal, brakeOutput, holdRefusal, holdOutput}
 use Rattle.brake.proofs.Judged.{foreseen}
@@ -98,14 +99,11 @@ module _ (c : FuseConfig) (p l : List Float) (j : ℕ) (in-it : j < c .dim) wher
   hi = at (wallsAt binary64 c .hi) j
 
   setpoint-inside : refusal (configJudged c) ≡ 0 → (lt (at (setpoint (wallsAt binary64 c) p (c .dim)) j) lo ≡ false) × (lt hi (at (setpoint (wallsAt binary64 c) p (c .dim)) j) ≡ false)
-  unfolding setpoint eight
+  unfolding setpoint
   setpoint-inside z =
       let fit = accepted c z in
       let few = dim-most c fit in
-      inward-inside (wallsAt binary64 c) (eight p 8) (c .dim) j in-it (omega (arith, length-eight)) (walls-ordered c fit j (omega arith))
-    where
-      length-eight : length (eight p 8) ≡ 8
-      length-eight = length-over (λ (i : ℕ). getD p i +0) (replicate 8 +0) 8
+      inward-inside (wallsAt binary64 c) (eight p 8) (c .dim) j in-it (omega (arith, length-eight p 8)) (walls-ordered c fit j (omega arith))
 
   abbrev Inside : List Float → Type 0
   Inside m = (lt (at m j) lo ≡ false) × (lt hi (at m j) ≡ false)

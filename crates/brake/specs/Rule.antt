@@ -8,6 +8,7 @@ use Rattle.refusal.specs.Order.{if_then_else_}
 use Rattle.fmath.specs.Constants.{1!, eps}
 use Rattle.fmath.specs.Each.{at, over}
 use Rattle.fmath.specs.Finite.{+0}
+use Rattle.fmath.specs.Row.{padded}
 use Rattle.fmath.specs.Least.{greater}
 use Rattle.fmath.specs.Checked.{Checked, _>>=_, pure, plus, minus, times, divided, each}
 use Rattle.fmath.specs.Norm.{norm}
@@ -28,9 +29,9 @@ use Rattle.stopping.specs.Rule as stopping
 abbrev pub live : FuseConfig → ℕ
 live c = min (c .dim) (c .«pos_dim»)
 
--- the first n numbers of a list, 0.0 for one that is not there, and 0.0 past them: eight in all
+-- the first n numbers of a list, as many as there are, and 0.0 past them: eight in all
 unfoldable pub eight : List Float → ℕ → List Float
-eight l n = over (λ (j : ℕ). getD l j +0) (replicate 8 +0) n
+eight l n = padded l (min n (length l))
 
 -- the walls that module 4 derives
 abbrev pub wallsAt : Format → FuseConfig → Walls

@@ -14,17 +14,18 @@ use Rattle.fmath.specs.Checked.{sumFrom, each, pure}
 use Rattle.fmath.specs.Norm.{squareAt, norm}
 use Rattle.envelope.specs.declared.ActionKind.the-variants.{EePosition, EeDelta, JointVelocity}
 use Rattle.workspace.specs.Rule.{Walls, inward}
+use Rattle.fmath.specs.Row.{padded}
 use Rattle.brake.specs.Rule.{eight, setpoint, ramp, scaledAt, slowed, slower, shorter, brakeRow, holdRow}
 
 abbrev walls : Walls
 walls = record { lo = fin true 1 (pos 0) ∷ fin true 1 (pos 0) ∷ []; hi = 2! ∷ 2! ∷ [] }
 
 sent-to-the-wall : holdRow EePosition walls (fin false 5 (pos 0) ∷ []) 2 ≡ 2! ∷ replicate 7 +0
-unfolding holdRow setpoint eight inward over clamped lt
+unfolding holdRow setpoint eight padded inward over clamped lt
 sent-to-the-wall = refl
 
 braked-like-held : brakeRow binary64 EePosition 1! 1! walls (fin false 5 (pos 0) ∷ []) [] 2 ≡ pure (2! ∷ replicate 7 +0)
-unfolding brakeRow setpoint eight inward over clamped lt
+unfolding brakeRow setpoint eight padded inward over clamped lt
 braked-like-held = refl
 
 stops : brakeRow binary64 JointVelocity 2! 1! walls [] (1! ∷ []) 2 ≡ pure (replicate 8 +0)

@@ -3,10 +3,9 @@ ghost use mathlib.Core.Path.{_≡_};
 ghost use mathlib.Core.Bool.{true};
 ghost use mathlib.Core.List.{_++_};
 ghost use Prim.Native.Nat.{ℕ, suc, _≤_};
-ghost use lib.ListN.{length, getD};
+ghost use lib.ListN.{length};
 ghost use lib.Ieee.{binary64};
 ghost use Rattle.refusal.specs.Order.{refusal};
-ghost use Rattle.fmath.specs.Finite.{+0};
 ghost use Rattle.chunk.specs.Refusals.{chunkReasons};
 ghost use Rattle.envelope.specs.Refusals.{configJudged};
 ghost use Rattle.envelope.specs.Steps.{substepsIn};
@@ -17,7 +16,7 @@ ghost use Rattle.rollout.specs.Rule as rolling;
 ghost use Rattle.rollout.specs.Of as rolled;
 ghost use Rattle.stopping.specs.Rule as stopping-rule;
 ghost use Rattle.stopping.specs.Of as stopped;
-ghost use Rattle.brake.specs.Rule.{eight, armOf, forecastOf, setpoint, ramp, scaledAt, slowed, slower, shorter, brakeRow, holdRow};
+ghost use Rattle.brake.specs.Rule.{armOf, forecastOf, setpoint, ramp, scaledAt, slowed, slower, shorter, brakeRow, holdRow};
 ghost use Rattle.brake.specs.Answer.{tooShort, someLentNotFinite, outcome, lentJudged, forecastAnswer, forecastSlacks, rowLent, brakeAnswer, brakeOutput, holdAnswer, holdOutput};
 ghost use Rattle.brake.specs.Of.{workspaceFor, courseFor, startFor, rowFrom, countFor, Planned};
 use envelope::ActionKind;
@@ -54,26 +53,6 @@ pub enum Sent {
 struct Row {
     at: [f64; 8],
     sound: bool,
-}
-
-fn or_zero(l: &[f64], j: usize) -> f64
-    ensures { λ r. ⌜ r ≡ getD (now (l .entry)) j +0 ⌝ }
-{
-    if j < l.len() { l[j] } else { 0.0 }
-}
-
-// The first n numbers, 0.0 for one that is not there, and 0.0 past them.
-fn eight(l: &[f64], n: usize) -> [f64; 8]
-    requires { ⌜ n ≤ 8 ⌝ }
-    ensures { λ r. ⌜ r ≡ eight (now (l .entry)) n ⌝ }
-{
-    let mut r = [0.0; 8];
-    let mut j = 0;
-    while j < n {
-        r[j] = or_zero(l, j);
-        j += 1;
-    }
-    r
 }
 
 // The walls that module 4 derives.
@@ -128,8 +107,8 @@ fn start_of(c: FuseConfig, pos: &[f64], vel: &[f64]) -> Plant
     ensures { λ r. ⌜ r ≡ startFor c (now (pos .entry)) (now (vel .entry)) ⌝ }
 {
     let n = fmath::fewer(c.dim, c.pos_dim);
-    let p = eight(pos, n);
-    let v = eight(vel, n);
+    let p = fmath::padded(pos, n);
+    let v = fmath::padded(vel, n);
     Plant { p, v }
 }
 
@@ -341,7 +320,7 @@ pub fn brake_feasible(
 fn setpoint(w: Workspace, pos: &[f64], n: usize) -> [f64; 8]
     ensures { λ r. ⌜ r ≡ setpoint (wallsOf w) (now (pos .entry)) n ⌝ }
 {
-    let p = eight(pos, 8);
+    let p = fmath::padded(pos, 8);
     workspace::inward(w, p, n)
 }
 

@@ -1,6 +1,6 @@
 // The action chunk: storage that is held whole (`ChunkBuf`), the view of lent rows (`ChunkView`), and one row of either.
 ghost use mathlib.Core.Path.{_≡_};
-ghost use Prim.Native.Nat.{min, _≤_};
+ghost use Prim.Native.Nat.{_≤_};
 ghost use lib.ListN.{length};
 ghost use lib.Seq.{paste};
 ghost use Rattle.refusal.specs.Order.{refusal};

@@ -1,10 +1,9 @@
 // Module 8: scores held against a calibration. Standardise, aggregate over the gate, trip strictly; and the time bin.
 ghost use mathlib.Core.Path.{_≡_};
 ghost use mathlib.Core.Bool.{not};
-ghost use mathlib.Core.List.{[], _∷_};
 ghost use Prim.Native.Nat.{_<_, min};
 ghost use lib.Ieee.{binary64, isNan};
-ghost use Rattle.refusal.specs.Order.{size, number, notFinite, computed, _when_, refusal, if_then_else_};
+ghost use Rattle.refusal.specs.Order.{if_then_else_};
 ghost use Rattle.fmath.specs.Least.{lesser, greater};
 ghost use Rattle.conformal.specs.Bits.{bit};
 ghost use Rattle.conformal.specs.Rule.{live, standard, standards, aggregate, firedBits};

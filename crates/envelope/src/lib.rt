@@ -1,10 +1,9 @@
 // The guard's configuration, what module 4 derives from it, and why it is refused.
 ghost use mathlib.Core.Path.{_≡_};
 ghost use mathlib.Core.Bool.{not, _||_};
-ghost use mathlib.Core.List.{[], _∷_};
 ghost use Prim.Native.Nat.{min};
 ghost use lib.Ieee.{binary64};
-ghost use Rattle.refusal.specs.Order.{size, number, steps, channels, _when_, refusal};
+ghost use Rattle.refusal.specs.Order.{refusal};
 ghost use Rattle.conformal.specs.Refusals as calibration;
 ghost use Rattle.envelope.specs.Derive.{kept, lowWalls, highWalls, inverses, isotropic, derivedFrom, derived};
 ghost use Rattle.envelope.specs.Whole.{whole, settingsOf};

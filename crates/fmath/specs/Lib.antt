@@ -1,5 +1,6 @@
 pub mod Each
 pub mod Finite
+pub mod Row
 pub mod Constants
 pub mod Least
 pub mod Checked

@@ -4,6 +4,7 @@ ghost use mathlib.Core.Path.{_≡_};
 ghost use lib.ListN.{length};
 ghost use lib.Ieee.{binary64};
 ghost use Rattle.fmath.specs.Each.{at, over};
+ghost use Rattle.fmath.specs.Row.{padded};
 ghost use Rattle.fmath.specs.Norm.{norm, dist};
 ghost use Rattle.fmath.specs.Answer.{sqrtAnswer, normAnswer, distAnswer};
 ghost use Rattle.fmath.specs.Finite.{finite, aboveZero, notBelowZero, allFinite, allAboveZero};
@@ -91,6 +92,15 @@ pub fn put(from: &[f64], n: usize, out: &mut [f64])
         out[i] = from[i];
         i += 1;
     }
+}
+
+// The first n numbers as a row of eight, as many as there are and as it holds, and 0.0 past them.
+pub fn padded(a: &[f64], n: usize) -> [f64; 8]
+    ensures { λ r. ⌜ r ≡ padded (now (a .entry)) (min n (min (length (now (a .entry))) 8)) ⌝ }
+{
+    let mut r = [0.0; 8];
+    put(a, n, &mut r);
+    r
 }
 
 // The first where it is strictly less, else the second.

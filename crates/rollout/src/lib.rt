@@ -6,7 +6,6 @@ ghost use Prim.Native.Nat.{ℕ, _+_, _*_, _≤_, _<_};
 ghost use lib.ListN.{length};
 ghost use lib.Ieee.{Float, binary64};
 ghost use Rattle.refusal.specs.Order.{if_then_else_};
-ghost use Rattle.fmath.specs.Each.{at};
 ghost use Rattle.rollout.specs.Plant.{axis, substep};
 ghost use Rattle.rollout.specs.Forecast.{writtenOf};
 ghost use Rattle.rollout.specs.Rule.{Task, rowsLeft, after, stopDistance, forecast};
@@ -118,20 +117,6 @@ fn advance(g: Law, w: Workspace, n: usize, a: &[f64], run: Run, slack: &mut [f64
     }
 }
 
-// The first n numbers of a setpoint, and 0.0 past them.
-fn padded(a: &[f64], n: usize) -> [f64; 8]
-    requires { ⌜ (n ≤ 8) × (n ≤ length (now a)) ⌝ }
-    ensures { λ r. ⌜ ((j : ℕ) → j < n → at r j ≡ at (now (a .entry)) j) ⌝ }
-{
-    let mut r = [0.0; 8];
-    let mut j = 0;
-    while j < n {
-        r[j] = a[j];
-        j += 1;
-    }
-    r
-}
-
 // The first n axes of the one, the rest of the other.
 fn joined(moved: Plant, still: Plant, n: usize) -> Plant
     requires { ⌜ n ≤ 8 ⌝ }
@@ -202,7 +187,7 @@ fn abreast(
         return run;
     }
     let still = run.plant;
-    let aim = padded(a, n);
+    let aim = fmath::padded(a, n);
     let mut moved = run.plant;
     let mut margin = run.margin;
     let mut at = run.done;

@@ -13,11 +13,7 @@ use Rattle.fmath.specs.Finite.{finite, +0}
 use Rattle.fmath.proofs.Absorbing.{fine-add-right, fine-mul-left}
 use Rattle.fmath.proofs.Each.{over-more}
 use Rattle.fmath.proofs.Told.{Tells, implied}
-use Rattle.tier0.specs.Rule.{toward, held, moved, bit}
-
-pub held-turn : (a r : List Float) (i : ℕ) → r ≡ held a i → set r i (at a i) ≡ held a (i + 1)
-unfolding held
-held-turn a r i e = over-more (at a) (replicate 8 +0) r i (at a i) e refl
+use Rattle.tier0.specs.Rule.{toward, moved, bit}
 
 pub moved-turn : (a b : List Float) (i m w x : ℕ) → m ≡ moved a b i → w ≡ 2 ^ i → x ≡ bit (ne (at a i) (at b i)) w → m + x ≡ moved a b (i + 1)
 unfolding moved

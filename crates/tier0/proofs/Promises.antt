@@ -13,8 +13,10 @@ use lib.Ieee.{Float, Format, nan, inf, fin, mul, lt, le, ne, eq, up, down}
 use Rattle.refusal.specs.Order.{if_then_else_}
 use Rattle.fmath.specs.Each.{at, some, over}
 use Rattle.fmath.specs.Finite.{finite, +0}
+use Rattle.fmath.specs.Row.{padded}
 use Rattle.fmath.specs.Checked.{Checked, pure, each}
 use Rattle.fmath.specs.Norm.{norm, dist}
+use Rattle.fmath.proofs.Copy.{padded-at}
 use Rattle.fmath.proofs.Each.{over-at}
 use Rattle.fmath.proofs.Ordered.{lt-irrefl}
 use Rattle.workspace.specs.Rule.{Walls, beyond}
@@ -26,7 +28,7 @@ use Rattle.envelope.specs.declared.Contact.{Contact}
 use Rattle.envelope.specs.declared.Contact.the-variants.{None, Zone}
 use Rattle.tier0.specs.declared.Checks.{Checks}
 use Rattle.tier0.specs.declared.Difference.the-variants.{Accel, Jerk}
-use Rattle.tier0.specs.Rule.{WORKSPACE, SPEED, ACCEL, JERK, REACH, CONTACT, arms, shared, Slow, clear, seen, inZone, zoneIn, slowZone, outOfBox, outOfReach, tripBits, leash, boxed, leashed, reached, moves, held, moved, project, projection, checkAction}
+use Rattle.tier0.specs.Rule.{WORKSPACE, SPEED, ACCEL, JERK, REACH, CONTACT, arms, shared, Slow, clear, seen, inZone, zoneIn, slowZone, outOfBox, outOfReach, tripBits, leash, boxed, leashed, reached, moves, moved, project, projection, checkAction}
 use Rattle.tier0.specs.Chunk.{startRow, stepTo, someLonger, someOutOfBox, tooLarge, rawRow, exceeds, putRow, nextRow, runRows, projectedRows, checkChunk}
 use Rattle.tier0.proofs.Rows.{row-fits}
 
@@ -252,8 +254,7 @@ difference-touched f g n inv most e = ap (λ (x : Float). lt most x) e ∙ lt-ir
 
 -- entry j of a row is that entry of the chunk
 row-at : (rows : List Float) (n i : ℕ) → n ≤ 8 → (j : ℕ) → j < n → at (rawRow rows n i) j ≡ at rows (i * n + j)
-unfolding held
-row-at rows n i w j k = over-at (at (drop (i * n) rows)) (replicate 8 +0) n j k (omega arith) ∙ getD-drop (i * n) rows j nan
+row-at rows n i w j k = padded-at (drop (i * n) rows) n j w k ∙ getD-drop (i * n) rows j nan
 
 below-rows : (i h j n : ℕ) → i < h → j < n → i * n + j < h * n
 below-rows i h j n a b = omega (arith, row-fits i h n (h * n) a (omega arith))
@@ -273,9 +274,9 @@ module _ (f : Format) (s : Checks) (e : s .armed ≡ 0) (p : List Float) where
   after-unarmed Project x prev b ex real = rw (ex, unarmed-stays f s p prev b true e, unmoved b (s .dim) real)
 
   -- an action comes out as it went in, and clamped_dims is 0
-  pub unarmed-action : (aux prev a : List Float) → ((j : ℕ) → j < s .dim → finite (at (held a (s .dim)) j) ≡ true) → checkAction f s p aux prev a .value .after ≡ record { rows = held a (s .dim); mask = 0 }
+  pub unarmed-action : (aux prev a : List Float) → ((j : ℕ) → j < s .dim → finite (at (padded a (s .dim)) j) ≡ true) → checkAction f s p aux prev a .value .after ≡ record { rows = padded a (s .dim); mask = 0 }
   unfolding checkAction
-  unarmed-action aux prev a real = after-unarmed (s .clamp) (slowZone f s p aux) prev (held a (s .dim)) (unarmed-no-zone f s p aux e) real
+  unarmed-action aux prev a real = after-unarmed (s .clamp) (slowZone f s p aux) prev (padded a (s .dim)) (unarmed-no-zone f s p aux e) real
 
   module _ (rows q l : List Float) where
     -- each row of a chunk is written as it came

@@ -6,6 +6,7 @@ use mathlib.Core.List.{List, [], _∷_}
 use lib.Ieee.{Float, Format, mul, div, lt, le}
 use Rattle.fmath.specs.Each.{at}
 use Rattle.fmath.specs.Finite.{finite, +0}
+use Rattle.fmath.specs.Row.{padded}
 use Rattle.fmath.specs.Checked.{Checked, pure, each}
 use Rattle.fmath.specs.Norm.{dist}
 use Rattle.fmath.proofs.Absorbing.{fine-mul-left}
@@ -22,7 +23,7 @@ use Rattle.tier0.specs.declared.Row.{Row}
 use Rattle.tier0.specs.declared.Test.{Test}
 use Rattle.tier0.specs.declared.Clamped.{Clamped}
 use Rattle.tier0.specs.declared.Verdict.{Verdict}
-use Rattle.tier0.specs.Rule.{Slow, WORKSPACE, SPEED, ACCEL, JERK, REACH, CONTACT, arms, shared, clear, seen, inZone, zoneIn, slowZone, outOfBox, outOfReach, bit, tripBits, shrink, towards, shortened, pulled, leash, boxed, leashed, reached, moves, held, moved, project, projection, checkAction}
+use Rattle.tier0.specs.Rule.{Slow, WORKSPACE, SPEED, ACCEL, JERK, REACH, CONTACT, arms, shared, clear, seen, inZone, zoneIn, slowZone, outOfBox, outOfReach, bit, tripBits, shrink, towards, shortened, pulled, leash, boxed, leashed, reached, moves, moved, project, projection, checkAction}
 use Rattle.tier0.specs.Of.{slowOf, zoneFrom, rowFrom, testFrom, clampedFrom, verdictFrom}
 
 pub a-row : (x : Checked (List Float)) {r : List Float} {k : Bool} → r ≡ x .value → k ≡ x .sound → _≡_ {A = Row} (record { at = r; sound = k }) (rowFrom x)
@@ -181,7 +182,7 @@ pub judge-is : (f : Format) (s : Checks) (p aux prev a : List Float) {z : SlowZo
     → k ≡ finite (mul f n (s .«inv_dt»))
     → out ≡ outOfBox s a
     → far ≡ testFrom (outOfReach f s p a)
-    → raw ≡ held a (s .dim)
+    → raw ≡ padded a (s .dim)
     → speed ≡ arms s SPEED
     → bits ≡ tripBits out (speed && lt (s .«step_max») n) false false (far .holds) (z .inside && lt (z .step) n)
     → c ≡ clampedFrom (projection f s (s .clamp) (slowOf z) p prev raw)

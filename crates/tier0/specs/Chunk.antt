@@ -10,6 +10,7 @@ use Rattle.refusal.specs.Order.{if_then_else_}
 use Rattle.fmath.specs.Constants.{2!, 3! }
 use Rattle.fmath.specs.Each.{at, all, some, over}
 use Rattle.fmath.specs.Finite.{+0}
+use Rattle.fmath.specs.Row.{padded}
 use Rattle.fmath.specs.Checked.{Checked, _>>=_, pure, plus, minus, times, each}
 use Rattle.fmath.specs.Least.{greatest}
 use Rattle.fmath.specs.Norm.{norm, dist}
@@ -18,13 +19,13 @@ use Rattle.envelope.specs.declared.ClampMode.the-variants.{Off, Project}
 use Rattle.tier0.specs.declared.Checks.{Checks}
 use Rattle.tier0.specs.declared.Difference.{Difference}
 use Rattle.tier0.specs.declared.Difference.the-variants.{Accel, Jerk}
-use Rattle.tier0.specs.Rule.{SPEED, ACCEL, JERK, arms, shared, Slow, slowZone, outOfBox, outOfReach, tripBits, held, moves, moved, Projected, Judgement}
+use Rattle.tier0.specs.Rule.{SPEED, ACCEL, JERK, arms, shared, Slow, slowZone, outOfBox, outOfReach, tripBits, moves, moved, Projected, Judgement}
 
 -- ---- rows
 
 -- row i as it came, n numbers and zeros up to eight
 abbrev pub rawRow : List Float → ℕ → ℕ → List Float
-rawRow rows n i = held (drop (i * n) rows) n
+rawRow rows n i = padded (drop (i * n) rows) n
 
 -- before row 0: the position on the shared coordinates, row 0 itself on the others
 unfoldable pub startRow : Checks → List Float → List Float → List Float

@@ -9,6 +9,7 @@ use lib.Ieee.{Float, Format, binary32, binary64, fin, lt, le, ne}
 use Rattle.refusal.specs.Order.{if_then_else_}
 use Rattle.fmath.specs.Each.{at, over}
 use Rattle.fmath.specs.Finite.{+0}
+use Rattle.fmath.specs.Row.{padded}
 use Rattle.fmath.specs.Checked.{Checked, _>>=_, pure, plus, minus, times, divided, each}
 use Rattle.fmath.specs.Least.{lesser}
 use Rattle.fmath.specs.Norm.{dist}
@@ -146,10 +147,6 @@ moves f s z p isFirst prev a = do
   l ← leashed f s z prev (boxed s a)
   if isFirst then reached f s p l else pure l
 
--- a row of n numbers, and zeros up to eight
-unfoldable pub held : List Float → ℕ → List Float
-held a n = over (at a) (replicate 8 +0) n
-
 -- a bit for each coordinate that differs, as numbers
 unfoldable pub moved : List Float → List Float → ℕ → ℕ
 moved a b zero = 0
@@ -183,7 +180,7 @@ checkAction f s p aux prev a = do
   n ← dist f a prev (s .dim)
   v ← times f n (s .«inv_dt»)
   far ← outOfReach f s p a
-  after ← projection f s (s .clamp) z p prev (held a (s .dim))
+  after ← projection f s (s .clamp) z p prev (padded a (s .dim))
   let fast = arms s SPEED && lt (s .«step_max») n
   let close = z .inside && lt (z .step) n
   pure (record { trips = tripBits (outOfBox s a) fast false false far close; peak = v; after = after })

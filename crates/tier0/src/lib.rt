@@ -10,7 +10,6 @@ ghost use Rattle.tier0.specs.Rule.{checkAction};
 ghost use Rattle.tier0.specs.Chunk.{checkChunk};
 ghost use Rattle.tier0.specs.Of.{checksOf, verdictFrom, rulingFrom, actionAnswer, actionOut, chunkAnswer, chunkOut};
 use crate::measure::armed;
-use crate::measure::held;
 use crate::measure::raw_row;
 use crate::measure::start_row;
 use crate::projected::projected_rows;
@@ -182,7 +181,7 @@ fn judge_action(s: Checks, pos: &[f64], aux: &[f64], prev: &[f64], a: &[f64]) ->
     let fine = fmath::finite(peak);
     let out = out_of_box(s, a);
     let far = out_of_reach(s, pos, a);
-    let raw = held(a, s.dim);
+    let raw = fmath::padded(a, s.dim);
     let speed = armed(s, TripMask::SPEED);
     let trips = trip_bits(
         out,

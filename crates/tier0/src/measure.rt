@@ -2,7 +2,7 @@
 ghost use mathlib.Core.Path.{_≡_};
 ghost use Prim.Native.Nat.{_+_, _*_, _≤_, _<_, min};
 ghost use lib.ListN.{length};
-ghost use Rattle.tier0.specs.Rule.{arms, held};
+ghost use Rattle.tier0.specs.Rule.{arms};
 ghost use Rattle.tier0.specs.Chunk.{rawRow, startRow, rowBefore};
 use crate::Checks;
 
@@ -18,21 +18,7 @@ pub(crate) fn armed(s: Checks, w: u32) -> bool
 pub(crate) fn shared(s: Checks) -> usize
     ensures { λ r. ⌜ r ≡ min (s .dim) (s .«pos_dim») ⌝ }
 {
-    if s.dim < s.pos_dim { s.dim } else { s.pos_dim }
-}
-
-// The first n numbers of a row, and zeros up to eight.
-pub(crate) fn held(a: &[f64], n: usize) -> [f64; 8]
-    requires { ⌜ (n ≤ 8) × (n ≤ length (now a)) ⌝ }
-    ensures { λ r. ⌜ r ≡ held (now (a .entry)) n ⌝ }
-{
-    let mut r = [0.0; 8];
-    let mut i = 0;
-    while i < n {
-        r[i] = a[i];
-        i += 1;
-    }
-    r
+    fmath::fewer(s.dim, s.pos_dim)
 }
 
 // Row i as it came, with zeros up to eight numbers.
@@ -41,7 +27,7 @@ pub(crate) fn raw_row(rows: &[f64], n: usize, i: usize) -> [f64; 8]
     ensures { λ r. ⌜ r ≡ rawRow (now (rows .entry)) n i ⌝ }
 {
     let from = i * n;
-    held(&rows[from..], n)
+    fmath::padded(&rows[from..], n)
 }
 
 // What stands before row 0: the position on the shared coordinates, row 0 itself on the others.
@@ -51,11 +37,7 @@ pub(crate) fn start_row(s: Checks, pos: &[f64], rows: &[f64]) -> [f64; 8]
 {
     let n = shared(s);
     let mut r = raw_row(rows, s.dim, 0);
-    let mut i = 0;
-    while i < n {
-        r[i] = pos[i];
-        i += 1;
-    }
+    fmath::put(pos, n, &mut r);
     r
 }
 

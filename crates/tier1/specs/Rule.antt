@@ -10,6 +10,7 @@ use Rattle.refusal.specs.Order.{if_then_else_}
 use Rattle.fmath.specs.Constants.{1!, 3!, eps}
 use Rattle.fmath.specs.Each.{at, all, table, over}
 use Rattle.fmath.specs.Finite.{+0}
+use Rattle.fmath.specs.Row.{padded}
 use Rattle.fmath.specs.Checked.{Checked, _>>=_, pure, plus, minus, times, divided, root, sumFrom}
 use Rattle.fmath.specs.Least.{lesser, greater, greatest}
 use Rattle.fmath.specs.Norm.{dist}
@@ -142,7 +143,7 @@ module _ (f : Format) where
 
   -- before row 0: the position on the shared coordinates, row 0 itself on the others
   unfoldable pub startRow : Manifest → List Float → List Float → List Float
-  startRow m p b = over (at p) (over (at b) (replicate 8 +0) (m .dim)) (shared m p)
+  startRow m p b = over (at p) (padded b (m .dim)) (shared m p)
 
   -- the raw step to row i, where q stands before row 0
   unfoldable pub stride : ℕ → List Float → List Float → ℕ → Checked Float

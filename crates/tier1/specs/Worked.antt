@@ -9,6 +9,7 @@ use Rattle.root.specs.Root.{rootOf, number, rootExponent, half, nearRoot, floor
 use Rattle.fmath.specs.Constants.{1!, 2!, 3! }
 use Rattle.fmath.specs.Each.{all, over, table}
 use Rattle.fmath.specs.Finite.{finite, +0}
+use Rattle.fmath.specs.Row.{padded}
 use Rattle.fmath.specs.Checked.{sumFrom}
 use Rattle.fmath.specs.Least.{lesser, greater, greatest}
 use Rattle.fmath.specs.Norm.{squaredGap, dist}
@@ -63,7 +64,7 @@ pub line-features : boundary binary64 line (record { there = true; «t_emit» = 
           ∷ ofBits binary64 0x3ff1745d17315f6b ∷ fin false 3 (negsuc 0) ∷ 3! ∷ [];
       sound = true;
     }
-unfolding boundary overlap tce acc acmNeg njr reach speedPeak peak startRow stride stepLength sumRows normal gap jolt all over greatest greater sumFrom dist squaredGap ofInt ofBits ofFields odd neg add sub mul div lt finite rootOf number rootExponent half nearRoot floorRoot scaled
+unfolding boundary overlap tce acc acmNeg njr reach speedPeak peak startRow padded stride stepLength sumRows normal gap jolt all over greatest greater sumFrom dist squaredGap ofInt ofBits ofFields odd neg add sub mul div lt finite rootOf number rootExponent half nearRoot floorRoot scaled
 line-features = refl
 
 pub line-bits : boundaryBits line (record { there = true; «t_emit» = 3; horizon = 4; dim = 1 }) (1! ∷ []) 4 4 ≡ 63
@@ -89,7 +90,7 @@ pub plane-features : boundary binary64 plane (record { there = true; «t_emit» 
           ∷ +0 ∷ 1/2 ∷ fin false 5 (negsuc 0) ∷ [];
       sound = true;
     }
-unfolding boundary overlap tce acc acmNeg njr reach speedPeak peak startRow stride stepLength sumRows normal gap jolt all over greatest greater sumFrom dist squaredGap ofInt ofBits ofFields odd neg add sub mul div lt finite rootOf number rootExponent half nearRoot floorRoot scaled
+unfolding boundary overlap tce acc acmNeg njr reach speedPeak peak startRow padded stride stepLength sumRows normal gap jolt all over greatest greater sumFrom dist squaredGap ofInt ofBits ofFields odd neg add sub mul div lt finite rootOf number rootExponent half nearRoot floorRoot scaled
 plane-features = refl
 
 pub plane-bits : boundaryBits plane (record { there = true; «t_emit» = 3; horizon = 3; dim = 2 }) (1! ∷ 5! ∷ []) 4 3 ≡ 55

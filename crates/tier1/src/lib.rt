@@ -9,7 +9,7 @@ ghost use lib.ListN.{length};
 ghost use lib.Ieee.{Float, binary64, ofInt};
 ghost use Rattle.fmath.specs.Checked.{pure, sumFrom};
 ghost use Rattle.fmath.specs.Finite.{+0};
-ghost use Rattle.tier1.specs.Rule.{row, shared, sumRows, gap, gaps, jolt, jolts, stepLength, tce, acc, acmNeg, njr, reach, startRow, peak, speedPeak, pathIneff, stall, overlap, boundaryAt, ifThere, boundary, boundaryBits, moving, validAt, valueAt, twelve};
+ghost use Rattle.tier1.specs.Rule.{row, shared, sumRows, gap, gaps, jolt, jolts, stepLength, tce, acc, acmNeg, njr, reach, startRow, peak, speedPeak, pathIneff, stall, overlap, boundaryAt, ifThere, boundary, boundaryBits, validAt, valueAt, twelve};
 ghost use Rattle.conformal.specs.Bits.{bitsWhere};
 ghost use Rattle.refusal.specs.Order.{if_then_else_, given, refusal, refusedFor};
 ghost use Rattle.envelope.specs.Derive.{kept};
@@ -288,19 +288,9 @@ fn start_row(m: Manifest, pos: &[f64], b: &[f64]) -> [f64; 8]
     requires { ⌜ (m .dim ≤ 8) × (m .dim ≤ length (now b)) ⌝ }
     ensures { λ r. ⌜ r ≡ startRow binary64 m (now (pos .entry)) (now (b .entry)) ⌝ }
 {
-    let d = m.dim;
     let n = shared(m, pos.len());
-    let mut q = [0.0; 8];
-    let mut i = 0;
-    while i < d {
-        q[i] = b[i];
-        i += 1;
-    }
-    let mut j = 0;
-    while j < n {
-        q[j] = pos[j];
-        j += 1;
-    }
+    let mut q = fmath::padded(b, m.dim);
+    fmath::put(pos, n, &mut q);
     q
 }
 

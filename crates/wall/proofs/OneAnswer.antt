@@ -9,6 +9,7 @@ use Rattle.fmath.proofs.all_finite.Reads as all-finite
 use Rattle.fmath.proofs.all_above_zero.Reads as all-above-zero
 use Rattle.fmath.proofs.fewer.Reads as fewer
 use Rattle.fmath.proofs.put.Reads as put
+use Rattle.fmath.proofs.padded.Reads as padded
 use Rattle.fmath.proofs.min.Reads as min
 use Rattle.fmath.proofs.max.Reads as max
 use Rattle.fmath.proofs.clamp.Reads as clamp
@@ -158,6 +159,9 @@ one-fewer l a r s x y = unique
 
 pub one-put : One put.Post (λ r x. x .1 .1 .0 .now)
 one-put l a r s x y = unique
+
+pub one-padded : One padded.Post (λ r x. r)
+one-padded l a r s x y = unique
 
 pub one-min : One min.Post (λ r x. r)
 one-min l a r s x y = unique

@@ -1,7 +1,7 @@
 // The workspace: whether a point is outside, a point moved inside, and the slack that is left. Nothing else reads the walls.
 ghost use mathlib.Core.Path.{_≡_};
 ghost use mathlib.Core.Bool.{true};
-ghost use Prim.Native.Nat.{ℕ, min, _≤_, _<_};
+ghost use Prim.Native.Nat.{ℕ, _≤_, _<_};
 ghost use lib.Ieee.{binary64, add, sub};
 ghost use Rattle.fmath.specs.Each.{at};
 ghost use Rattle.fmath.specs.Finite.{finite};

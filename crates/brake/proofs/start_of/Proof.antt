@@ -1,4 +1,7 @@
 -- `brake::start_of` meets its contract: both on the axes that move.
+use native.Mathlib.Omega.{arith}
+use denote.Ref.{now}
+use Rattle.brake.proofs.Eight.{eight-is}
 use borrow.Author.Needs.{needs}
 use Rattle.brake.proofs.start_of.Statement.{statement}
 use Rattle.brake.proofs.start_of.Tie as tie
@@ -6,14 +9,18 @@ use Rattle.brake.proofs.start_of.Tie as tie
 fewer-requires : tie.Need-fewer-requires
 fewer-requires c κs = search needs
 
-eight-requires : tie.Need-eight-requires
-eight-requires c κs = search needs
+padded-requires : tie.Need-padded-requires
+padded-requires c κs = search needs
 
-eight-requires-2 : tie.Need-eight-requires-2
-eight-requires-2 c κs = search needs
+padded-requires-2 : tie.Need-padded-requires-2
+padded-requires-2 c κs = search needs
 
 returns : tie.Need-returns
-returns c = rw (c .eight2 .ensures, c .before .eight .ensures, c .before .before .fewer .ensures)
+returns c =
+    let g = c .before .before .before .before .before .args in
+    let few = c .before .before .before .before .before .pre in
+    let live = c .before .before .fewer .ensures in
+    rw (eight-is (now (g .vel)) _ (omega arith) (c .padded2 .ensures), eight-is (now (g .pos)) _ (omega arith) (c .before .padded .ensures), live)
 
 pub start-of-spec : {M : Type 1} → statement M
-start-of-spec = tie.close (tie.spec fewer-requires eight-requires eight-requires-2 returns)
+start-of-spec = tie.close (tie.spec fewer-requires padded-requires padded-requires-2 returns)

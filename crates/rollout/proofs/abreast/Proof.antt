@@ -1,5 +1,5 @@
 -- `rollout::abreast` meets its contract: the loop comes along one entry a turn, with the first n axes as n axes alone would move (`Wide`).
-use Prim.Native.Nat.{ℕ, _+_, _-_, _≤_, _<_}
+use Prim.Native.Nat.{ℕ, _+_, _-_, _≤_, _<_, min}
 use mathlib.Core.Path.{_≡_, refl, sym, ap, _∙_, subst}
 use mathlib.Core.Bool.{true}
 use mathlib.Core.List.{List}
@@ -9,6 +9,9 @@ use borrow.Author.Tests.{not-true, not-false}
 use denote.Ref.{now}
 use lib.ListN.{length, length-set}
 use lib.Ieee.{Float, binary64}
+use Rattle.fmath.specs.Each.{at}
+use Rattle.fmath.specs.Row.{padded}
+use Rattle.fmath.proofs.Copy.{all-padded, padded-at}
 use Rattle.rollout.specs.declared.Plant.{Plant}
 use Rattle.rollout.specs.declared.Run.{Run}
 use Rattle.rollout.specs.Rule.{Task, after, forecast}
@@ -21,6 +24,10 @@ use Rattle.rollout.proofs.abreast.Tie as tie
 -- the run as it starts
 abbrev first : Plant → Float → ℕ → Run
 first still margin done = record { plant = still; margin = margin; done = done; sound = true }
+
+-- the first n numbers of the setpoint are taken in
+taken-in : (n : ℕ) (a : List Float) {r : List Float} → n ≤ 8 → n ≤ length a → r ≡ padded a (min n (min (length a) 8)) → (j : ℕ) → j < n → at r j ≡ at a j
+taken-in n a hn ha e j hj = ap (λ (l : List Float). at l j) (all-padded a hn ha e) ∙ padded-at a n j hn hj
 
 abbrev Inv-loop : tie.InvT-loop
 Inv-loop g w n a count slack₀ still aim moved₀ margin₀ at₀ s₀ slack moved margin at s =
@@ -96,7 +103,7 @@ returns-2 c =
           (wide-fails binary64 t l (k + i .s) (i .moved) (s .args .run .plant) (s .args .n) (i .margin) (i .at) (i .slack) (s .args .g) (s .args .w) (now (s .args .a)) (c .before .before .before .before .before .before .before .before .before .before .padded .result) u
           (i .inv .1 .1 .1 .1 .1 t l k u h go)
           (towards-next binary64 t l k (s .args .count) (i .s) (now (s .args .a)) (first (s .args .run .plant) (s .args .run .margin) (s .args .run .done)) (running (i .moved) (s .args .run .plant) (s .args .n) (i .margin) (i .at)) (now (s .args .slack)) (i .slack) h go (i .inv .1 .1 .1 .1 .1 t l k u h go) (omega arith))
-          (s .pre .0) (i .inv .1 .1 .1 .0) (i .inv .1 .1 .1 .1 .0) (long s .0) (long s .1) (c .before .before .before .before .before .before .before .before .before .before .padded .ensures) (c .before .before .before .before .before .substep .result) (c .before .before .before .before .before .substep .ensures) (c .before .before .before .slack-abreast .result) (c .before .before .before .slack-abreast .ensures) (not-true _ (c .before .if2 .taken)))
+          (s .pre .0) (i .inv .1 .1 .1 .0) (i .inv .1 .1 .1 .1 .0) (long s .0) (long s .1) (taken-in (s .args .n) (now (s .args .a)) (s .pre .0) (s .pre .1) (c .before .before .before .before .before .before .before .before .before .before .padded .ensures)) (c .before .before .before .before .before .substep .result) (c .before .before .before .before .before .substep .ensures) (c .before .before .before .slack-abreast .result) (c .before .before .before .slack-abreast .ensures) (not-true _ (c .before .if2 .taken)))
           (s .args .count - i .s - 1)),
     )
 
@@ -143,7 +150,7 @@ loop-again c =
                   (wide-advances binary64 t l (k + i .s) (i .moved) (s .args .run .plant) (s .args .n) (i .margin) (i .at) (i .slack) (s .args .g) (s .args .w) (now (s .args .a)) (c .before .before .before .before .before .before .before .before .before .before .padded .result) u
                   (i .inv .1 .1 .1 .1 .1 t l k u h go)
                   (towards-next binary64 t l k (s .args .count) (i .s) (now (s .args .a)) (first (s .args .run .plant) (s .args .run .margin) (s .args .run .done)) (running (i .moved) (s .args .run .plant) (s .args .n) (i .margin) (i .at)) (now (s .args .slack)) (i .slack) h go (i .inv .1 .1 .1 .1 .1 t l k u h go) (omega arith))
-                  (s .pre .0) (i .inv .1 .1 .1 .0) (i .inv .1 .1 .1 .1 .0) (long s .0) (long s .1) (c .before .before .before .before .before .before .before .before .before .before .padded .ensures) (c .before .before .before .before .before .substep .result) (c .before .before .before .before .before .substep .ensures) (c .before .before .before .slack-abreast .result) (c .before .before .before .slack-abreast .ensures) (not-false _ (c .before .if2 .left)) _ (c .min .ensures)),
+                  (s .pre .0) (i .inv .1 .1 .1 .0) (i .inv .1 .1 .1 .1 .0) (long s .0) (long s .1) (taken-in (s .args .n) (now (s .args .a)) (s .pre .0) (s .pre .1) (c .before .before .before .before .before .before .before .before .before .before .padded .ensures)) (c .before .before .before .before .before .substep .result) (c .before .before .before .before .before .substep .ensures) (c .before .before .before .slack-abreast .result) (c .before .before .before .slack-abreast .ensures) (not-false _ (c .before .if2 .left)) _ (c .min .ensures)),
             ),
           ),
         ),

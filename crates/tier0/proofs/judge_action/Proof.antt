@@ -1,5 +1,6 @@
 -- `tier0::judge_action` meets its contract: each part is its rule's, and the speed's test tells of the step.
 use lib.Ieee.{binary64}
+use Rattle.fmath.proofs.Copy.{all-padded}
 use Rattle.tier0.proofs.Steps.{judge-is}
 use borrow.Author.Needs.{needs}
 use Rattle.tier0.proofs.judge_action.Statement.{statement}
@@ -20,8 +21,8 @@ out-of-box-requires c κs = search needs
 out-of-reach-requires : tie.Need-out-of-reach-requires
 out-of-reach-requires c κs = search needs
 
-held-requires : tie.Need-held-requires
-held-requires c κs = search needs
+padded-requires : tie.Need-padded-requires
+padded-requires c κs = search needs
 
 armed-requires : tie.Need-armed-requires
 armed-requires c κs = search needs
@@ -33,7 +34,7 @@ projection-requires : tie.Need-projection-requires
 projection-requires c κs = let w = c .before .before .before .before .before .before .before .before .before .before .before .before .before .before .before .before .pre in (w .0, w .2, w .3)
 
 returns : tie.Need-returns
-returns c = judge-is binary64 _ _ _ _ _ (c .before .before .before .before .before .before .before .before .before .before .before .before .before .before .before .before .slow-zone .ensures) (c .before .before .before .before .before .before .before .before .before .before .before .before .before .before .before .distance .ensures) (c .before .before .before .before .before .before .before .before .before .before .before .before .before .finite .ensures) (c .before .before .before .before .before .before .before .before .before .before .before .before .out-of-box .ensures) (c .before .before .before .before .before .before .before .before .before .before .before .out-of-reach .ensures) (c .before .before .before .before .before .before .before .before .before .before .held .ensures) (c .before .before .before .before .before .before .before .before .before .armed .ensures) (c .before .before .before .before .before .trip-bits .ensures) (c .before .before .before .before .projection .ensures)
+returns c = judge-is binary64 _ _ _ _ _ (c .before .before .before .before .before .before .before .before .before .before .before .before .before .before .before .before .slow-zone .ensures) (c .before .before .before .before .before .before .before .before .before .before .before .before .before .before .before .distance .ensures) (c .before .before .before .before .before .before .before .before .before .before .before .before .before .finite .ensures) (c .before .before .before .before .before .before .before .before .before .before .before .before .out-of-box .ensures) (c .before .before .before .before .before .before .before .before .before .before .before .out-of-reach .ensures) (all-padded _ (c .before .before .before .before .before .before .before .before .before .before .before .before .before .before .before .before .before .before .before .before .before .pre .0) (c .before .before .before .before .before .before .before .before .before .before .before .before .before .before .before .before .before .before .before .before .before .pre .1) (c .before .before .before .before .before .before .before .before .before .before .padded .ensures)) (c .before .before .before .before .before .before .before .before .before .armed .ensures) (c .before .before .before .before .before .trip-bits .ensures) (c .before .before .before .before .projection .ensures)
 
 pub judge-action-spec : {M : Type 1} → statement M
-judge-action-spec = tie.close (tie.spec slow-zone-requires distance-requires finite-requires out-of-box-requires out-of-reach-requires held-requires armed-requires trip-bits-requires projection-requires returns)
+judge-action-spec = tie.close (tie.spec slow-zone-requires distance-requires finite-requires out-of-box-requires out-of-reach-requires padded-requires armed-requires trip-bits-requires projection-requires returns)
