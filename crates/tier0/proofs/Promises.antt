@@ -24,11 +24,11 @@ use Rattle.envelope.specs.declared.ClampMode.{ClampMode}
 use Rattle.envelope.specs.declared.ClampMode.the-variants.{Off, Project}
 use Rattle.envelope.specs.declared.Contact.{Contact}
 use Rattle.envelope.specs.declared.Contact.the-variants.{None, Zone}
+use Rattle.chunk.proofs.Rows.{row-fits}
 use Rattle.tier0.specs.declared.Checks.{Checks}
 use Rattle.tier0.specs.declared.Difference.the-variants.{Accel, Jerk}
 use Rattle.tier0.specs.Rule.{WORKSPACE, SPEED, ACCEL, JERK, REACH, CONTACT, arms, shared, Slow, clear, seen, inZone, zoneIn, slowZone, outOfBox, outOfReach, tripBits, leash, boxed, leashed, reached, moves, held, moved, project, projection, checkAction}
 use Rattle.tier0.specs.Chunk.{startRow, stepTo, someLonger, someOutOfBox, tooLarge, rawRow, exceeds, putRow, nextRow, runRows, projectedRows, checkChunk}
-use Rattle.tier0.proofs.Rows.{row-fits}
 
 -- ---- the bits
 

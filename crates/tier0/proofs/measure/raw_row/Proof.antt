@@ -4,8 +4,8 @@ use mathlib.Core.List.{List}
 use Prim.Native.Nat.{_*_}
 use denote.Ref.{now}
 use lib.Ieee.{Float}
+use Rattle.chunk.proofs.Rows.{rest-is}
 use Rattle.tier0.specs.Rule.{held}
-use Rattle.tier0.proofs.Rows.{rest-is}
 use borrow.Author.Needs.{needs}
 use Rattle.tier0.proofs.measure.raw_row.Statement.{statement}
 use Rattle.tier0.proofs.measure.raw_row.Tie as tie

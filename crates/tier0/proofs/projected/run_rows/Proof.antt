@@ -6,9 +6,10 @@ use native.Mathlib.Omega.{arith}
 use borrow.Author.Needs.{needs}
 use lib.ListN.{length}
 use lib.Ieee.{binary64}
+use Rattle.chunk.proofs.Rows.{row-fits}
 use Rattle.tier0.specs.Chunk.{runRows}
 use Rattle.tier0.specs.Of.{slowOf}
-use Rattle.tier0.proofs.Rows.{Kept, begun, row-turn, ran, row-fits, start-small, length-put}
+use Rattle.tier0.proofs.Rows.{Kept, begun, row-turn, ran, start-small, length-put}
 use Rattle.tier0.proofs.projected.run_rows.Statement.{statement}
 use Rattle.tier0.proofs.projected.run_rows.Tie as tie
 
