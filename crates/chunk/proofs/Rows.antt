@@ -17,6 +17,10 @@ use Rattle.chunk.specs.Rule.{rowStart, rowIn, rowOf, rowSet}
 pub place-small : {k d : ℕ} → k < 2 ^ 16 → d < 2 ^ 16 → k * d < 2 ^ 32
 place-small {k} {d} hk hd = lt-of-le-of-lt (mul-le-mul-left k (le-of-lt hd)) (mul-lt-mul-of-pos-right hk (pow-pos 16))
 
+-- where a row starts is small
+pub start-small : (h d i : ℕ) → h < 2 ^ 16 → d < 2 ^ 16 → rowStart h d i < 2 ^ 32
+start-small h d i hh hd = place-small {k = min i (h - 1)} (omega arith) hd
+
 -- a part of a slice to its end
 pub rest-is : (k : ℕ) (l : List Float) → take (length l - k) (drop k l) ≡ drop k l
 rest-is k l = take-all (length l - k) (drop k l) (omega (arith, length-drop k l))
