@@ -239,7 +239,7 @@ equal-itself (fin false m e) h = rw (eq-eqb (m * up e * down e) (m * up e * down
 
 -- .. and of a row that stays no bit is set in clamped_dims
 pub unmoved : (a : List Float) (n : ℕ) → ((j : ℕ) → j < n → finite (at a j) ≡ true) → moved a a n ≡ 0
-unfolding moved
+unfolding bitsWhere
 unmoved a zero e = refl
 unmoved a (suc n) e = rw (unmoved a n (λ j l. e j (omega arith)), equal-itself (at a n) (e n (omega arith)))
 

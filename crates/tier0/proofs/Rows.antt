@@ -4,7 +4,7 @@ use mathlib.Core.Path.{_≡_, refl, sym, ap, _∙_}
 use mathlib.Core.Bool.{Bool, true, false, _&&_, _||_, and-true}
 use mathlib.Core.List.{List}
 use native.Mathlib.Numerals.{add-one}
-use native.Mathlib.Nat.{mul-le-mul-right, le-trans}
+use native.Mathlib.Nat.{mul-le-mul-right}
 use native.Mathlib.Omega.{arith}
 use borrow.Author.Tests.{ne-eqb}
 use lib.Bits.{bitOr}
@@ -41,10 +41,6 @@ use Rattle.tier0.specs.Of.{slowOf, zoneFrom, rowFrom, testFrom, stepsFro
 -- every row before one that lies in the rows lies in them
 pub earlier-fits : (i j n len : ℕ) → i ≤ j → j * n + n ≤ len → i * n + n ≤ len
 earlier-fits i j n len l b = let w = mul-le-mul-right {m = i} {n = j} n l in omega arith
-
--- where a row starts is small
-pub start-small : (i n : ℕ) → i < 64 → n ≤ 8 → i * n ≤ 512
-start-small i n l b = le-trans (mul-le-mul-right {m = i} {n = 64} n (omega arith)) (omega arith)
 
 pub put-turn : (r l m : List Float) (k i : ℕ) → m ≡ putRow r l k i → set m (k + i) (at r i) ≡ putRow r l k (i + 1)
 unfolding putRow
@@ -261,6 +257,3 @@ judge-chunk-is s p aux rows l h ez eq et ek eb ej e1 ef es ew ec = (rw (ew, ec .
 -- the first row lies in the rows
 pub first-fits : (h n len : ℕ) → 0 < h → h * n ≤ len → n ≤ len
 first-fits h n len l b = let w = row-fits 0 h n len l b in omega arith
-
-pub words-small : (h d : ℕ) → h < 65536 → d < 65536 → h * d < 4294967296
-words-small h d l b = let w = mul-le-mul-right {m = h} {n = 65535} d (omega arith) in omega arith

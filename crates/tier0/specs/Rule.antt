@@ -1,5 +1,5 @@
 -- The rules of document 01's module 5 for one row, over the format. Whatever is computed is checked.
-use Prim.Native.Nat.{ℕ, zero, suc, _+_, _/_, _%_, _^_, min}
+use Prim.Native.Nat.{ℕ, _+_, _/_, _%_, min}
 use mathlib.Core.Bool.{Bool, true, false, _&&_, _||_}
 use mathlib.Core.List.{List, [], _∷_}
 use lib.Dec.{ltb, leb, eqb}
@@ -12,6 +12,7 @@ use Rattle.fmath.specs.Finite.{+0}
 use Rattle.fmath.specs.Checked.{Checked, _>>=_, pure, plus, minus, times, divided, each}
 use Rattle.fmath.specs.Least.{lesser}
 use Rattle.fmath.specs.Norm.{dist}
+use Rattle.conformal.specs.Bits.{bitsWhere}
 use Rattle.workspace.specs.Of.{wallsOf}
 use Rattle.workspace.specs.Rule.{outside, inward}
 use Rattle.envelope.specs.declared.ClampMode.{ClampMode}
@@ -151,9 +152,8 @@ unfoldable pub held : List Float → ℕ → List Float
 held a n = over (at a) (replicate 8 +0) n
 
 -- a bit for each coordinate that differs, as numbers
-unfoldable pub moved : List Float → List Float → ℕ → ℕ
-moved a b zero = 0
-moved a b (suc j) = moved a b j + bit (ne (at a j) (at b j)) (2 ^ j)
+abbrev pub moved : List Float → List Float → ℕ → ℕ
+moved a b n = bitsWhere (λ (j : ℕ). ne (at a j) (at b j)) n
 
 -- rows after projection, and a bit for each coordinate that was moved in any of them
 pub record Projected : Type 0 where
