@@ -11,7 +11,7 @@ put-requires : tie.Need-put-requires
 put-requires c κs = search needs
 
 returns : tie.Need-returns
-returns c = let g = c .before .before .before .before .args in over-is (now (g .before)) (now (g .rows)) (search needs) (c .before .if1 .taken) (c .put .ensures)
+returns c = let g = c .before .before .before .before .args in over-is (now (g .before)) (now (g .rows)) (search needs) (c .before .before .if1 .taken) (c .put .ensures)
 
 returns-2 : tie.Need-returns-2
 returns-2 c = rw (lt-leb (length (now (c .before .before .args .rows))) 512 (c .if1 .left))
