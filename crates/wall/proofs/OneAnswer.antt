@@ -156,7 +156,7 @@ one-all-above-zero l a r s x y = unique
 pub one-fewer : One fewer.Post (λ r x. r)
 one-fewer l a r s x y = unique
 
-pub one-put : One put.Post (λ r x. x .1 .0 .now)
+pub one-put : One put.Post (λ r x. x .1 .1 .0 .now)
 one-put l a r s x y = unique
 
 pub one-min : One min.Post (λ r x. r)
