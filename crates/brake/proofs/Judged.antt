@@ -12,6 +12,7 @@ use lib.Ieee.{Float, binary64}
 use Rattle.refusal.specs.Order.{Judged, numberOf, width, short, notFinite, computed, _when_, refusal, refusedFor, if_then_else_}
 use Rattle.refusal.specs.Chain.{chain, first-refuses, first-passes, both-pass, passes-at}
 use Rattle.refusal.specs.declared.Refusal.{Refusal}
+use Rattle.fmath.specs.Answer.{someLentNotFinite}
 use Rattle.fmath.proofs.Each.{neither}
 use Rattle.chunk.specs.Refusals.{chunkReasons}
 use Rattle.chunk.proofs.Judged.{sizes-accepted}
@@ -24,7 +25,7 @@ use Rattle.rollout.specs.Forecast.{placeOf, writtenOf}
 use Rattle.rollout.specs.Rule.{rowsLeft}
 use Rattle.brake.specs.declared.BrakeOut.{BrakeOut}
 use Rattle.brake.specs.declared.BrakeOut.the-variants as out
-use Rattle.brake.specs.Answer.{tooShort, someLentNotFinite, outcome, plan, lentJudged, forecastRefusal, forecastAnswer, forecastSlacks}
+use Rattle.brake.specs.Answer.{tooShort, outcome, plan, lentJudged, forecastRefusal, forecastAnswer, forecastSlacks}
 use Rattle.brake.specs.Of.{countFor, Planned}
 use Rattle.brake.proofs.ByKind.{count-is}
 
@@ -62,7 +63,7 @@ module _ (c : FuseConfig) (p v rows : List Float) (h d e from : ℕ) where
   brief room = tooShort (c .«pos_dim») (length p) (length v) (plan c p v rows h d e from .count) room
 
   abbrev unfit : Bool
-  unfit = someLentNotFinite p v rows
+  unfit = someLentNotFinite (p ∷ v ∷ rows ∷ [])
 
   module _ (room : ℕ) where
     abbrev lent : List Judged

@@ -5,14 +5,13 @@ use mathlib.Core.Bool.{Bool, true, false, not, _||_}
 use mathlib.Core.List.{List, [], _∷_, _++_}
 use native.Mathlib.Omega.{arith}
 use borrow.Author.Tests.{ne-eqb}
-use lib.ListN.{length, getD, replicate}
+use lib.ListN.{length}
 use lib.Ieee.{Float, binary64, lt}
 use Rattle.refusal.specs.Order.{computed, _when_, refusal}
 use Rattle.refusal.specs.Chain.{both-pass}
 use Rattle.fmath.specs.Answer.{someNotFinite}
 use Rattle.fmath.specs.Each.{at, all, over}
-use Rattle.fmath.specs.Finite.{+0}
-use Rattle.fmath.proofs.Each.{length-over, over-at}
+use Rattle.fmath.proofs.Each.{over-at}
 use Rattle.chunk.specs.Refusals.{chunkReasons}
 use Rattle.envelope.specs.Refusals.{configJudged}
 use Rattle.envelope.specs.declared.BrakeKind.the-variants.{PdSecondOrder}

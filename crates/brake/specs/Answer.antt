@@ -5,8 +5,8 @@ use mathlib.Core.List.{List, [], _∷_, _++_}
 use lib.Dec.{ltb, eqb}
 use lib.ListN.{length}
 use lib.Ieee.{Float, binary64}
-use Rattle.refusal.specs.Order.{Judged, width, short, notFinite, computed, _when_, refusal, refusedFor, if_then_else_}
-use Rattle.fmath.specs.Answer.{someNotFinite}
+use Rattle.refusal.specs.Order.{Judged, width, short, notFinite, computed, numberOf, _when_, refusal, refusedFor, if_then_else_}
+use Rattle.fmath.specs.Answer.{someNotFinite, someLentNotFinite}
 use Rattle.fmath.specs.Each.{at, over}
 use Rattle.fmath.specs.Checked.{Checked}
 use Rattle.chunk.specs.Refusals.{chunkReasons}
@@ -25,23 +25,19 @@ use Rattle.brake.specs.Rule.{wallsAt, forecastOf, brakeRow, holdRow}
 unfoldable pub tooShort : ℕ → ℕ → ℕ → ℕ → ℕ → Bool
 tooShort pos-dim p v count room = ltb p pos-dim || ltb v pos-dim || ltb room count
 
--- 12: some number of what is lent, read or not
-unfoldable pub someLentNotFinite : List Float → List Float → List Float → Bool
-someLentNotFinite p v rows = someNotFinite p || someNotFinite v || someNotFinite rows
-
 -- what a forecast comes to: its numbers or, with its place, the first that isn't finite
 unfoldable pub outcome : Forecast → BrakeOut
 outcome t =
     if eqb (placeOf t) 0 then out.Accepted (t .count) (marginOf t) (feasibleOf t) (t .stop .value)
-    else out.Refused (record { number = 13; place = placeOf t })
+    else out.Refused (record { number = numberOf computed; place = placeOf t })
 
 -- by the number of the refusal, 0 where there is none
 abbrev pub answerAt : ℕ → Forecast → BrakeOut
-answerAt k t = if eqb k 0 || eqb k 13 then outcome t else out.Refused (refusedFor k)
+answerAt k t = if eqb k 0 || eqb k (numberOf computed) then outcome t else out.Refused (refusedFor k)
 
 -- the entries before the failing place are written, and none under another refusal
 abbrev pub slacksAt : ℕ → Forecast → List Float → List Float
-slacksAt k t l = if eqb k 0 || eqb k 13 then writtenOf t l else l
+slacksAt k t l = if eqb k 0 || eqb k (numberOf computed) then writtenOf t l else l
 
 module _ (c : FuseConfig) (p v rows : List Float) (h d e from : ℕ) where
   abbrev pub plan : Forecast
@@ -52,7 +48,7 @@ module _ (c : FuseConfig) (p v rows : List Float) (h d e from : ℕ) where
   lentJudged room =
       (width when not (eqb d (c .dim)))
       ∷ (short when tooShort (c .«pos_dim») (length p) (length v) (plan .count) room)
-      ∷ (notFinite when someLentNotFinite p v rows) ∷ []
+      ∷ (notFinite when someLentNotFinite (p ∷ v ∷ rows ∷ [])) ∷ []
 
   unfoldable pub forecastRefusal : ℕ → ℕ
   forecastRefusal room = refusal (configJudged c ++ (chunkReasons h d e (length rows) ++ (lentJudged room ++ (computed when not (eqb (placeOf plan) 0) ∷ []))))

@@ -2,11 +2,11 @@
 use Prim.Native.Nat.{ℕ, min}
 use mathlib.Core.List.{List}
 use lib.Dec.{ltb}
-use lib.ListN.{length, getD, replicate}
+use lib.ListN.{length, replicate}
 use lib.Ieee.{Float, Format}
 use Rattle.refusal.specs.Order.{if_then_else_}
 use Rattle.fmath.specs.Constants.{1!, eps}
-use Rattle.fmath.specs.Each.{at, over}
+use Rattle.fmath.specs.Each.{at}
 use Rattle.fmath.specs.Finite.{+0}
 use Rattle.fmath.specs.Row.{padded}
 use Rattle.fmath.specs.Least.{greater}

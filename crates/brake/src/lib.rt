@@ -1,11 +1,12 @@
 // The brake's entries: the stopping forecast, and the rows that brake and hold.
 ghost use mathlib.Core.Path.{_≡_};
 ghost use mathlib.Core.Bool.{true};
-ghost use mathlib.Core.List.{_++_};
+ghost use mathlib.Core.List.{[], _∷_, _++_};
 ghost use Prim.Native.Nat.{ℕ, suc, _≤_};
 ghost use lib.ListN.{length};
 ghost use lib.Ieee.{binary64};
 ghost use Rattle.refusal.specs.Order.{refusal};
+ghost use Rattle.fmath.specs.Answer.{someLentNotFinite};
 ghost use Rattle.chunk.specs.Refusals.{chunkReasons};
 ghost use Rattle.envelope.specs.Refusals.{configJudged};
 ghost use Rattle.envelope.specs.Steps.{substepsIn};
@@ -17,7 +18,7 @@ ghost use Rattle.rollout.specs.Of as rolled;
 ghost use Rattle.stopping.specs.Rule as stopping-rule;
 ghost use Rattle.stopping.specs.Of as stopped;
 ghost use Rattle.brake.specs.Rule.{armOf, forecastOf, setpoint, ramp, scaledAt, slowed, slower, shorter, brakeRow, holdRow};
-ghost use Rattle.brake.specs.Answer.{tooShort, someLentNotFinite, outcome, lentJudged, forecastAnswer, forecastSlacks, rowLent, brakeAnswer, brakeOutput, holdAnswer, holdOutput};
+ghost use Rattle.brake.specs.Answer.{tooShort, outcome, lentJudged, forecastAnswer, forecastSlacks, rowLent, brakeAnswer, brakeOutput, holdAnswer, holdOutput};
 ghost use Rattle.brake.specs.Of.{workspaceFor, courseFor, startFor, rowFrom, countFor, Planned};
 use envelope::ActionKind;
 use envelope::BrakeKind;
@@ -222,7 +223,7 @@ fn too_short(pos_dim: usize, pos: usize, vel: usize, count: usize, room: usize) 
 
 // Whether some number that is lent, read or not, is not finite.
 fn not_finite(pos: &[f64], vel: &[f64], rows: &[f64]) -> bool
-    ensures { λ r. ⌜ r ≡ someLentNotFinite (now (pos .entry)) (now (vel .entry)) (now (rows .entry)) ⌝ }
+    ensures { λ r. ⌜ r ≡ someLentNotFinite (now (pos .entry) ∷ now (vel .entry) ∷ now (rows .entry) ∷ []) ⌝ }
 {
     let k = fmath::all_finite(pos, pos.len());
     let l = fmath::all_finite(vel, vel.len());

@@ -7,18 +7,18 @@ use native.Mathlib.Omega.{arith}
 use borrow.Author.Tests.{ltb-true, leb-true}
 use lib.Dec.{ltb, leb}
 use lib.ListN.{length}
+use Rattle.fmath.proofs.Each.{and-left, and-right}
 use Rattle.card.specs.declared.block.Answered.{Answered}
 use Rattle.card.specs.Text.{Put}
 use Rattle.card.specs.Block.{text, fits, answeredFor, outFor}
-use Rattle.card.proofs.Digits.{both, put-length}
+use Rattle.card.proofs.Digits.{put-length}
 use Rattle.card.proofs.Lines.{text-most}
 
 pub roomy : (room bytes n : ℕ) → n ≤ 18446744073709551615 → fits room bytes n ≡ true → (97 * (bytes / 96) + 97 ≤ room) × (n + bytes / 96 < 2 ^ 64)
 unfolding fits
 roomy room bytes n small h =
-    let e = both (ltb (bytes / 96) (room / 97)) (leb (bytes / 96) (18446744073709551615 - n)) h in
-    let a = ltb-true (bytes / 96) (room / 97) (e .0) in
-    let b = leb-true (bytes / 96) (18446744073709551615 - n) (e .1) in
+    let a = ltb-true (bytes / 96) (room / 97) (and-left (ltb (bytes / 96) (room / 97)) (leb (bytes / 96) (18446744073709551615 - n)) h) in
+    let b = leb-true (bytes / 96) (18446744073709551615 - n) (and-right (ltb (bytes / 96) (room / 97)) (leb (bytes / 96) (18446744073709551615 - n)) h) in
     (omega (arith, a), omega (arith, b, small))
 
 -- the lines fit

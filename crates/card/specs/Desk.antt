@@ -5,7 +5,7 @@ use mathlib.Core.List.{List, [], _∷_}
 use lib.Dec.{eqb}
 use lib.ListN.{replicate}
 use lib.Ieee.{Float, binary64, ofBits, toBits}
-use Rattle.refusal.specs.Order.{if_then_else_}
+use Rattle.refusal.specs.Order.{computed, numberOf, if_then_else_}
 use Rattle.fmath.specs.Constants.{1! }
 use Rattle.fmath.specs.Finite.{+0}
 use Rattle.conformal.specs.declared.Calibration.{Calibration}
@@ -91,7 +91,7 @@ slacksOf c l = forecastSlacks (configOf c) (num (c .p) ∷ []) (num (c .v) ∷ [
 
 -- a refusal's count: place minus 1 for 13, else 0
 unfoldable pub countOf : ℕ → ℕ → ℕ
-countOf number place = if eqb number 13 then place - 1 else 0
+countOf number place = if eqb number (numberOf computed) then place - 1 else 0
 
 -- the numbers of a line, with the bits of the margin and of the stop distance
 unfoldable pub answerFor : BrakeOut → Answer

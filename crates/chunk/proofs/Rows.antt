@@ -3,19 +3,39 @@ use Prim.Native.Nat.{ℕ, _+_, _-_, _*_, _^_, _≤_, _<_, min}
 use mathlib.Core.Path.{_≡_, sym, ap₂, _∙_, subst}
 use mathlib.Core.Bool.{true, false}
 use mathlib.Core.List.{List, []}
-use native.Mathlib.Nat.{lt-of-le-of-lt, mul-le-mul-left, mul-le-mul-right, suc-mul, mul-lt-mul-of-pos-right, le-of-lt}
+use native.Mathlib.Nat.{le-trans, lt-of-le-of-lt, mul-le-mul-left, mul-le-mul-right, suc-mul, mul-lt-mul-of-pos-right, le-of-lt}
 use native.Mathlib.Omega.{arith}
 use borrow.Author.Tests.{eq-eqb, ne-eqb, le-leb, lt-leb}
 use lib.Ieee.{Float}
 use lib.ListN.{length, take, drop, length-take, length-drop}
 use lib.Pow.{pow-pos}
-use lib.Seq.{paste, getD-take, getD-drop}
+use lib.Seq.{paste, take-all, getD-take, getD-drop}
 use Rattle.fmath.specs.Each.{at}
 use Rattle.chunk.specs.Rule.{rowStart, rowIn, rowOf, rowSet}
 
 -- two numbers of 16 bits have a product of 32
 pub place-small : {k d : ℕ} → k < 2 ^ 16 → d < 2 ^ 16 → k * d < 2 ^ 32
 place-small {k} {d} hk hd = lt-of-le-of-lt (mul-le-mul-left k (le-of-lt hd)) (mul-lt-mul-of-pos-right hk (pow-pos 16))
+
+-- where a row starts is small
+pub start-small : (h d i : ℕ) → h < 2 ^ 16 → d < 2 ^ 16 → rowStart h d i < 2 ^ 32
+start-small h d i hh hd = place-small {k = min i (h - 1)} (omega arith) hd
+
+-- a part of a slice to its end
+pub rest-is : (k : ℕ) (l : List Float) → take (length l - k) (drop k l) ≡ drop k l
+rest-is k l = take-all (length l - k) (drop k l) (omega (arith, length-drop k l))
+
+-- row i of h rows lies among them
+pub row-within : (i h d : ℕ) → i < h → i * d + d ≤ h * d
+row-within i h d l = subst (λ (y : ℕ). y ≤ h * d) (suc-mul i d) (mul-le-mul-right d l)
+
+-- .. and so in what holds them
+pub row-fits : (i h d len : ℕ) → i < h → h * d ≤ len → i * d + d ≤ len
+row-fits i h d len l b = le-trans (row-within i h d l) b
+
+-- the rows of a chunk are few numbers
+pub size-small : (h d : ℕ) → h ≤ 64 → d ≤ 8 → h * d ≤ 512
+size-small h d l b = le-trans (mul-le-mul-right {m = h} {n = 64} d l) (omega arith)
 
 module _ (l : List Float) (h d i : ℕ) where
   no-rows : h ≡ 0 → rowIn l h d i ≡ false
@@ -41,10 +61,7 @@ module _ (l : List Float) (h d i : ℕ) where
 
   -- rows that are all there: each is d long
   last-in : 0 < h → length l ≡ h * d → min i (h - 1) * d + d ≤ length l
-  last-in p e = rw e (under (min i (h - 1)) h d (omega arith))
-    where
-      under : (k h d : ℕ) → k < h → k * d + d ≤ h * d
-      under k h d b = subst (λ (y : ℕ). y ≤ h * d) (suc-mul k d) (mul-le-mul-right d b)
+  last-in p e = rw e (row-within (min i (h - 1)) h d (omega arith))
 
   pub row-in : 0 < h → length l ≡ h * d → rowIn l h d i ≡ true
   row-in p e = row-there (λ z. omega arith) (last-in p e)

@@ -5,6 +5,7 @@ use mathlib.Core.List.{List, [], _∷_, _++_}
 use lib.Dec.{eqb, ltb}
 use lib.Ieee.{Float}
 use lib.ListN.{length}
+use Rattle.fmath.specs.Answer.{someNotFinite}
 use Rattle.fmath.specs.Finite.{allFinite}
 use Rattle.refusal.specs.Order.{Judged, _when_, empty, tooLong, tooWide, execExceedsHorizon, lenMismatch, notFinite}
 
@@ -20,7 +21,7 @@ chunkReasons h d e n =
 
 -- .. and 12, for the rows themselves
 abbrev pub lentReasons : List Float → ℕ → ℕ → ℕ → List Judged
-lentReasons l h d e = chunkReasons h d e (length l) ++ (notFinite when not (allFinite l (length l)) ∷ [])
+lentReasons l h d e = chunkReasons h d e (length l) ++ (notFinite when someNotFinite l ∷ [])
 
 -- the same for the first h x d numbers of a buffer
 abbrev pub heldReasons : List Float → ℕ → ℕ → ℕ → List Judged

@@ -1,10 +1,8 @@
 // The action chunk: storage that is held whole (`ChunkBuf`), the view of lent rows (`ChunkView`), and one row of either.
 ghost use mathlib.Core.Path.{_≡_};
-ghost use Prim.Native.Nat.{_≤_};
-ghost use lib.ListN.{length};
-ghost use lib.Seq.{paste};
+ghost use Prim.Native.Nat.{_<_};
 ghost use Rattle.refusal.specs.Order.{refusal};
-ghost use Rattle.chunk.specs.Rule.{rowOf, rowSet, heldSize, heldRows};
+ghost use Rattle.chunk.specs.Rule.{rowStart, rowOf, rowSet, heldSize, heldRows};
 ghost use Rattle.chunk.specs.Refusals.{chunkReasons, lentReasons};
 ghost use Rattle.chunk.specs.Of.{newChunk, fillOf, copyOf, clearedOf, isFilledOf, heldRefusalOf, viewOf, Shows, ShowsHeld};
 use refusal::Refusal;
@@ -73,20 +71,6 @@ fn lent_refusal(rows: &[f64], horizon: u16, dim: u16, exec_steps: u16) -> u8
     }
 }
 
-// The array with the numbers of src over its first ones.
-fn over(data: [f64; 512], src: &[f64]) -> [f64; 512]
-    requires { ⌜ length (now src) ≤ 512 ⌝ }
-    ensures { λ r. ⌜ r ≡ paste «data» 0 (now (src .entry)) (length (now (src .entry))) ⌝ }
-{
-    let mut all = data;
-    let mut i = 0;
-    while i < src.len() {
-        all[i] = src[i];
-        i += 1;
-    }
-    all
-}
-
 impl ChunkBuf {
     pub const MAX_H: u16 = 64;
 
@@ -115,8 +99,8 @@ impl ChunkBuf {
         if number != 0 {
             return Filled { number, buf: self };
         }
-        let old = self.data;
-        let data = over(old, src);
+        let mut data = self.data;
+        fmath::put(src, src.len(), &mut data);
         Filled {
             number: 0,
             buf: ChunkBuf {
@@ -189,17 +173,23 @@ impl ChunkBuf {
     }
 }
 
+// Where row i starts, in a chunk that has rows: the last row at or past the horizon.
+fn row_start(horizon: u16, dim: u16, i: usize) -> usize
+    requires { ⌜ 0 < horizon ⌝ }
+    ensures { λ r. ⌜ r ≡ rowStart horizon dim i ⌝ }
+{
+    fmath::fewer(i, (horizon as usize) - 1) * (dim as usize)
+}
+
 // Row i as a part of the rows, the last row at or past the horizon; empty where there are no rows or it runs past the data.
 fn row_of(data: &[f64], horizon: u16, dim: u16, i: usize) -> &[f64]
     ensures { λ r. ⌜ now r ≡ rowOf (now («data» .entry)) horizon dim i ⌝ }
 {
-    let h = horizon as usize;
-    let d = dim as usize;
-    if h == 0 {
+    if horizon == 0 {
         return &data[..0];
     }
-    let start = fmath::fewer(i, h - 1) * d;
-    let end = start + d;
+    let start = row_start(horizon, dim, i);
+    let end = start + (dim as usize);
     if end <= data.len() {
         &data[start..end]
     } else {
@@ -211,13 +201,11 @@ fn row_of(data: &[f64], horizon: u16, dim: u16, i: usize) -> &[f64]
 pub fn row_mut(data: &mut [f64], horizon: u16, dim: u16, i: usize) -> &mut [f64]
     ensures { λ r. ⌜ now r ≡ rowOf (now («data» .entry)) horizon dim i ⌝ }
 {
-    let h = horizon as usize;
-    let d = dim as usize;
-    if h == 0 {
+    if horizon == 0 {
         return &mut data[..0];
     }
-    let start = fmath::fewer(i, h - 1) * d;
-    let end = start + d;
+    let start = row_start(horizon, dim, i);
+    let end = start + (dim as usize);
     if end <= data.len() {
         return &mut data[start..end];
     }
@@ -228,12 +216,11 @@ pub fn row_mut(data: &mut [f64], horizon: u16, dim: u16, i: usize) -> &mut [f64]
 pub fn set_row(data: &mut [f64], horizon: u16, dim: u16, i: usize, row: &[f64])
     ensures { λ _. ⌜ now («data» .exit) ≡ rowSet (now («data» .entry)) horizon dim i (now (row .entry)) ⌝ }
 {
-    let h = horizon as usize;
-    let d = dim as usize;
-    if h == 0 {
+    if horizon == 0 {
         return;
     }
-    let start = fmath::fewer(i, h - 1) * d;
+    let d = dim as usize;
+    let start = row_start(horizon, dim, i);
     if data.len() < start + d {
         return;
     }

@@ -1,8 +1,8 @@
 -- What `bitsWhere` says of each bit: the word is below 2 ^ n, so each weight that is added stands apart from those before it.
-use Prim.Native.Nat.{ℕ, zero, suc, _+_, _-_, _/_, _^_, _≤_, _<_}
+use Prim.Native.Nat.{ℕ, zero, suc, _+_, _-_, _*_, _/_, _^_, _≤_, _<_}
 use mathlib.Core.Path.{_≡_, ap, _∙_}
 use mathlib.Core.Bool.{Bool, true, false}
-use native.Mathlib.Nat.{div-eq-of-lt, add-div-right, add-mul-div-left, add-mul-mod-self-left, pow-succ', lt-of-lt-of-le, add-zero}
+use native.Mathlib.Nat.{div-eq-of-lt, add-div-right, add-mul-div-left, add-mul-mod-self-left, pow-suc, pow-succ', lt-of-lt-of-le, add-zero}
 use native.Mathlib.Omega.{arith}
 use native.Mathlib.Numerals.{add-one}
 use borrow.Author.Count.{below-more}
@@ -10,7 +10,7 @@ use lib.Pow.{pow-mono, pow-pos, pow-add}
 use Rattle.refusal.specs.Order.{if_then_else_}
 use Rattle.conformal.specs.Bits.{bit, bitsWhere}
 
-weight-most : (t : Bool) (w : ℕ) → (if t then w else 0) ≤ w
+pub weight-most : (t : Bool) (w : ℕ) → (if t then w else 0) ≤ w
 weight-most true w = omega arith
 weight-most false w = omega arith
 
@@ -26,6 +26,26 @@ bits-below p (suc n) =
 pub bits-more : (p : ℕ → Bool) (j b w v : ℕ) → b ≡ bitsWhere p j → w ≡ 2 ^ j → v ≡ (if p j then w else 0) → b + v ≡ bitsWhere p (j + 1)
 unfolding bitsWhere
 bits-more p j b w v h g e = rw (e, h, g, add-one)
+
+-- .. of at most twelve, whose numbers stay small
+pub record Turned (p : ℕ → Bool) (j v w x : ℕ) : Type 0 where
+  pub so-far : v + x ≡ bitsWhere p (j + 1)
+  pub next : w * 2 ≡ 2 ^ (j + 1)
+  pub small : v + x < 4096
+  pub low : w ≤ 2048
+
+pub turn : (p : ℕ → Bool) (j v w x : ℕ) {t : Bool} → j < 12 → v ≡ bitsWhere p j → w ≡ 2 ^ j → t ≡ p j → x ≡ (if t then w else 0) → Turned p j v w x
+turn p j v w x l ev ew et ex =
+    let s : v + x ≡ bitsWhere p (j + 1) = bits-more p j v w x ev ew (rw et at ex) in
+    let b = bits-below p (j + 1) in
+    let m : 2 ^ (j + 1) ≤ 2 ^ 12 = pow-mono {j = 12} (omega arith) in
+    let n : 2 ^ j ≤ 2 ^ 11 = pow-mono {j = 11} (omega arith) in
+    record {
+      so-far = s;
+      next = rw (add-one, pow-suc, ew);
+      small = omega arith;
+      low = omega arith;
+    }
 
 -- a word below 2 ^ j has no bit j
 pub bit-above : (w j : ℕ) → w < 2 ^ j → bit w j ≡ false

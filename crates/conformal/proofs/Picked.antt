@@ -8,6 +8,7 @@ use borrow.Author.Count.{below-more}
 use lib.Ieee.{Float, nan, inf, fin, lt, isNan}
 use Rattle.refusal.specs.Order.{if_then_else_}
 use Rattle.fmath.specs.Least.{lesser, greater}
+use Rattle.fmath.proofs.Extremes.{not-above-inf}
 use Rattle.fmath.proofs.Ordered.{Real}
 use Rattle.conformal.specs.Rule.{joinWhere}
 
@@ -99,12 +100,6 @@ pub greater-either : (a b : Float) → (greater a b ≡ a) ⊎ (greater a b ≡ 
 unfolding greater
 greater-either a b = either-of (lt b a) a b
 
-none-above : (x : Float) → lt (inf false) x ≡ false
-unfolding lt
-none-above nan = refl
-none-above (inf t) = refl
-none-above (fin t n d) = refl
-
 none-below : (x : Float) → lt x (inf true) ≡ false
 unfolding lt
 none-below nan = refl
@@ -114,7 +109,7 @@ none-below (fin t n d) = refl
 
 pub lesser-start : (x : Float) → lesser (inf false) x ≡ x
 unfolding lesser
-lesser-start x = rw (none-above x)
+lesser-start x = rw (not-above-inf x)
 
 pub greater-start : (x : Float) → greater (inf true) x ≡ x
 unfolding greater

@@ -1,7 +1,7 @@
 -- Laws of `all`, `some`, `every`, `table` and `over`: one turn of a loop that computes each, its end, and what it says of one index.
 use Prim.Native.Nat.{ℕ, zero, suc, _+_, _≤_, _<_, min}
 use mathlib.Core.Path.{_≡_, refl, ap, sym, _∙_}
-use mathlib.Core.Bool.{Bool, true, false, _&&_, _||_, false≢true}
+use mathlib.Core.Bool.{Bool, true, false, _&&_, _||_, false≢true, or-false}
 use mathlib.Core.List.{List, [], _∷_}
 use native.Mathlib.Nat.{le-refl, lt-of-not-le}
 use native.Mathlib.Decide.{decLe}
@@ -86,10 +86,6 @@ unfolding some
 some-cut p zero m h = let e : min 0 m ≡ 0 = omega arith in rw e
 some-cut p (suc n) m h = go (decLe m n) (some-cut p n m h)
   where
-    or-false : (b : Bool) → b || false ≡ b
-    or-false true = refl
-    or-false false = refl
-
     go : Dec (m ≤ n) → some p n ≡ some p (min n m) → some p n || p n ≡ some p (min (suc n) m)
     go (yes l) e = let k : min (suc n) m ≡ min n m = omega arith in rw (h n l, k) (or-false (some p n) ∙ e)
     go (no l) e = let k : min (suc n) m ≡ suc n = omega (arith, lt-of-not-le l) in rw k

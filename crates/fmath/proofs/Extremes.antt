@@ -68,7 +68,7 @@ not-below-nan (inf s) = refl
 not-below-nan (fin s m e) = refl
 
 -- nothing is above infinity
-not-above-inf : (x : Float) → lt (inf false) x ≡ false
+pub not-above-inf : (x : Float) → lt (inf false) x ≡ false
 unfolding lt
 not-above-inf nan = refl
 not-above-inf (inf s) = refl

@@ -1,6 +1,6 @@
 -- What `sqrt`, `norm` and `dist` answer: a number, or why there is none.
 use Prim.Native.Nat.{ℕ, zero, suc}
-use mathlib.Core.Bool.{Bool, not, _||_}
+use mathlib.Core.Bool.{Bool, false, not, _||_}
 use mathlib.Core.List.{List, [], _∷_}
 use lib.Dec.{ltb}
 use lib.ListN.{length}
@@ -20,6 +20,16 @@ numberOr (suc k) x = Refused (refusedFor (suc k))
 -- some of the numbers of a lent slice is not finite, read or not
 abbrev pub someNotFinite : List Float → Bool
 someNotFinite v = not (allFinite v (length v))
+
+unfoldable pub some-from : Bool → List (List Float) → Bool
+some-from b [] = b
+some-from b (v ∷ l) = some-from (b || someNotFinite v) l
+
+-- .. of some slices: `someLentNotFinite (a ∷ b ∷ [])` computes to `someNotFinite a || someNotFinite b`
+unfoldable pub someLentNotFinite : List (List Float) → Bool
+unfolding some-from
+someLentNotFinite [] = false
+someLentNotFinite (v ∷ l) = some-from (someNotFinite v) l
 
 abbrev pub sqrtAnswer : Format → Float → Number
 sqrtAnswer f x = numberOr (refusal (computed when not (root f x .sound) ∷ [])) (root f x .value)

@@ -6,7 +6,8 @@ use lib.Dec.{leb, eqb}
 use lib.Ieee.{Float}
 use Rattle.fmath.specs.Each.{every}
 use Rattle.chunk.specs.declared.ChunkBuf.{ChunkBuf}
-use Rattle.layout.specs.Places.{count, long, short, bit, in16, in32}
+use Rattle.window.specs.Rule.{bit}
+use Rattle.layout.specs.Places.{count, long, short, in16, in32}
 
 -- each count fits its field
 unfoldable pub headerFits : List ℕ → Bool

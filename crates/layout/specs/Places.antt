@@ -1,6 +1,6 @@
 -- Numbers and counts by their place in a flat array.
 use Prim.Native.Nat.{ℕ, _+_, min}
-use mathlib.Core.Bool.{Bool, true, false}
+use mathlib.Core.Bool.{Bool}
 use mathlib.Core.List.{List}
 use lib.Dec.{leb}
 use lib.ListN.{getD}
@@ -31,8 +31,3 @@ short x = leb x 65535
 
 abbrev pub long : ℕ → Bool
 long x = leb x 4294967295
-
--- a flag as a count
-abbrev pub bit : Bool → ℕ
-bit true = 1
-bit false = 0

@@ -5,8 +5,9 @@ use mathlib.Core.List.{List, [], _∷_}
 use lib.Dec.{leb, eqb}
 use lib.Ieee.{Float}
 use Rattle.fmath.specs.Each.{every}
+use Rattle.window.specs.Rule.{bit}
 use Rattle.tier1.specs.declared.Tier1Rt.{Tier1Rt}
-use Rattle.layout.specs.Places.{count, long, bit, in32}
+use Rattle.layout.specs.Places.{count, long, in32}
 use Rattle.layout.specs.Chunk.{headerFits, chunkOf}
 use Rattle.layout.specs.Trail.{trailFits, trailOf}
 

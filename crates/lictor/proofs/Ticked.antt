@@ -1,16 +1,15 @@
 -- The places after a tick: a refusal leaves them, and a tick that passes puts the module's answer there.
-use Prim.Native.Nat.{ℕ, _+_, _*_, _≤_, min}
+use Prim.Native.Nat.{ℕ, _≤_, min}
 use mathlib.Core.Path.{_≡_, refl, sym, ap, _∙_}
 use mathlib.Core.Bool.{Bool, true, false, _||_}
 use mathlib.Core.List.{List}
 use native.Mathlib.Omega.{arith}
 use borrow.Author.Tests.{eq-eqb, ne-eqb, le-leb}
-use lib.Dec.{leb}
 use lib.ListN.{length}
-use lib.Seq.{paste}
 use lib.Ieee.{Float}
 use Rattle.refusal.specs.Order.{if_then_else_}
-use Rattle.chunk.specs.Rule.{rowSet}
+use Rattle.fmath.specs.Each.{at, over}
+use Rattle.fmath.proofs.Copy.{all-pasted}
 use Rattle.chunk.specs.Of.{heldOf}
 use Rattle.conformal.specs.declared.Scores.{Scores}
 use Rattle.envelope.specs.declared.FuseConfig.{FuseConfig}
@@ -31,13 +30,9 @@ pub state-rows : (l : List Float) (h : List ℕ) (p : List Float) (t : List ℕ)
 unfolding stateOf chunkOf
 state-rows l h p t f c e = rw e
 
--- one row as long as the chunk's numbers, put over a buffer that has room
-over-at : (d l : List Float) (s n : ℕ) → s ≡ 0 → n ≡ length l → length d ≡ 512 → (if leb (s + length l) (length d) then paste d s l n else d) ≡ rowsOver d l
-over-at d l s n es en ed = let u : s + length l ≡ length l = omega arith in rw (u, es, en, ed)
-
-pub over-is : (d l : List Float) → length d ≡ 512 → rowSet d 1 (length l) 0 l ≡ rowsOver d l
-unfolding rowSet
-over-is d l e = over-at d l (0 * length l) (min (length l) (length l)) (omega arith) (omega arith) e
+-- a chunk's numbers, put over a buffer that has room
+pub over-is : (d l : List Float) {e : List Float} → length d ≡ 512 → length l ≤ 512 → e ≡ over (at l) d (min (length l) (min (length l) (length d))) → e ≡ rowsOver d l
+over-is d l n h e = all-pasted d l (rw n h) e ∙ rw (le-leb (length l) 512 h)
 
 -- the scores after a tick
 abbrev scoresNext : TickOut → Scores → Scores

@@ -16,6 +16,7 @@ use Rattle.window.specs.declared.Count.{Count}
 use Rattle.window.specs.declared.Count.the-variants as C
 use Rattle.window.specs.declared.Emptiness.{Emptiness}
 use Rattle.window.specs.declared.Emptiness.the-variants as E
+use Rattle.window.specs.Rule.{bit}
 use Rattle.conformal.specs.declared.Scored.{Scored}
 use Rattle.conformal.specs.declared.Verdict.{Verdict}
 use Rattle.conformal.specs.declared.Verdict.the-variants as Y
@@ -31,7 +32,6 @@ use Rattle.brake.specs.declared.BrakeOut.{BrakeOut}
 use Rattle.brake.specs.declared.BrakeOut.the-variants as F
 use Rattle.brake.specs.declared.Sent.{Sent}
 use Rattle.brake.specs.declared.Sent.the-variants as S
-use Rattle.layout.specs.Places.{bit}
 use Rattle.layout.specs.Chunk.{headerFlat}
 use Rattle.layout.specs.Trail.{trailMarks}
 use Rattle.layout.specs.State.{heldMarks}

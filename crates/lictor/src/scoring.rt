@@ -18,8 +18,7 @@ fn put_rows(rows: &[f64], before: &mut [f64; 512])
     ensures { λ _. ⌜ now (before .exit) ≡ rowsOver (now (before .entry)) (now (rows .entry)) ⌝ }
 {
     if rows.len() <= 512 {
-        let n = rows.len() as u16;
-        chunk::set_row(before, 1, n, 0, rows);
+        fmath::put(rows, rows.len(), before);
     }
 }
 

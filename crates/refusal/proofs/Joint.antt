@@ -1,5 +1,4 @@
 -- The number for two arguments together is the earlier of the numbers for each, whatever the order is; and 13 after all that is lent.
-use Prim.Native.Nat.{ℕ}
 use mathlib.Core.Path.{_≡_, refl, sym, _∙_}
 use mathlib.Core.Bool.{Bool, true, false, _||_}
 use mathlib.Core.List.{List, [], _∷_}

@@ -1,14 +1,15 @@
 -- Committed rows and substeps: substep i * per + j goes towards row from + i, and the rows' substeps fit before the braking ones.
-use mathlib.Core.Path.{_≡_, refl, ap, _∙_, subst}
+use mathlib.Core.Path.{_≡_, refl, ap, _∙_}
 use mathlib.Core.List.{List}
 use Prim.Native.Nat.{ℕ, zero, suc, _+_, _*_, _≤_, _<_}
-use native.Mathlib.Nat.{mul-le-mul-right, suc-mul}
+use native.Mathlib.Nat.{suc-mul}
 use native.Mathlib.Numerals.{add-one}
 use native.Mathlib.Omega.{arith}
 use borrow.Author.Tests.{lt-ltb, le-ltb}
 use lib.Arith.{digits-div}
 use lib.Ieee.{Float, Format}
 use Rattle.chunk.specs.Rule.{rowOf}
+use Rattle.chunk.proofs.Rows.{row-within}
 use Rattle.workspace.specs.Rule.{inward}
 use Rattle.rollout.specs.Plant.{State, substep}
 use Rattle.rollout.specs.Rule.{Task, rowsLeft, pushes, rowAt, pushed, setpoint, aim, after}
@@ -17,14 +18,11 @@ use Rattle.rollout.specs.Rule.{Task, rowsLeft, pushes, rowAt, pushed, se
 pub row-more : (i per : ℕ) → (i + 1) * per ≡ i * per + per
 row-more i per = ap (λ (y : ℕ). y * per) (add-one i) ∙ suc-mul i per
 
-pub row-fits : (i left per : ℕ) → i < left → i * per + per ≤ left * per
-row-fits i left per h = subst (λ (y : ℕ). y ≤ left * per) (suc-mul i per) (mul-le-mul-right per h)
-
 module _ (f : Format) (t : Task) where
   pub aims-row : (i j : ℕ) → i < rowsLeft (t .commit) (t .from) .0 → j < t .per .0 → aim f t (i * t .per .0 + j) ≡ rowOf (t .rows) (t .horizon) (t .dim) (t .from + i)
   unfolding aim
   aims-row i j h b =
-      let l : i * t .per .0 + j < pushes t = omega (arith, row-fits i (rowsLeft (t .commit) (t .from) .0) (t .per .0) h) in
+      let l : i * t .per .0 + j < pushes t = omega (arith, row-within i (rowsLeft (t .commit) (t .from) .0) (t .per .0) h) in
       rw (lt-ltb (i * t .per .0 + j) (pushes t) l, digits-div i b)
 
   aim-row : (k : ℕ) → k < pushes t → aim f t k ≡ rowAt t k

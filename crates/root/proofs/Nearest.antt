@@ -3,7 +3,7 @@
 use mathlib.Core.Path.{_≡_, sym, ap, _∙_, subst, subst₂}
 use mathlib.Core.Bool.{Bool, true, false, _&&_}
 use Prim.Native.Nat.{ℕ, zero, suc, _+_, _-_, _*_, _/_, _%_, _^_, _≤_, _<_}
-use native.Mathlib.Nat.{le-trans, le-of-lt, lt-of-lt-of-le, lt-of-le-of-lt, lt-of-not-le, not-le-of-lt, mul-le-mul, mul-le-mul-right, mul-le-mul-left, mul-lt-mul-of-pos-right, mul-pos, mul-assoc, mul-comm, mul-right-comm, add-mul, suc-mul, one-mul}
+use native.Mathlib.Nat.{le-trans, le-of-lt, lt-of-lt-of-le, lt-of-le-of-lt, lt-of-not-le, not-le-of-lt, mul-le-mul-right, mul-le-mul-left, mul-lt-mul-of-pos-right, mul-pos, mul-assoc, mul-comm, mul-right-comm, add-mul, suc-mul, one-mul}
 use native.Mathlib.Decide.{decLe}
 use native.Mathlib.Omega.{arith}
 use borrow.Author.Tests.{ltb-true}
@@ -17,13 +17,11 @@ use lib.Ieee.Fits.{odd-fits, and-r}
 use lib.Ieee.Positive.{num, den, den-pos, positive, value→cross, positive-of-value}
 use Rattle.root.specs.Root.{nearRoot, rootOf}
 use Rattle.root.specs.Rule.{Near, notNegative, NearestRoot, MidBelow, MidAbove}
-use Rattle.root.proofs.Units.{pairs, pairs-is, size-shift, squares}
+use Rattle.root.proofs.Floor.{sq-twice, sq-le}
+use Rattle.root.proofs.Units.{pairs, pairs-is, size-shift, squares, four-pos}
 use Rattle.root.proofs.Rule.{prec-pos, whole-of, whole-ge, root-near, root-ge, root-lt, root-is, weighed, InUnits, in-its-units, positive-not-negative, some-units}
 
 -- ---- squares of multiples of 2 ^ i
-
-sq-le : {a b : ℕ} → a ≤ b → a * a ≤ b * b
-sq-le h = mul-le-mul h h
 
 sq-lt : (a b : ℕ) → a < b → a * a < b * b
 sq-lt a b h = lt-of-le-of-lt (mul-le-mul-left a (le-of-lt h)) (mul-lt-mul-of-pos-right h (lt-of-le-of-lt zero≤ h))
@@ -37,9 +35,6 @@ shift-sq r i =
     ∙ ap (λ (y : ℕ). y * 2 ^ i) (mul-right-comm r (2 ^ i) r)
     ∙ mul-assoc (r * r) (2 ^ i) (2 ^ i)
     ∙ ap (λ (y : ℕ). r * r * y) (sym (squares i))
-
-four-pos : (i : ℕ) → 0 < 4 ^ i
-four-pos i = subst (λ (y : ℕ). 0 < y) (sym (squares i)) (mul-pos (pow-pos i) (pow-pos i))
 
 cancel-lt : (a b u : ℕ) → a * u < b * u → a < b
 cancel-lt a b u h = lt-of-not-le (λ (g : b ≤ a). not-le-of-lt h (mul-le-mul-right u g))
@@ -95,13 +90,10 @@ module _ (p r x i a j : ℕ) (P : 0 < p) (R : 2 ^ (p - 1) ≤ r) (X : 2 ^ (p - 1
   z = a * 2 ^ j
 
   twice-sq : (y + y) * (y + y) ≡ 4 * (r * r) * 4 ^ i
-  twice-sq = ap (λ (t : ℕ). t * t) (sym (two r (2 ^ i))) ∙ shift-sq (2 * r) i ∙ ap (λ (t : ℕ). t * 4 ^ i) (quad r)
+  twice-sq = ap (λ (t : ℕ). t * t) (sym (two r (2 ^ i))) ∙ shift-sq (2 * r) i ∙ ap (λ (t : ℕ). t * 4 ^ i) (sq-twice r)
     where
       two : (r u : ℕ) → 2 * r * u ≡ r * u + r * u
       two r u = mul-assoc 2 r u ∙ omega arith
-
-      quad : (r : ℕ) → 2 * r * (2 * r) ≡ 4 * (r * r)
-      quad r = mul-assoc 2 r (2 * r) ∙ ap (λ (t : ℕ). 2 * t) (sym (mul-assoc r 2 r) ∙ ap (λ (t : ℕ). t * r) (mul-comm r 2) ∙ mul-assoc 2 r r) ∙ omega arith
 
   mid-below : z < y → (y + z) * (y + z) < 4 * x * 4 ^ i
   mid-below h = go (decLe (r * r) x)

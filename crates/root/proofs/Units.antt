@@ -60,7 +60,7 @@ squares (suc i) = pow-succ' 4 i ∙ ap (λ (y : ℕ). 4 * y) (squares i) ∙ sym
 pub four-pow : (i : ℕ) → 4 ^ i ≡ 2 ^ (i + i)
 four-pow i = squares i ∙ sym (pow-add 2 i i)
 
-four-pos : (i : ℕ) → 0 < 4 ^ i
+pub four-pos : (i : ℕ) → 0 < 4 ^ i
 four-pos i = one-le-pow i 4 (pow-pos 2)
 
 -- ---- the pairs that are lost

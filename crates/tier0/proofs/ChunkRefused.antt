@@ -12,6 +12,7 @@ use lib.Ieee.{Float, binary64}
 use Rattle.refusal.specs.Order.{Judged, width, short, notFinite, computed, _when_, refusal, refusedFor, if_then_else_}
 use Rattle.refusal.specs.Chain.{first-refuses, first-passes, both-pass, passes-at}
 use Rattle.refusal.specs.declared.Refusal.{Refusal}
+use Rattle.fmath.specs.Answer.{someLentNotFinite}
 use Rattle.fmath.specs.Each.{at, over}
 use Rattle.fmath.specs.Finite.{+0}
 use Rattle.fmath.proofs.Copy.{all-put}
@@ -25,7 +26,7 @@ use Rattle.tier0.specs.declared.Check.the-variants.{Passed, Refused}
 use Rattle.tier0.specs.declared.Checks.{Checks}
 use Rattle.tier0.specs.declared.Ruling.{Ruling}
 use Rattle.tier0.specs.Chunk.{checkChunk}
-use Rattle.tier0.specs.Refusals.{chunkTooShort, someChunkNotFinite}
+use Rattle.tier0.specs.Refusals.{chunkTooShort}
 use Rattle.tier0.specs.Of.{checksOf, rulingFrom, lentToChunk, chunkRuling, chunkRefusal, chunkAnswer, chunkOut}
 use Rattle.tier0.proofs.Refused.{or-left, or-right, at-number, out-number}
 
@@ -60,7 +61,7 @@ module _ (c : FuseConfig) (p aux rows : List Float) (h d e : ℕ) where
   brief room = chunkTooShort (c .«pos_dim») (length p) (h * d) room
 
   abbrev unfit : Bool
-  unfit = someChunkNotFinite p aux rows
+  unfit = someLentNotFinite (p ∷ aux ∷ rows ∷ [])
 
   abbrev sizes : List Judged
   sizes = chunkReasons h d e (length rows)

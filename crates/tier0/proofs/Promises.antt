@@ -17,7 +17,6 @@ use Rattle.fmath.specs.Row.{padded}
 use Rattle.fmath.specs.Checked.{Checked, pure, each}
 use Rattle.fmath.specs.Norm.{norm, dist}
 use Rattle.fmath.proofs.Copy.{padded-at}
-use Rattle.fmath.proofs.Each.{over-at}
 use Rattle.fmath.proofs.Ordered.{lt-irrefl}
 use Rattle.workspace.specs.Rule.{Walls, beyond}
 use Rattle.conformal.specs.Bits.{bit, bitsWhere}
@@ -26,11 +25,11 @@ use Rattle.envelope.specs.declared.ClampMode.{ClampMode}
 use Rattle.envelope.specs.declared.ClampMode.the-variants.{Off, Project}
 use Rattle.envelope.specs.declared.Contact.{Contact}
 use Rattle.envelope.specs.declared.Contact.the-variants.{None, Zone}
+use Rattle.chunk.proofs.Rows.{row-fits}
 use Rattle.tier0.specs.declared.Checks.{Checks}
 use Rattle.tier0.specs.declared.Difference.the-variants.{Accel, Jerk}
 use Rattle.tier0.specs.Rule.{WORKSPACE, SPEED, ACCEL, JERK, REACH, CONTACT, arms, shared, Slow, clear, seen, inZone, zoneIn, slowZone, outOfBox, outOfReach, tripBits, leash, boxed, leashed, reached, moves, moved, project, projection, checkAction}
 use Rattle.tier0.specs.Chunk.{startRow, stepTo, someLonger, someOutOfBox, tooLarge, rawRow, exceeds, putRow, nextRow, runRows, projectedRows, checkChunk}
-use Rattle.tier0.proofs.Rows.{row-fits}
 
 -- ---- the bits
 
@@ -241,7 +240,7 @@ equal-itself (fin false m e) h = rw (eq-eqb (m * up e * down e) (m * up e * down
 
 -- .. and of a row that stays no bit is set in clamped_dims
 pub unmoved : (a : List Float) (n : ℕ) → ((j : ℕ) → j < n → finite (at a j) ≡ true) → moved a a n ≡ 0
-unfolding moved
+unfolding bitsWhere
 unmoved a zero e = refl
 unmoved a (suc n) e = rw (unmoved a n (λ j l. e j (omega arith)), equal-itself (at a n) (e n (omega arith)))
 

@@ -12,6 +12,7 @@ use lib.Ieee.{Float, binary64}
 use Rattle.refusal.specs.Order.{Judged, short, notFinite, computed, _when_, refusal, refusedFor, if_then_else_}
 use Rattle.refusal.specs.Chain.{first-refuses, first-passes, both-pass, passes-at}
 use Rattle.refusal.specs.declared.Refusal.{Refusal}
+use Rattle.fmath.specs.Answer.{someLentNotFinite}
 use Rattle.fmath.specs.Each.{at, over}
 use Rattle.fmath.proofs.Copy.{all-put}
 use Rattle.fmath.proofs.Each.{and-left, and-right}
@@ -23,7 +24,7 @@ use Rattle.tier0.specs.declared.Check.the-variants.{Passed, Refused}
 use Rattle.tier0.specs.declared.Checks.{Checks}
 use Rattle.tier0.specs.declared.Verdict.{Verdict}
 use Rattle.tier0.specs.Rule.{Judgement, seen, checkAction}
-use Rattle.tier0.specs.Refusals.{tooShort, someLentNotFinite, answerAt, outAt}
+use Rattle.tier0.specs.Refusals.{tooShort, answerAt, outAt}
 use Rattle.tier0.specs.Of.{checksOf, verdictFrom, lentToAction, actionRuling, actionRefusal, actionAnswer, actionOut}
 
 pub seen-parts : (p aux : List Float) (i j : ℕ) → seen p aux i j ≡ true → (i < length aux) × (j < length aux)
@@ -74,7 +75,7 @@ module _ (c : FuseConfig) (p aux prev a : List Float) where
   brief room = tooShort (c .dim) (c .«pos_dim») (length p) (length prev) (length a) room
 
   abbrev unfit : Bool
-  unfit = someLentNotFinite p aux prev a
+  unfit = someLentNotFinite (p ∷ aux ∷ prev ∷ a ∷ [])
 
   module _ (room : ℕ) where
     abbrev rest : List Judged

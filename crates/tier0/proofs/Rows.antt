@@ -4,13 +4,12 @@ use mathlib.Core.Path.{_≡_, refl, sym, ap, _∙_}
 use mathlib.Core.Bool.{Bool, true, false, _&&_, _||_, and-true}
 use mathlib.Core.List.{List}
 use native.Mathlib.Numerals.{add-one}
-use native.Mathlib.Nat.{mul-le-mul-right, add-mul, one-mul, le-trans}
+use native.Mathlib.Nat.{mul-le-mul-right}
 use native.Mathlib.Omega.{arith}
 use borrow.Author.Tests.{ne-eqb}
 use lib.Bits.{bitOr}
 use lib.Dec.{eqb}
-use lib.ListN.{length, set, take, drop, replicate, length-set, length-drop}
-use lib.Seq.{take-all}
+use lib.ListN.{length, set, replicate, length-set}
 use lib.Ieee.{Float, Format, binary64, add, sub, mul, lt}
 use Rattle.fmath.specs.Each.{at, all, some, over}
 use Rattle.fmath.specs.Finite.{finite, +0}
@@ -21,6 +20,7 @@ use Rattle.fmath.proofs.Absorbing.{fine-add-left, fine-add-right, fine-sub-left
 use Rattle.fmath.proofs.Each.{all-more, some-more}
 use Rattle.fmath.proofs.Extremes.{greatest-more}
 use Rattle.fmath.proofs.Told.{Tells, implied, dist-tells, norm-tells}
+use Rattle.chunk.proofs.Rows.{row-fits}
 use Rattle.envelope.specs.declared.ClampMode.{ClampMode}
 use Rattle.envelope.specs.declared.ClampMode.the-variants as M
 use Rattle.tier0.specs.declared.Checks.{Checks}
@@ -38,23 +38,9 @@ use Rattle.tier0.specs.Of.{slowOf, zoneFrom, rowFrom, testFrom, stepsFro
 
 -- ---- one row
 
--- a part of a slice to its end
-pub rest-is : (k : ℕ) (l : List Float) → take (length l - k) (drop k l) ≡ drop k l
-rest-is k l = take-all (length l - k) (drop k l) (omega (arith, length-drop k l))
-
--- row i lies in the rows
-pub row-fits : (i h n len : ℕ) → i < h → h * n ≤ len → i * n + n ≤ len
-row-fits i h n len l b =
-    let e : (i + 1) * n ≡ i * n + n = rw (add-mul, one-mul) in
-    le-trans (rw e at (mul-le-mul-right {m = i + 1} {n = h} n (omega arith))) b
-
--- .. and so does every row before it
+-- every row before one that lies in the rows lies in them
 pub earlier-fits : (i j n len : ℕ) → i ≤ j → j * n + n ≤ len → i * n + n ≤ len
 earlier-fits i j n len l b = let w = mul-le-mul-right {m = i} {n = j} n l in omega arith
-
--- where a row starts is small
-pub start-small : (i n : ℕ) → i < 64 → n ≤ 8 → i * n ≤ 512
-start-small i n l b = le-trans (mul-le-mul-right {m = i} {n = 64} n (omega arith)) (omega arith)
 
 pub put-turn : (r l m : List Float) (k i : ℕ) → m ≡ putRow r l k i → set m (k + i) (at r i) ≡ putRow r l k (i + 1)
 unfolding putRow
@@ -271,10 +257,3 @@ judge-chunk-is s p aux rows l h ez eq et ek eb ej e1 ef es ew ec = (rw (ew, ec .
 -- the first row lies in the rows
 pub first-fits : (h n len : ℕ) → 0 < h → h * n ≤ len → n ≤ len
 first-fits h n len l b = let w = row-fits 0 h n len l b in omega arith
-
--- so many rows are a small number of numbers
-pub size-small : (h n : ℕ) → h ≤ 64 → n ≤ 8 → h * n ≤ 512
-size-small h n l b = le-trans (mul-le-mul-right {m = h} {n = 64} n l) (omega arith)
-
-pub words-small : (h d : ℕ) → h < 65536 → d < 65536 → h * d < 4294967296
-words-small h d l b = let w = mul-le-mul-right {m = h} {n = 65535} d (omega arith) in omega arith

@@ -6,6 +6,7 @@ use lib.Dec.{eqb}
 use lib.ListN.{length, replicate}
 use lib.Ieee.{Float, binary64}
 use Rattle.refusal.specs.Order.{Judged, width, short, notFinite, computed, _when_, refusal}
+use Rattle.fmath.specs.Answer.{someLentNotFinite}
 use Rattle.fmath.specs.Finite.{+0}
 use Rattle.fmath.specs.Checked.{Checked}
 use Rattle.chunk.specs.Refusals.{chunkReasons}
@@ -25,7 +26,7 @@ use Rattle.tier0.specs.declared.Ran.{Ran}
 use Rattle.tier0.specs.declared.Ruling.{Ruling}
 use Rattle.tier0.specs.Rule.{Slow, Projected, Judgement, checkAction}
 use Rattle.tier0.specs.Chunk.{Run, peakStep, someLonger, someOutOfBox, checkChunk}
-use Rattle.tier0.specs.Refusals.{tooShort, someLentNotFinite, chunkTooShort, someChunkNotFinite, answerAt, outAt}
+use Rattle.tier0.specs.Refusals.{tooShort, chunkTooShort, answerAt, outAt}
 
 -- what the checks read of a configuration and of the numbers derived from it
 abbrev pub checksFrom : FuseConfig → Derived → Checks
@@ -106,7 +107,7 @@ module _ (c : FuseConfig) (p aux prev a : List Float) where
   abbrev pub lentToAction : ℕ → List Judged → List Judged
   lentToAction room l =
       (short when tooShort (c .dim) (c .«pos_dim») (length p) (length prev) (length a) room)
-      ∷ (notFinite when someLentNotFinite p aux prev a) ∷ l
+      ∷ (notFinite when someLentNotFinite (p ∷ aux ∷ prev ∷ a ∷ [])) ∷ l
 
   unfoldable pub actionRuling : Checked Judgement
   actionRuling = checkAction binary64 (checksOf c) p aux prev a
@@ -129,7 +130,7 @@ module _ (c : FuseConfig) (p aux rows : List Float) (h d e : ℕ) where
   lentToChunk room l =
       (width when not (eqb d (c .dim)))
       ∷ (short when chunkTooShort (c .«pos_dim») (length p) (h * d) room)
-      ∷ (notFinite when someChunkNotFinite p aux rows) ∷ l
+      ∷ (notFinite when someLentNotFinite (p ∷ aux ∷ rows ∷ [])) ∷ l
 
   unfoldable pub chunkRuling : Checked Judgement
   chunkRuling = checkChunk binary64 (checksOf c) p aux rows (replicate 512 +0) h

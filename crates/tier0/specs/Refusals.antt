@@ -6,7 +6,6 @@ use lib.Dec.{ltb}
 use lib.Ieee.{Float}
 use Rattle.refusal.specs.Order.{refusedFor}
 use Rattle.fmath.specs.Each.{at, over}
-use Rattle.fmath.specs.Answer.{someNotFinite}
 use Rattle.tier0.specs.declared.Check.{Check}
 use Rattle.tier0.specs.declared.Check.the-variants.{Passed, Refused}
 use Rattle.tier0.specs.Rule.{Judgement}
@@ -15,17 +14,9 @@ use Rattle.tier0.specs.Rule.{Judgement}
 unfoldable pub tooShort : ℕ → ℕ → ℕ → ℕ → ℕ → ℕ → Bool
 tooShort dim pos-dim p prev a room = ltb p pos-dim || ltb prev dim || ltb a dim || ltb room dim
 
--- 12: some number of what is lent, read or not
-unfoldable pub someLentNotFinite : List Float → List Float → List Float → List Float → Bool
-someLentNotFinite p aux prev a = someNotFinite p || someNotFinite aux || someNotFinite prev || someNotFinite a
-
 -- 11 for a chunk: the position below pos_dim, or the output below horizon x dim
 unfoldable pub chunkTooShort : ℕ → ℕ → ℕ → ℕ → Bool
 chunkTooShort pos-dim p size room = ltb p pos-dim || ltb room size
-
--- 12 for a chunk
-unfoldable pub someChunkNotFinite : List Float → List Float → List Float → Bool
-someChunkNotFinite p aux rows = someNotFinite p || someNotFinite aux || someNotFinite rows
 
 -- the judgement where the refusal is 0
 abbrev pub answerAt : ℕ → Judgement → Check

@@ -1,18 +1,19 @@
 -- The rules of document 01's module 5 for one row, over the format. Whatever is computed is checked.
-use Prim.Native.Nat.{ℕ, zero, suc, _+_, _/_, _%_, _^_, min}
+use Prim.Native.Nat.{ℕ, _+_, _/_, _%_, min}
 use mathlib.Core.Bool.{Bool, true, false, _&&_, _||_}
 use mathlib.Core.List.{List, [], _∷_}
 use lib.Dec.{ltb, leb, eqb}
 use lib.IntN.{negsuc}
-use lib.ListN.{length, replicate}
+use lib.ListN.{length}
 use lib.Ieee.{Float, Format, binary32, binary64, fin, lt, le, ne}
 use Rattle.refusal.specs.Order.{if_then_else_}
-use Rattle.fmath.specs.Each.{at, over}
+use Rattle.fmath.specs.Each.{at}
 use Rattle.fmath.specs.Finite.{+0}
 use Rattle.fmath.specs.Row.{padded}
 use Rattle.fmath.specs.Checked.{Checked, _>>=_, pure, plus, minus, times, divided, each}
 use Rattle.fmath.specs.Least.{lesser}
 use Rattle.fmath.specs.Norm.{dist}
+use Rattle.conformal.specs.Bits.{bitsWhere}
 use Rattle.workspace.specs.Of.{wallsOf}
 use Rattle.workspace.specs.Rule.{outside, inward}
 use Rattle.envelope.specs.declared.ClampMode.{ClampMode}
@@ -148,9 +149,8 @@ moves f s z p isFirst prev a = do
   if isFirst then reached f s p l else pure l
 
 -- a bit for each coordinate that differs, as numbers
-unfoldable pub moved : List Float → List Float → ℕ → ℕ
-moved a b zero = 0
-moved a b (suc j) = moved a b j + bit (ne (at a j) (at b j)) (2 ^ j)
+abbrev pub moved : List Float → List Float → ℕ → ℕ
+moved a b n = bitsWhere (λ (j : ℕ). ne (at a j) (at b j)) n
 
 -- rows after projection, and a bit for each coordinate that was moved in any of them
 pub record Projected : Type 0 where

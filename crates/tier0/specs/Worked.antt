@@ -12,10 +12,11 @@ use Rattle.fmath.specs.Finite.{finite, +0}
 use Rattle.fmath.specs.Row.{padded}
 use Rattle.fmath.specs.Checked.{Checked, sumFrom, each}
 use Rattle.fmath.specs.Norm.{squaredGap, dist}
+use Rattle.conformal.specs.Bits.{bitsWhere}
 use Rattle.envelope.specs.declared.ClampMode.the-variants.{Project}
 use Rattle.envelope.specs.declared.Contact.the-variants.{None}
 use Rattle.tier0.specs.declared.Checks.{Checks}
-use Rattle.tier0.specs.Rule.{SPEED, arms, slowZone, outOfBox, outOfReach, tripBits, toward, shortened, pulled, boxed, leashed, reached, moves, moved, project, projection, Judgement, checkAction}
+use Rattle.tier0.specs.Rule.{SPEED, arms, slowZone, outOfBox, outOfReach, tripBits, toward, shortened, pulled, boxed, leashed, reached, moves, project, projection, Judgement, checkAction}
 
 -- one coordinate, SPEED alone armed, step 1.5
 abbrev line : Checks
@@ -48,9 +49,9 @@ abbrev 2^53+4 : Float
 
 -- 2^53 + 4 is projected to 2^53 + 2, which trips again
 pub projected-to : along 2^53+4 .value .after .rows ≡ 2^53+2 ∷ replicate 7 +0
-unfolding checkAction tripBits mul projection slowZone outOfBox dist project moves arms lt rootOf reached moved sumFrom add leashed ne squaredGap sub outOfReach pulled padded over finite boxed shortened each toward div number rootExponent half nearRoot floorRoot scaled
+unfolding checkAction tripBits mul projection slowZone outOfBox dist project moves arms lt rootOf reached bitsWhere sumFrom add leashed ne squaredGap sub outOfReach pulled padded over finite boxed shortened each toward div number rootExponent half nearRoot floorRoot scaled
 projected-to = refl
 
 pub trips-again : along 2^53+2 .value .trips ≡ SPEED
-unfolding checkAction tripBits mul projection slowZone outOfBox dist project moves arms lt rootOf reached moved sumFrom add leashed ne squaredGap sub outOfReach pulled padded over finite boxed shortened each toward div number rootExponent half nearRoot floorRoot scaled
+unfolding checkAction tripBits mul projection slowZone outOfBox dist project moves arms lt rootOf reached bitsWhere sumFrom add leashed ne squaredGap sub outOfReach pulled padded over finite boxed shortened each toward div number rootExponent half nearRoot floorRoot scaled
 trips-again = refl

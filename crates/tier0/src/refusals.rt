@@ -1,13 +1,14 @@
 // The number that what is lent is refused with.
 ghost use mathlib.Core.Path.{_≡_};
-ghost use mathlib.Core.List.{List, [], _++_};
+ghost use mathlib.Core.List.{List, [], _∷_, _++_};
 ghost use lib.ListN.{length};
 ghost use lib.Ieee.{Float};
 ghost use Rattle.refusal.specs.Order.{refusal};
+ghost use Rattle.fmath.specs.Answer.{someLentNotFinite};
 ghost use Rattle.chunk.specs.Refusals.{chunkReasons};
 ghost use Rattle.envelope.specs.Refusals.{configJudged};
 ghost use Rattle.envelope.specs.Whole.{whole};
-ghost use Rattle.tier0.specs.Refusals.{tooShort, someLentNotFinite, chunkTooShort, someChunkNotFinite};
+ghost use Rattle.tier0.specs.Refusals.{tooShort, chunkTooShort};
 ghost use Rattle.tier0.specs.Of.{lentToAction, lentToChunk};
 use envelope::Settings;
 use refusal::Refusal;
@@ -21,7 +22,7 @@ fn too_short(dim: usize, pos_dim: usize, pos: usize, prev: usize, a: usize, room
 
 // Whether some number that is lent, read or not, is not finite.
 fn not_finite(pos: &[f64], aux: &[f64], prev: &[f64], a: &[f64]) -> bool
-    ensures { λ r. ⌜ r ≡ someLentNotFinite (now (pos .entry)) (now (aux .entry)) (now (prev .entry)) (now (a .entry)) ⌝ }
+    ensures { λ r. ⌜ r ≡ someLentNotFinite (now (pos .entry) ∷ now (aux .entry) ∷ now (prev .entry) ∷ now (a .entry) ∷ []) ⌝ }
 {
     let k = fmath::all_finite(pos, pos.len());
     let l = fmath::all_finite(aux, aux.len());
@@ -65,7 +66,7 @@ fn chunk_too_short(pos_dim: usize, pos: usize, size: usize, room: usize) -> bool
 
 // Whether some number that is lent with a chunk, read or not, is not finite.
 fn chunk_not_finite(pos: &[f64], aux: &[f64], rows: &[f64]) -> bool
-    ensures { λ r. ⌜ r ≡ someChunkNotFinite (now (pos .entry)) (now (aux .entry)) (now (rows .entry)) ⌝ }
+    ensures { λ r. ⌜ r ≡ someLentNotFinite (now (pos .entry) ∷ now (aux .entry) ∷ now (rows .entry) ∷ []) ⌝ }
 {
     let k = fmath::all_finite(pos, pos.len());
     let l = fmath::all_finite(aux, aux.len());

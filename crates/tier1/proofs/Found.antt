@@ -1,10 +1,8 @@
 -- What each function of a feature answers, from its parts: the rule's value, and that its few tests are a test of every number on the way.
-use Prim.Native.Nat.{ℕ, _-_, _*_, _≤_}
+use Prim.Native.Nat.{ℕ, _-_, _*_}
 use mathlib.Core.Path.{_≡_, refl, sym, ap, _∙_}
 use mathlib.Core.Bool.{Bool, true, false, _&&_, and-true}
 use mathlib.Core.List.{List}
-use native.Mathlib.Nat.{le-trans, mul-le-mul-right}
-use native.Mathlib.Omega.{arith}
 use lib.IntN.{pos}
 use lib.Ieee.{Float, Format, add, sub, div, neg, ofInt}
 use Rattle.root.specs.Root.{rootOf}
@@ -51,10 +49,6 @@ a-pair x y e g h i = rw (e, g, h, i)
 without : (a b v : Bool) → (v ≡ true → b ≡ true) → (a && b) && v ≡ a && v
 without true b v h = implied b v h
 without false b v h = refl
-
--- so many rows are few numbers
-pub few : (h d : ℕ) → h ≤ 64 → d ≤ 8 → h * d ≤ 512
-few h d l b = le-trans (mul-le-mul-right {m = h} {n = 64} d l) (omega arith)
 
 module _ (f : Format) (m : Manifest) where
   -- ---- of a chunk

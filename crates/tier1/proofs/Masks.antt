@@ -1,20 +1,16 @@
 -- Which features are valid, feature by feature; their masks; and the features of a chunk and of a tick from their parts.
-use Prim.Native.Nat.{ℕ, _+_, _-_, _*_, _/_, _%_, _^_, _≤_, _<_}
+use Prim.Native.Nat.{ℕ, _+_, _-_, _/_, _%_, _^_, _≤_, _<_}
 use mathlib.Core.Path.{_≡_, refl, _∙_}
 use mathlib.Core.Bool.{Bool, true, false, _&&_, and-true}
 use mathlib.Core.List.{List, [], _∷_}
-use native.Mathlib.Nat.{zero-add, pow-suc}
-use native.Mathlib.Numerals.{add-one}
-use native.Mathlib.Omega.{arith}
+use native.Mathlib.Nat.{zero-add}
 use borrow.Author.Tests.{lt-ltb, le-ltb}
 use lib.Dec.{leb, ltb, eqb}
-use lib.Pow.{pow-mono}
 use lib.Ieee.{Float, binary64}
 use Rattle.refusal.specs.Order.{if_then_else_}
 use Rattle.fmath.specs.Each.{at}
 use Rattle.fmath.specs.Finite.{+0}
 use Rattle.conformal.specs.Bits.{bit, bitsWhere}
-use Rattle.conformal.proofs.Bits.{bits-more, bits-below}
 use Rattle.envelope.specs.Derive.{kept}
 use Rattle.window.specs.declared.Trail.{Trail}
 use Rattle.tier1.specs.declared.Manifest.{Manifest}
@@ -84,26 +80,6 @@ module _ (held trail ext : List Float) (j : ℕ) (on : Bool) where
     pub value-lent : 6 ≤ j → 8 ≤ j → {x : Float} → x ≡ at ext (j - 8) → x ≡ kept on (valueAt held trail ext j)
     unfolding valueAt
     value-lent g h i = rw (e, le-ltb j 6 g, le-ltb j 8 h) i
-
--- one turn of a loop that adds the weights of the first twelve bits up
-pub record Turned (p : ℕ → Bool) (j v w x : ℕ) : Type 0 where
-  pub so-far : v + x ≡ bitsWhere p (j + 1)
-  pub next : w * 2 ≡ 2 ^ (j + 1)
-  pub small : v + x < 4096
-  pub low : w ≤ 2048
-
-pub turn : (p : ℕ → Bool) (j v w x : ℕ) {t : Bool} → j < 12 → v ≡ bitsWhere p j → w ≡ 2 ^ j → t ≡ p j → x ≡ (if t then w else 0) → Turned p j v w x
-turn p j v w x l ev ew et ex =
-    let s : v + x ≡ bitsWhere p (j + 1) = bits-more p j v w x ev ew (rw et at ex) in
-    let b = bits-below p (j + 1) in
-    let m : 2 ^ (j + 1) ≤ 2 ^ 12 = pow-mono {j = 12} (omega arith) in
-    let n : 2 ^ j ≤ 2 ^ 11 = pow-mono {j = 11} (omega arith) in
-    record {
-      so-far = s;
-      next = rw (add-one, pow-suc, ew);
-      small = omega arith;
-      low = omega arith;
-    }
 
 module _ (m : Manifest) (t : Trail) (held : List Float) (hv : ℕ) (ext : List Float) where
   pub twelve-is : {x : Pair} {r : AllFeatures} → x ≡ pairFrom (ifThere (leb 20 (t .len)) (pathIneff binary64 m t)) (ifThere (leb 20 (t .len)) (stall binary64 m t))

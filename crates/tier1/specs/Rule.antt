@@ -4,7 +4,7 @@ use mathlib.Core.Bool.{Bool, true, false, _&&_}
 use mathlib.Core.List.{List, [], _∷_}
 use lib.Dec.{ltb, leb, eqb}
 use lib.IntN.{pos, negsuc}
-use lib.ListN.{length, getD, drop, replicate}
+use lib.ListN.{length, getD, drop}
 use lib.Ieee.{Float, Format, fin, neg, ofInt}
 use Rattle.refusal.specs.Order.{if_then_else_}
 use Rattle.fmath.specs.Constants.{1!, 3!, eps}

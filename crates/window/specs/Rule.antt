@@ -15,7 +15,7 @@ use Rattle.refusal.specs.Order.{_when_, size, refusal, if_then_else_}
 
 -- ---- the hit window
 
--- a push as a binary digit
+-- a push, or a flag, as a binary digit
 abbrev pub bit : Bool → ℕ
 bit true = 1
 bit false = 0

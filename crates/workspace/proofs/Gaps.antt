@@ -1,6 +1,6 @@
 -- Laws of the workspace: what lies past the eight axes, what one test tells of a gap, and that a point moved inward lies between its walls.
 use mathlib.Core.Path.{_≡_, refl, sym, ap, _∙_}
-use mathlib.Core.Bool.{Bool, true, false, _&&_}
+use mathlib.Core.Bool.{Bool, true, false, _&&_, and-true}
 use mathlib.Core.List.{List}
 use Prim.Native.Nat.{ℕ, zero, suc, _+_, _≤_, _<_, min}
 use native.Mathlib.Nat.{lt-of-not-le, le-refl}
@@ -54,10 +54,6 @@ unfolding inward
 inward-cut w a n h = over-cut (λ (j : ℕ). clamped (at a j) (at (w .lo) j) (at (w .hi) j)) a n ∙ ap (λ (m : ℕ). over (λ (j : ℕ). clamped (at a j) (at (w .lo) j) (at (w .hi) j)) a (min n m)) h
 
 -- ---- one test of the last number tells of each before it
-
-and-true : (b : Bool) → b && true ≡ b
-and-true true = refl
-and-true false = refl
 
 pub between-tells : (f : Format) (lo hi p : Float) → between f lo hi p .sound ≡ finite (sub f p lo) && finite (sub f hi p)
 unfolding between

@@ -1,6 +1,6 @@
 -- `brake::not_finite` meets its contract: each slice by its own test.
 use borrow.Author.Needs.{needs}
-use Rattle.brake.specs.Answer.{someLentNotFinite}
+use Rattle.fmath.specs.Answer.{some-from, someLentNotFinite}
 use Rattle.brake.proofs.not_finite.Statement.{statement}
 use Rattle.brake.proofs.not_finite.Tie as tie
 
@@ -14,7 +14,7 @@ all-finite-requires-3 : tie.Need-all-finite-requires-3
 all-finite-requires-3 c κs = search needs
 
 returns : tie.Need-returns
-unfolding someLentNotFinite
+unfolding someLentNotFinite some-from
 returns c = rw (c .before .before .all-finite .ensures, c .before .all-finite2 .ensures, c .all-finite3 .ensures)
 
 pub not-finite-spec : {M : Type 1} → statement M

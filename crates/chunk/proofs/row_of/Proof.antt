@@ -1,10 +1,8 @@
 -- `chunk::row_of` meets its contract, by its three ways out; a place in the rows is a product of two numbers of 16 bits, so it fits.
-use Prim.Native.Nat.{ℕ, _*_}
-use mathlib.Core.Path.{ap}
-use native.Mathlib.Nat.{lt-of-le-of-lt, le-of-lt}
+use native.Mathlib.Nat.{pos-of-ne-zero}
 use native.Mathlib.Omega.{arith}
 use borrow.Author.Needs.{needs}
-use Rattle.chunk.proofs.Rows.{place-small, empty-without-rows, part-is-row, empty-past}
+use Rattle.chunk.proofs.Rows.{start-small, empty-without-rows, part-is-row, empty-past}
 use Rattle.chunk.proofs.row_of.Statement.{statement}
 use Rattle.chunk.proofs.row_of.Tie as tie
 
@@ -14,17 +12,11 @@ slice-aggregate-result c = search needs
 returns : tie.Need-returns
 returns c = empty-without-rows _ _ _ _ (c .before .if1 .taken)
 
-sub-fewer : tie.Need-sub-fewer
-sub-fewer c = search needs
-
-fewer-requires : tie.Need-fewer-requires
-fewer-requires c κs = search needs
-
-mul-start : tie.Need-mul-start
-mul-start c = record { fits = lt-of-le-of-lt (le-of-lt (place-small {k = c .fewer .result} (search needs) (search needs))) (search needs) }
+row-start-requires : tie.Need-row-start-requires
+row-start-requires c κs = pos-of-ne-zero (c .if1 .left)
 
 add-end : tie.Need-add-end
-add-end c = omega (arith, place-small {k = c .fewer .result} {d = c .before .before .before .args .dim} (search needs) (search needs))
+add-end c = let a = c .before .before .before .args in omega (arith, c .row-start .ensures, start-small (a .horizon) (a .dim) (a .i) (search needs) (search needs))
 
 mul-result : tie.Need-mul-result
 mul-result c = search needs
@@ -44,12 +36,12 @@ slice-aggregate-result-2 c = search needs
 returns-2 : tie.Need-returns-2
 returns-2 c =
     let a = c .before .before .before .before .before .args in
-    part-is-row (a .«data» .now) (a .horizon) (a .dim) (a .i) _ (c .before .before .before .if1 .left) (ap (λ (k : ℕ). k * a .dim) (c .before .before .fewer .ensures)) (c .before .if2 .taken)
+    part-is-row (a .«data» .now) (a .horizon) (a .dim) (a .i) _ (c .before .before .before .if1 .left) (c .before .before .row-start .ensures) (c .before .if2 .taken)
 
 returns-3 : tie.Need-returns-3
 returns-3 c =
     let a = c .before .before .before .before .before .args in
-    empty-past (a .«data» .now) (a .horizon) (a .dim) (a .i) _ (c .before .before .before .if1 .left) (ap (λ (k : ℕ). k * a .dim) (c .before .before .fewer .ensures)) (c .before .if2 .left)
+    empty-past (a .«data» .now) (a .horizon) (a .dim) (a .i) _ (c .before .before .before .if1 .left) (c .before .before .row-start .ensures) (c .before .if2 .left)
 
 pub row-of-spec : {M : Type 1} → statement M
 row-of-spec =
@@ -57,9 +49,7 @@ row-of-spec =
     (tie.spec
     slice-aggregate-result
     returns
-    sub-fewer
-    fewer-requires
-    mul-start
+    row-start-requires
     add-end
     mul-result
     sub-result

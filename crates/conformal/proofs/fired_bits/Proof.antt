@@ -1,15 +1,12 @@
 -- `conformal::fired_bits` meets its contract: the loop keeps the word of the features passed, which stays below the next weight.
-use Prim.Native.Nat.{ℕ, _+_, _^_, _≤_, _-_}
+use Prim.Native.Nat.{ℕ, _^_, _≤_, _-_}
 use mathlib.Core.Path.{_≡_, refl, _∙_}
 use mathlib.Core.Bool.{Bool}
-use native.Mathlib.Nat.{pow-suc}
 use native.Mathlib.Omega.{arith}
-use native.Mathlib.Numerals.{add-one}
 use borrow.Author.Needs.{needs}
-use lib.Pow.{pow-mono}
 use Rattle.conformal.specs.Bits.{bitsWhere}
 use Rattle.conformal.specs.Rule.{live, fires, firedBits}
-use Rattle.conformal.proofs.Bits.{bits-more, bits-below}
+use Rattle.conformal.proofs.Bits.{Turned, turn}
 use Rattle.conformal.proofs.fired_bits.Statement.{statement}
 use Rattle.conformal.proofs.fired_bits.Tie as tie
 
@@ -41,19 +38,16 @@ weight-requires c κs = search needs
 abbrev fired-so-far : tie.After-weight Inv-loop μ-loop → ℕ → Bool
 fired-so-far c = let a = c .before .before .before .before .before .before .args in fires (live (a .mask) (a .valid)) (a .tau) (a .z .now)
 
-summed : (c : tie.After-weight Inv-loop μ-loop) → c .before .before .before .before .before .loop .bits + c .weight .result ≡ bitsWhere (fired-so-far c) (c .before .before .before .before .before .loop .j + 1)
-summed c =
+turned : (c : tie.After-weight Inv-loop μ-loop) → let l = c .before .before .before .before .before .loop in Turned (fired-so-far c) (l .j) (l .bits) (l .w) (c .weight .result)
+turned c =
     let l = c .before .before .before .before .before .loop in
-    bits-more _ (l .j) (l .bits) (l .w) _ (l .inv .1 .1) (l .inv .1 .0) (c .weight .ensures ∙ rw (c .before .before .before .bit .ensures, c .before .before .bit2 .ensures))
+    turn (fired-so-far c) (l .j) (l .bits) (l .w) _ (omega arith) (l .inv .1 .1) (l .inv .1 .0) refl (c .weight .ensures ∙ rw (c .before .before .before .bit .ensures, c .before .before .bit2 .ensures))
 
 add-bits : tie.Need-add-bits Inv-loop μ-loop
-add-bits c = let j = c .before .before .before .before .before .loop .j in
-    let m : 2 ^ (j + 1) ≤ 2 ^ 12 = pow-mono {j = 12} (omega arith) in
-    omega (arith, summed c, bits-below (fired-so-far c) (j + 1))
+add-bits c = let t = turned c in omega arith
 
 mul-w : tie.Need-mul-w Inv-loop μ-loop
-mul-w c = let l = c .before .before .before .before .before .loop in
-    let m : 2 ^ l .j ≤ 2 ^ 11 = pow-mono {j = 11} (omega arith) in omega arith
+mul-w c = let t = turned c in omega arith
 
 add-j : tie.Need-add-j Inv-loop μ-loop
 add-j c = omega arith
@@ -62,7 +56,7 @@ loop-less : tie.Need-loop-less Inv-loop μ-loop
 loop-less c = omega arith
 
 loop-again : tie.Need-loop-again Inv-loop μ-loop
-loop-again c = let l = c .before .before .before .before .before .loop in (omega arith, (rw (add-one, pow-suc, l .inv .1 .0), summed c))
+loop-again c = let t = turned c in (omega arith, (t .next, t .so-far))
 
 returns : tie.Need-returns Inv-loop μ-loop
 unfolding firedBits

@@ -9,12 +9,13 @@ use denote.Ref.{now}
 use lib.ListN.{length}
 use lib.Ieee.{Float, binary64}
 use Rattle.chunk.proofs.Rows.{row-long}
+use Rattle.chunk.proofs.Rows.{row-within}
 use Rattle.rollout.specs.declared.Plant.{Plant}
 use Rattle.rollout.specs.Rule.{after, forecast}
 use Rattle.rollout.specs.Of.{taskOf, Along, leftOf}
 use Rattle.rollout.proofs.Along.{along-at}
 use Rattle.rollout.proofs.Room.{shape-of}
-use Rattle.rollout.proofs.Rows.{row-more, row-fits, aims-row}
+use Rattle.rollout.proofs.Rows.{row-more, aims-row}
 use Rattle.rollout.proofs.push.Statement.{statement}
 use Rattle.rollout.proofs.push.Tie as tie
 
@@ -71,7 +72,7 @@ hold-requires c κs =
     let q = shape-of _ _ (s .pre .0) in
     let long : length (now (c .before .action .result)) ≡ s .args .c .dim =
     ap length (c .before .action .ensures) ∙ row-long (now (s .args .rows)) (s .args .c .horizon) (s .args .c .dim) (s .args .c .from + i .i) (q .rowed) (q .there) in
-    (q .axes, omega (arith, long, q .within), omega (arith, i .inv .1 .1 .1 .1 .0, i .inv .1 .0, i .inv .1 .1 .1 .0, row-fits (i .i) (leftOf (s .args .c) .0) (s .args .c .per .0) (omega (arith, i .inv .1 .0)), s .pre .1))
+    (q .axes, omega (arith, long, q .within), omega (arith, i .inv .1 .1 .1 .1 .0, i .inv .1 .0, i .inv .1 .1 .1 .0, row-within (i .i) (leftOf (s .args .c) .0) (s .args .c .per .0) (omega (arith, i .inv .1 .0)), s .pre .1))
 
 add-i : tie.Need-add-i Inv-loop μ-loop
 add-i c = omega arith

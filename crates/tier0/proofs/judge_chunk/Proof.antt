@@ -1,6 +1,7 @@
 -- `tier0::judge_chunk` meets its contract: each part is its rule's.
 use native.Mathlib.Omega.{arith}
-use Rattle.tier0.proofs.Rows.{judge-chunk-is, first-fits, row-fits}
+use Rattle.chunk.proofs.Rows.{row-fits}
+use Rattle.tier0.proofs.Rows.{judge-chunk-is, first-fits}
 use borrow.Author.Needs.{needs}
 use Rattle.tier0.proofs.judge_chunk.Statement.{statement}
 use Rattle.tier0.proofs.judge_chunk.Tie as tie

@@ -8,9 +8,9 @@ use lib.ListN.{length, take, length-set}
 use Rattle.fmath.specs.Each.{table}
 use Rattle.fmath.proofs.Each.{table-more, table-all}
 use Rattle.conformal.specs.Bits.{bitsWhere}
+use Rattle.conformal.proofs.Bits.{Turned, turn}
 use Rattle.envelope.specs.Derive.{kept}
 use Rattle.tier1.specs.Rule.{validAt, valueAt}
-use Rattle.tier1.proofs.Masks.{Turned, turn}
 use borrow.Author.Needs.{needs}
 use Rattle.tier1.proofs.gathered.Statement.{statement}
 use Rattle.tier1.proofs.gathered.Tie as tie

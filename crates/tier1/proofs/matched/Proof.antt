@@ -5,8 +5,8 @@ use native.Mathlib.Omega.{arith}
 use denote.Ref.{now}
 use lib.Ieee.{binary64, ofBits}
 use lib.ListN.{length}
-use Rattle.tier1.proofs.Rows.{row-fits}
-use Rattle.tier1.proofs.Found.{few, matched-is}
+use Rattle.chunk.proofs.Rows.{row-fits, size-small}
+use Rattle.tier1.proofs.Found.{matched-is}
 use borrow.Author.Needs.{needs}
 use Rattle.tier1.proofs.matched.Statement.{statement}
 use Rattle.tier1.proofs.matched.Tie as tie
@@ -29,7 +29,7 @@ mul-count : tie.Need-mul-count
 mul-count c = search needs
 
 count-requires : tie.Need-count-requires
-count-requires c κs = let w = c .before .before .before .before .before .pre in let g = c .before .before .before .before .before .args in let h = few (g .l) (g .m .dim) (omega (arith, w .2)) (w .0) in omega arith
+count-requires c κs = let w = c .before .before .before .before .before .pre in let g = c .before .before .before .before .before .args in let h = size-small (g .l) (g .m .dim) (omega (arith, w .2)) (w .0) in omega arith
 
 sqrt-requires : tie.Need-sqrt-requires
 sqrt-requires c κs = search needs

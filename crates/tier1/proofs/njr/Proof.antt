@@ -6,7 +6,7 @@ use borrow.Author.Tests.{lt-leb, le-leb}
 use denote.Ref.{now}
 use lib.Ieee.{binary64, ofBits}
 use lib.ListN.{length}
-use Rattle.tier1.proofs.Rows.{row-fits}
+use Rattle.chunk.proofs.Rows.{row-fits}
 use Rattle.tier1.proofs.Found.{not-there, is-there, njr-is}
 use borrow.Author.Needs.{needs}
 use Rattle.tier1.proofs.njr.Statement.{statement}

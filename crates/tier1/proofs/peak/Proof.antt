@@ -7,8 +7,9 @@ use denote.Ref.{now}
 use lib.Ieee.{Float, binary64, ofBits}
 use lib.ListN.{length}
 use Rattle.fmath.specs.Norm.{dist}
+use Rattle.chunk.proofs.Rows.{row-fits}
 use Rattle.tier1.specs.Rule.{peak}
-use Rattle.tier1.proofs.Rows.{row-fits, first-stride, next-stride, peak-is}
+use Rattle.tier1.proofs.Rows.{first-stride, next-stride, peak-is}
 use borrow.Author.Needs.{needs}
 use Rattle.tier1.proofs.peak.Statement.{statement}
 use Rattle.tier1.proofs.peak.Tie as tie

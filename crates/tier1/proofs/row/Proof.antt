@@ -1,8 +1,8 @@
 -- `tier1::row` meets its contract: the part from the row's start to the end is what is left of the rows.
 use Prim.Native.Nat.{_*_}
 use denote.Ref.{now}
-use Rattle.tier1.proofs.Rows.{rest-is}
 use borrow.Author.Needs.{needs}
+use Rattle.chunk.proofs.Rows.{rest-is}
 use Rattle.tier1.proofs.row.Statement.{statement}
 use Rattle.tier1.proofs.row.Tie as tie
 

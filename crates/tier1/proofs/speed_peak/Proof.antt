@@ -3,7 +3,7 @@ use native.Mathlib.Omega.{arith}
 use denote.Ref.{now}
 use lib.Ieee.{binary64}
 use lib.ListN.{length}
-use Rattle.tier1.proofs.Rows.{row-fits}
+use Rattle.chunk.proofs.Rows.{row-fits}
 use Rattle.tier1.proofs.Found.{speed-is}
 use borrow.Author.Needs.{needs}
 use Rattle.tier1.proofs.speed_peak.Statement.{statement}

@@ -6,8 +6,9 @@ use native.Mathlib.Omega.{arith}
 use denote.Ref.{now}
 use lib.Ieee.{binary64, ofBits}
 use lib.ListN.{length}
+use Rattle.chunk.proofs.Rows.{row-fits}
 use Rattle.tier1.specs.Rule.{sumRows, jolts}
-use Rattle.tier1.proofs.Rows.{row-fits, row-long, rows-more}
+use Rattle.tier1.proofs.Rows.{row-long, rows-more}
 use borrow.Author.Needs.{needs}
 use Rattle.tier1.proofs.squared_jolts.Statement.{statement}
 use Rattle.tier1.proofs.squared_jolts.Tie as tie

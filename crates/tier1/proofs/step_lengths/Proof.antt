@@ -10,8 +10,9 @@ use Rattle.root.specs.Root.{rootOf}
 use Rattle.fmath.specs.Checked.{sumFrom}
 use Rattle.fmath.specs.Finite.{+0}
 use Rattle.fmath.proofs.Sums.{sum-more}
+use Rattle.chunk.proofs.Rows.{row-fits}
 use Rattle.tier1.specs.Rule.{stepLength}
-use Rattle.tier1.proofs.Rows.{row-fits, row-long}
+use Rattle.tier1.proofs.Rows.{row-long}
 use borrow.Author.Needs.{needs}
 use Rattle.tier1.proofs.step_lengths.Statement.{statement}
 use Rattle.tier1.proofs.step_lengths.Tie as tie

@@ -10,6 +10,7 @@ use lib.Ieee.{Float}
 use lib.ListN.{length}
 use lib.Seq.{paste}
 use Rattle.refusal.specs.Order.{refusal, if_then_else_}
+use Rattle.fmath.proofs.Copy.{all-pasted}
 use Rattle.chunk.specs.declared.ChunkBuf.{ChunkBuf}
 use Rattle.chunk.specs.declared.Filled.{Filled}
 use Rattle.chunk.specs.Of.{fillOf, heldOf}
@@ -38,15 +39,20 @@ returns c =
     let a = c .before .before .before .args in
     refused (a .self) (a .seq) (a .t-emit) (a .h) (a .d) (a .exec) _ (a .src .now) (c .before .lent-refusal .ensures) (c .if1 .taken)
 
-over-requires : tie.Need-over-requires
-over-requires c κs =
-    let a = c .before .before .before .before .args in
-    accepted-fits (lent-accepted (a .src .now) (a .h) (a .d) (a .exec) (sym (c .before .before .lent-refusal .ensures) ∙ c .before .if1 .left) .0)
+slice-aggregate-put : tie.Need-slice-aggregate-put
+slice-aggregate-put c = search needs
+
+put-requires : tie.Need-put-requires
+put-requires c κs = search needs
 
 returns-2 : tie.Need-returns-2
 returns-2 c =
-    let a = c .before .before .before .before .before .args in
-    filled (a .self) (a .seq) (a .t-emit) (a .h) (a .d) (a .exec) _ (a .src .now) (c .before .before .before .lent-refusal .ensures) _ (c .before .before .if1 .left) (c .over .ensures)
+    let a = c .before .before .before .before .before .before .before .args in
+    let is = c .before .before .before .before .before .lent-refusal .ensures in
+    let zero = c .before .before .before .before .if1 .left in
+    let long : length (a .self .«data») ≡ 512 = search needs in
+    let fits = accepted-fits (lent-accepted (a .src .now) (a .h) (a .d) (a .exec) (sym is ∙ zero) .0) in
+    filled (a .self) (a .seq) (a .t-emit) (a .h) (a .d) (a .exec) _ (a .src .now) is _ zero (all-pasted (a .self .«data») (a .src .now) (rw long fits) (c .before .put .ensures))
 
 pub fill-spec : {M : Type 1} → statement M
-fill-spec = tie.close (tie.spec lent-refusal-requires returns over-requires returns-2)
+fill-spec = tie.close (tie.spec lent-refusal-requires returns slice-aggregate-put put-requires returns-2)

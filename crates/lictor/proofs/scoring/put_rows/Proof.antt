@@ -1,5 +1,4 @@
--- `lictor::scoring::put_rows` meets its contract: all the numbers are one row.
-use mathlib.Core.Path.{_∙_}
+-- `lictor::scoring::put_rows` meets its contract: a copy, where there is room for all the numbers.
 use borrow.Author.Tests.{lt-leb}
 use lib.ListN.{length}
 use denote.Ref.{now}
@@ -8,17 +7,14 @@ use borrow.Author.Needs.{needs}
 use Rattle.lictor.proofs.scoring.put_rows.Statement.{statement}
 use Rattle.lictor.proofs.scoring.put_rows.Tie as tie
 
-cast-n : tie.Need-cast-n
-cast-n c = search needs
-
-set-row-requires : tie.Need-set-row-requires
-set-row-requires c κs = search needs
+put-requires : tie.Need-put-requires
+put-requires c κs = search needs
 
 returns : tie.Need-returns
-returns c = let g = c .before .before .before .before .args in c .set-row .ensures ∙ over-is (now (g .before)) (now (g .rows)) (search needs)
+returns c = let g = c .before .before .before .before .args in over-is (now (g .before)) (now (g .rows)) (search needs) (c .before .before .if1 .taken) (c .put .ensures)
 
 returns-2 : tie.Need-returns-2
 returns-2 c = rw (lt-leb (length (now (c .before .before .args .rows))) 512 (c .if1 .left))
 
 pub put-rows-spec : {M : Type 1} → statement M
-put-rows-spec = tie.close (tie.spec cast-n set-row-requires returns returns-2)
+put-rows-spec = tie.close (tie.spec put-requires returns returns-2)

@@ -4,7 +4,7 @@ use native.Mathlib.Omega.{arith}
 use denote.Ref.{now}
 use lib.ListN.{drop, length-drop}
 use Rattle.fmath.proofs.Copy.{all-padded}
-use Rattle.tier0.proofs.Rows.{rest-is}
+use Rattle.chunk.proofs.Rows.{rest-is}
 use borrow.Author.Needs.{needs}
 use Rattle.tier0.proofs.measure.raw_row.Statement.{statement}
 use Rattle.tier0.proofs.measure.raw_row.Tie as tie

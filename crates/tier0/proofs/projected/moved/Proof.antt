@@ -1,5 +1,5 @@
 -- `tier0::projected::moved` meets its contract: bit by bit, each below the next power of two.
-use Prim.Native.Nat.{_≤_, _<_, _-_, _^_}
+use Prim.Native.Nat.{ℕ, _≤_, _-_, _^_}
 use mathlib.Core.Path.{_≡_, refl}
 use native.Mathlib.Nat.{le-antisymm}
 use native.Mathlib.Omega.{arith}
@@ -7,20 +7,21 @@ use borrow.Author.Needs.{needs}
 use denote.Ref.{now}
 use lib.Ieee.{ne}
 use Rattle.fmath.specs.Each.{at}
+use Rattle.conformal.specs.Bits.{bitsWhere}
+use Rattle.conformal.proofs.Bits.{Turned, turn}
 use Rattle.tier0.specs.Rule.{moved}
-use Rattle.tier0.proofs.Loops.{moved-turn, mask-turn}
 use Rattle.tier0.proofs.projected.moved.Statement.{statement}
 use Rattle.tier0.proofs.projected.moved.Tie as tie
 
 abbrev Inv-loop : tie.InvT-loop
-Inv-loop a b n m₀ w₀ i₀ m w i = (i ≤ n) × ((w ≡ 2 ^ i) × ((m < 2 ^ i) × (m ≡ moved a b i)))
+Inv-loop a b n m₀ w₀ i₀ m w i = (i ≤ n) × ((w ≡ 2 ^ i) × (m ≡ moved a b i))
 
 abbrev μ-loop : tie.MeasureT-loop
 μ-loop a b n m₀ w₀ i₀ m w i = n - i
 
 loop-holds : tie.Need-loop-holds Inv-loop μ-loop
-unfolding moved
-loop-holds c = (search needs, (refl, (search needs, refl)))
+unfolding bitsWhere
+loop-holds c = (search needs, (refl, refl))
 
 mul-weight : tie.Need-mul-weight Inv-loop μ-loop
 mul-weight c = search needs
@@ -37,11 +38,14 @@ element-copy-out-weight-2 c = search needs
 weight-requires : tie.Need-weight-requires Inv-loop μ-loop
 weight-requires c κs = search needs
 
+turned : (c : tie.After-weight Inv-loop μ-loop) → let l = c .before .before .before .before in Turned (λ (j : ℕ). ne (at (now (l .before .args .a)) j) (at (now (l .before .args .b)) j)) (l .loop .i) (l .loop .m) (l .loop .w) (c .weight .result)
+turned c = let l = c .before .before .before .before .loop in turn _ (l .i) (l .m) (l .w) _ (omega arith) (l .inv .1 .1) (l .inv .1 .0) refl (c .weight .ensures)
+
 add-m : tie.Need-add-m Inv-loop μ-loop
-add-m c = let l = c .before .before .before .before in let b = mask-turn (ne (at (now (l .before .args .a)) (l .loop .i)) (at (now (l .before .args .b)) (l .loop .i))) _ _ _ _ (omega arith) (l .loop .inv .1 .0) (l .loop .inv .1 .1 .0) (c .weight .ensures) in omega arith
+add-m c = let t = turned c in omega arith
 
 mul-w : tie.Need-mul-w Inv-loop μ-loop
-mul-w c = let l = c .before .before .before .before in let b = mask-turn (ne (at (now (l .before .args .a)) (l .loop .i)) (at (now (l .before .args .b)) (l .loop .i))) _ _ _ _ (omega arith) (l .loop .inv .1 .0) (l .loop .inv .1 .1 .0) (c .weight .ensures) in omega arith
+mul-w c = let t = turned c in omega arith
 
 add-i : tie.Need-add-i Inv-loop μ-loop
 add-i c = search needs
@@ -50,10 +54,10 @@ loop-less : tie.Need-loop-less Inv-loop μ-loop
 loop-less c = search needs
 
 loop-again : tie.Need-loop-again Inv-loop μ-loop
-loop-again c = let l = c .before .before .before .before in let b = mask-turn (ne (at (now (l .before .args .a)) (l .loop .i)) (at (now (l .before .args .b)) (l .loop .i))) _ _ _ _ (omega arith) (l .loop .inv .1 .0) (l .loop .inv .1 .1 .0) (c .weight .ensures) in (omega arith, (b .0, (b .1, moved-turn _ _ _ _ _ _ (l .loop .inv .1 .1 .1) (l .loop .inv .1 .0) (c .weight .ensures))))
+loop-again c = let t = turned c in (omega arith, (t .next, t .so-far))
 
 returns : tie.Need-returns Inv-loop μ-loop
-returns c = rw (le-antisymm (c .before .loop .inv .0) (c .loop-test .left)) at (c .before .loop .inv .1 .1 .1)
+returns c = rw (le-antisymm (c .before .loop .inv .0) (c .loop-test .left)) at (c .before .loop .inv .1 .1)
 
 pub moved-spec : {M : Type 1} → statement M
 moved-spec =

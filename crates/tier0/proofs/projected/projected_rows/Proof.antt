@@ -3,7 +3,8 @@ use native.Mathlib.Omega.{arith}
 use denote.Ref.{now}
 use lib.Ieee.{binary64}
 use Rattle.fmath.proofs.Copy.{all-put}
-use Rattle.tier0.proofs.Rows.{rows-off, rows-on, size-small}
+use Rattle.chunk.proofs.Rows.{size-small}
+use Rattle.tier0.proofs.Rows.{rows-off, rows-on}
 use borrow.Author.Needs.{needs}
 use Rattle.tier0.proofs.projected.projected_rows.Statement.{statement}
 use Rattle.tier0.proofs.projected.projected_rows.Tie as tie

@@ -6,9 +6,10 @@ use native.Mathlib.Omega.{arith}
 use borrow.Author.Needs.{needs}
 use lib.ListN.{length}
 use lib.Ieee.{binary64}
+use Rattle.chunk.proofs.Rows.{row-fits, size-small}
 use Rattle.tier0.specs.Chunk.{runRows}
 use Rattle.tier0.specs.Of.{slowOf}
-use Rattle.tier0.proofs.Rows.{Kept, begun, row-turn, ran, row-fits, start-small, length-put}
+use Rattle.tier0.proofs.Rows.{Kept, begun, row-turn, ran, length-put}
 use Rattle.tier0.proofs.projected.run_rows.Statement.{statement}
 use Rattle.tier0.proofs.projected.run_rows.Tie as tie
 
@@ -31,7 +32,7 @@ moved-requires : tie.Need-moved-requires Inv-loop μ-loop
 moved-requires c κs = c .before .before .before .before .before .before .before .before .before .before .pre .0
 
 mul-put-row : tie.Need-mul-put-row Inv-loop μ-loop
-mul-put-row c = let w = c .before .before .before .before .before .before .before .before .before .before .before in let h = start-small (c .before .before .before .before .before .before .before .loop .i) (w .args .s .dim) (omega (arith, c .before .before .before .before .before .before .loop-test .taken, w .pre .2)) (w .pre .0) in omega arith
+mul-put-row c = let w = c .before .before .before .before .before .before .before .before .before .before .before in let h = size-small (c .before .before .before .before .before .before .before .loop .i) (w .args .s .dim) (omega (arith, c .before .before .before .before .before .before .loop-test .taken, w .pre .2)) (w .pre .0) in omega arith
 
 put-row-requires : tie.Need-put-row-requires Inv-loop μ-loop
 put-row-requires c κs = let w = c .before .before .before .before .before .before .before .before .before .before .before .before in (w .pre .0, rw (c .before .before .before .before .before .before .before .before .loop .inv .1 .0) (row-fits _ _ _ _ (c .before .before .before .before .before .before .before .loop-test .taken) (w .pre .4)))

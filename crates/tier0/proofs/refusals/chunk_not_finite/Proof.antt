@@ -1,5 +1,5 @@
 -- `tier0::refusals::chunk_not_finite` meets its contract: each slice by its own test.
-use Rattle.tier0.specs.Refusals.{someChunkNotFinite}
+use Rattle.fmath.specs.Answer.{some-from, someLentNotFinite}
 use borrow.Author.Needs.{needs}
 use Rattle.tier0.proofs.refusals.chunk_not_finite.Statement.{statement}
 use Rattle.tier0.proofs.refusals.chunk_not_finite.Tie as tie
@@ -14,7 +14,7 @@ all-finite-requires-3 : tie.Need-all-finite-requires-3
 all-finite-requires-3 c κs = search needs
 
 returns : tie.Need-returns
-unfolding someChunkNotFinite
+unfolding someLentNotFinite some-from
 returns c = rw (c .before .before .all-finite .ensures, c .before .all-finite2 .ensures, c .all-finite3 .ensures)
 
 pub chunk-not-finite-spec : {M : Type 1} → statement M

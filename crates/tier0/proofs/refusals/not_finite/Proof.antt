@@ -1,5 +1,5 @@
 -- `tier0::refusals::not_finite` meets its contract: each slice by its own test.
-use Rattle.tier0.specs.Refusals.{someLentNotFinite}
+use Rattle.fmath.specs.Answer.{some-from, someLentNotFinite}
 use borrow.Author.Needs.{needs}
 use Rattle.tier0.proofs.refusals.not_finite.Statement.{statement}
 use Rattle.tier0.proofs.refusals.not_finite.Tie as tie
@@ -17,7 +17,7 @@ all-finite-requires-4 : tie.Need-all-finite-requires-4
 all-finite-requires-4 c κs = search needs
 
 returns : tie.Need-returns
-unfolding someLentNotFinite
+unfolding someLentNotFinite some-from
 returns c = rw (c .before .before .before .all-finite .ensures, c .before .before .all-finite2 .ensures, c .before .all-finite3 .ensures, c .all-finite4 .ensures)
 
 pub not-finite-spec : {M : Type 1} → statement M

@@ -1,5 +1,5 @@
 -- `tier0::refusals::rows_refusal` meets its contract, by the tests that led to each answer.
-use Rattle.tier0.proofs.Rows.{words-small}
+use Rattle.chunk.proofs.Rows.{place-small}
 use denote.Ref.{now}
 use native.Mathlib.Omega.{arith}
 use Rattle.tier0.proofs.ChunkRefused.{by-width, by-11, by-12, by-none}
@@ -12,7 +12,7 @@ returns : tie.Need-returns
 returns c t u = let g = c .before .before .before .before .before .args in by-width (whole (g .c) t u) (now (g .pos)) (now (g .aux)) (now (g .rows)) (g .horizon) (g .dim) 0 (g .room) (c .if1 .taken)
 
 mul-chunk-too-short : tie.Need-mul-chunk-too-short
-mul-chunk-too-short c = let s = c .before .before .before .before .before .args in let h = words-small (s .horizon) (s .dim) (omega arith) (omega arith) in omega arith
+mul-chunk-too-short c = let s = c .before .before .before .before .before .args in let h = place-small {k = s .horizon} {d = s .dim} (omega arith) (omega arith) in omega arith
 
 chunk-too-short-requires : tie.Need-chunk-too-short-requires
 chunk-too-short-requires c κs = search needs

@@ -6,8 +6,9 @@ use borrow.Author.Needs.{needs}
 use denote.Ref.{now}
 use lib.Ieee.{binary64}
 use Rattle.fmath.specs.Each.{all, some}
+use Rattle.chunk.proofs.Rows.{row-fits}
 use Rattle.tier0.specs.Chunk.{someOf, largeAt, further}
-use Rattle.tier0.proofs.Rows.{row-fits, reads-few, some-turn, some-found}
+use Rattle.tier0.proofs.Rows.{reads-few, some-turn, some-found}
 use Rattle.tier0.proofs.trips.large_rows.Statement.{statement}
 use Rattle.tier0.proofs.trips.large_rows.Tie as tie
 

@@ -4,7 +4,8 @@ use native.Mathlib.Nat.{le-antisymm}
 use native.Mathlib.Omega.{arith}
 use borrow.Author.Needs.{needs}
 use lib.Ieee.{binary64, ofBits}
-use Rattle.tier0.proofs.Rows.{Strode, set-out, stride, strides-are, row-fits}
+use Rattle.chunk.proofs.Rows.{row-fits}
+use Rattle.tier0.proofs.Rows.{Strode, set-out, stride, strides-are}
 use Rattle.tier0.proofs.trips.step_rows.Statement.{statement}
 use Rattle.tier0.proofs.trips.step_rows.Tie as tie
 
