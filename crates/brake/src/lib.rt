@@ -1,12 +1,11 @@
 // The brake's entries: the stopping forecast, and the rows that brake and hold.
 ghost use mathlib.Core.Path.{_≡_};
 ghost use mathlib.Core.Bool.{true};
-ghost use mathlib.Core.List.{[], _∷_, _++_};
+ghost use mathlib.Core.List.{_++_};
 ghost use Prim.Native.Nat.{ℕ, suc, _≤_};
 ghost use lib.ListN.{length};
 ghost use lib.Ieee.{binary64};
 ghost use Rattle.refusal.specs.Order.{refusal};
-ghost use Rattle.fmath.specs.Answer.{someLentNotFinite};
 ghost use Rattle.chunk.specs.Refusals.{chunkReasons};
 ghost use Rattle.envelope.specs.Refusals.{configJudged};
 ghost use Rattle.envelope.specs.Steps.{substepsIn};
@@ -221,16 +220,6 @@ fn too_short(pos_dim: usize, pos: usize, vel: usize, count: usize, room: usize) 
     (pos < pos_dim) | (vel < pos_dim) | (room < count)
 }
 
-// Whether some number that is lent, read or not, is not finite.
-fn not_finite(pos: &[f64], vel: &[f64], rows: &[f64]) -> bool
-    ensures { λ r. ⌜ r ≡ someLentNotFinite (now (pos .entry) ∷ now (vel .entry) ∷ now (rows .entry) ∷ []) ⌝ }
-{
-    let k = fmath::all_finite(pos, pos.len());
-    let l = fmath::all_finite(vel, vel.len());
-    let m = fmath::all_finite(rows, rows.len());
-    !k | !l | !m
-}
-
 // The number for what is lent where the configuration and the sizes are accepted: 10, then 11, then 12.
 fn lent_refusal(
     c: FuseConfig,
@@ -251,7 +240,7 @@ fn lent_refusal(
     if too_short(c.pos_dim, pos.len(), vel.len(), count, room) {
         return Refusal::SHORT;
     }
-    if not_finite(pos, vel, rows) {
+    if fmath::some_not_finite(pos, vel, rows) {
         return Refusal::NOT_FINITE;
     }
     0

@@ -1,7 +1,7 @@
 // Module 8: scores held against a calibration. Standardise, aggregate over the gate, trip strictly; and the time bin.
 ghost use mathlib.Core.Path.{_≡_};
 ghost use mathlib.Core.Bool.{not};
-ghost use Prim.Native.Nat.{_<_, min};
+ghost use Prim.Native.Nat.{_≤_, _<_, min};
 ghost use lib.Ieee.{binary64, isNan};
 ghost use Rattle.refusal.specs.Order.{if_then_else_};
 ghost use Rattle.fmath.specs.Least.{lesser, greater};
@@ -319,8 +319,8 @@ fn greatest(gate: GateSpec, mask: u32, valid: u32, z: &[f64; 12]) -> f64
 }
 
 // The weight of a bit that is set, else 0.
-fn weight(on: bool, w: u32) -> u32
-    ensures { λ r. ⌜ r ≡ (if on then w else 0) ⌝ }
+pub fn weight(on: bool, w: u32) -> u32
+    ensures { λ r. ⌜ (r ≡ (if on then w else 0)) × (r ≤ w) ⌝ }
 {
     if on { w } else { 0 }
 }

@@ -1,12 +1,13 @@
 // The only float helpers on the decision path: tests, least, greatest, clamp, root, norm and dist.
 ghost use Prim.Native.Nat.{min};
 ghost use mathlib.Core.Path.{_≡_};
+ghost use mathlib.Core.List.{[], _∷_};
 ghost use lib.ListN.{length};
 ghost use lib.Ieee.{binary64};
 ghost use Rattle.fmath.specs.Each.{at, over};
 ghost use Rattle.fmath.specs.Row.{padded};
 ghost use Rattle.fmath.specs.Norm.{norm, dist};
-ghost use Rattle.fmath.specs.Answer.{sqrtAnswer, normAnswer, distAnswer};
+ghost use Rattle.fmath.specs.Answer.{someLentNotFinite, sqrtAnswer, normAnswer, distAnswer};
 ghost use Rattle.fmath.specs.Finite.{finite, aboveZero, notBelowZero, allFinite, allAboveZero};
 ghost use Rattle.fmath.specs.Least.{lesser, greater, clamped};
 use refusal::Refusal;
@@ -53,6 +54,16 @@ pub fn all_finite(v: &[f64], n: usize) -> bool
         i += 1;
     }
     ok
+}
+
+// Whether some number of three slices is not finite.
+pub fn some_not_finite(a: &[f64], b: &[f64], c: &[f64]) -> bool
+    ensures { λ r. ⌜ r ≡ someLentNotFinite (now (a .entry) ∷ now (b .entry) ∷ now (c .entry) ∷ []) ⌝ }
+{
+    let k = all_finite(a, a.len());
+    let l = all_finite(b, b.len());
+    let m = all_finite(c, c.len());
+    !k | !l | !m
 }
 
 // Each of the first n numbers is there, is finite and is above zero. Each test has its own running answer, which is what

@@ -15,7 +15,6 @@ use crate::SlowZone;
 use crate::measure::armed;
 use crate::measure::raw_row;
 use crate::measure::shared;
-use crate::trips::weight;
 use envelope::ClampMode;
 use envelope::TripMask;
 
@@ -153,7 +152,7 @@ fn moved(a: &[f64; 8], b: &[f64; 8], n: usize) -> u32
     let mut w = 1u32;
     let mut i = 0usize;
     while i < n {
-        m = m + weight(a[i] != b[i], w);
+        m = m + conformal::weight(a[i] != b[i], w);
         w = w * 2;
         i += 1;
     }

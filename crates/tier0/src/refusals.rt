@@ -64,16 +64,6 @@ fn chunk_too_short(pos_dim: usize, pos: usize, size: usize, room: usize) -> bool
     (pos < pos_dim) | (room < size)
 }
 
-// Whether some number that is lent with a chunk, read or not, is not finite.
-fn chunk_not_finite(pos: &[f64], aux: &[f64], rows: &[f64]) -> bool
-    ensures { λ r. ⌜ r ≡ someLentNotFinite (now (pos .entry) ∷ now (aux .entry) ∷ now (rows .entry) ∷ []) ⌝ }
-{
-    let k = fmath::all_finite(pos, pos.len());
-    let l = fmath::all_finite(aux, aux.len());
-    let m = fmath::all_finite(rows, rows.len());
-    !k | !l | !m
-}
-
 // The number for what is lent with a chunk whose configuration and sizes are accepted: 10, then 11, then 12.
 fn rows_refusal(
     c: Settings,
@@ -94,7 +84,7 @@ fn rows_refusal(
     if chunk_too_short(c.pos_dim, pos.len(), h * d, room) {
         return Refusal::SHORT;
     }
-    if chunk_not_finite(pos, aux, rows) {
+    if fmath::some_not_finite(pos, aux, rows) {
         return Refusal::NOT_FINITE;
     }
     0

@@ -5,7 +5,7 @@ ghost use lib.ListN.{length, replicate};
 ghost use lib.Ieee.{binary64};
 ghost use Rattle.fmath.specs.Checked.{each};
 ghost use Rattle.fmath.specs.Finite.{+0};
-ghost use Rattle.tier0.specs.Rule.{outOfBox, outOfReach, bit, tripBits};
+ghost use Rattle.tier0.specs.Rule.{outOfBox, outOfReach, tripBits};
 ghost use Rattle.tier0.specs.Chunk.{bends, jolts, someOf, largeAt, further, tripOf, tooLarge};
 ghost use Rattle.tier0.specs.declared.Difference.the-variants.{Accel, Jerk};
 ghost use Rattle.tier0.specs.Of.{rowFrom, testFrom, stepsFrom};
@@ -50,13 +50,6 @@ pub(crate) fn out_of_reach(s: Checks, pos: &[f64], a: &[f64]) -> Test
     }
 }
 
-// w where the test holds, else 0.
-pub(crate) fn weight(on: bool, w: u32) -> u32
-    ensures { λ r. ⌜ r ≡ bit on w ⌝ }
-{
-    if on { w } else { 0 }
-}
-
 // The mask of the checks that trip.
 pub(crate) fn trip_bits(
     out: bool,
@@ -68,12 +61,12 @@ pub(crate) fn trip_bits(
 ) -> u32
     ensures { λ r. ⌜ r ≡ tripBits out fast bent jolted far close ⌝ }
 {
-    let a = weight(out, TripMask::WORKSPACE);
-    let b = weight(fast, TripMask::SPEED);
-    let c = weight(bent, TripMask::ACCEL);
-    let d = weight(jolted, TripMask::JERK);
-    let e = weight(far, TripMask::REACH);
-    let f = weight(close, TripMask::CONTACT);
+    let a = conformal::weight(out, TripMask::WORKSPACE);
+    let b = conformal::weight(fast, TripMask::SPEED);
+    let c = conformal::weight(bent, TripMask::ACCEL);
+    let d = conformal::weight(jolted, TripMask::JERK);
+    let e = conformal::weight(far, TripMask::REACH);
+    let f = conformal::weight(close, TripMask::CONTACT);
     a + b + c + d + e + f
 }
 

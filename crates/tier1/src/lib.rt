@@ -432,22 +432,15 @@ fn speed_peak(m: Manifest, pos: &[f64], b: &[f64], h: usize) -> Feature
     }
 }
 
-// The weight of a bit that is set, else 0.
-fn weight(on: bool, w: u32) -> u32
-    ensures { λ r. ⌜ (r ≡ (if on then w else 0)) × (r ≤ w) ⌝ }
-{
-    if on { w } else { 0 }
-}
-
 // The bits of the features of h rows, of which l overlap, with n shared coordinates.
 fn boundary_bits(l: usize, h: usize, n: usize) -> u32
     ensures { λ r. ⌜ r ≡ bitsWhere (boundaryAt l h n) 6 ⌝ }
 {
-    let a = weight(2 <= l, 1);
-    let b = weight(2 <= l, 2);
-    let c = weight(2 <= h, 4);
-    let d = weight(4 <= h, 8);
-    let e = weight(0 < n, 16);
+    let a = conformal::weight(2 <= l, 1);
+    let b = conformal::weight(2 <= l, 2);
+    let c = conformal::weight(2 <= h, 4);
+    let d = conformal::weight(4 <= h, 8);
+    let e = conformal::weight(0 < n, 16);
     a + b + c + d + e + 32
 }
 
@@ -560,7 +553,7 @@ fn gathered(
     while j < 12 {
         let on = valid_at(held_valid, len, ext.len(), j, w);
         f[j] = feature_at(on, &held, &trail, ext, j);
-        valid += weight(on, w);
+        valid += conformal::weight(on, w);
         w *= 2;
         j += 1;
     }

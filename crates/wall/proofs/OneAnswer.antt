@@ -7,6 +7,7 @@ use Rattle.fmath.proofs.above_zero.Reads as above-zero
 use Rattle.fmath.proofs.not_below_zero.Reads as not-below-zero
 use Rattle.fmath.proofs.all_finite.Reads as all-finite
 use Rattle.fmath.proofs.all_above_zero.Reads as all-above-zero
+use Rattle.fmath.proofs.some_not_finite.Reads as some-not-finite
 use Rattle.fmath.proofs.fewer.Reads as fewer
 use Rattle.fmath.proofs.put.Reads as put
 use Rattle.fmath.proofs.padded.Reads as padded
@@ -78,6 +79,7 @@ use Rattle.conformal.proofs.standardise.Reads as standardise
 use Rattle.conformal.proofs.aggregate.Reads as aggregate
 use Rattle.conformal.proofs.trip.Reads as trip
 use Rattle.conformal.proofs.time_bin.Reads as time-bin
+use Rattle.conformal.proofs.weight.Reads as weight
 use Rattle.refusal.proofs.Refusal.of.Reads as refusal-of
 use Rattle.refusal.proofs.Refusal.when.Reads as refusal-when
 use Rattle.refusal.proofs.Refusal.earlier.Reads as refusal-earlier
@@ -153,6 +155,9 @@ one-all-finite l a r s x y = unique
 
 pub one-all-above-zero : One all-above-zero.Post (λ r x. r)
 one-all-above-zero l a r s x y = unique
+
+pub one-some-not-finite : One some-not-finite.Post (λ r x. r)
+one-some-not-finite l a r s x y = unique
 
 pub one-fewer : One fewer.Post (λ r x. r)
 one-fewer l a r s x y = unique
@@ -383,6 +388,9 @@ one-aggregate l a r s x y = unique
 
 pub one-trip : One trip.Post (λ r x. r)
 one-trip l a r s x y = unique
+
+pub one-weight : One weight.Post (λ r x. r)
+one-weight l a r s x y = unique (x .0) (y .0)
 
 pub one-time-bin : One time-bin.Post (λ r x. r)
 one-time-bin l a r s x y = unique

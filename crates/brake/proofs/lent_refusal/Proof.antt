@@ -19,18 +19,18 @@ returns-2 c =
     let g = c .before .before .before .before .before .before .before .before .args in
     by-11 (g .c) (now (g .pos)) (now (g .vel)) (now (g .rows)) (g .horizon) (g .dim) 0 (g .from) (g .room) (c .before .before .before .if1 .left) (brief-is (g .c) (now (g .pos)) (now (g .vel)) (now (g .rows)) (g .horizon) (g .dim) 0 (g .from) (g .room) (c .before .too-short .ensures) (c .before .before .entries .ensures)) (c .if2 .taken)
 
-not-finite-requires : tie.Need-not-finite-requires
-not-finite-requires c κs = search needs
+some-not-finite-requires : tie.Need-some-not-finite-requires
+some-not-finite-requires c κs = search needs
 
 returns-3 : tie.Need-returns-3
 returns-3 c =
     let g = c .before .before .before .before .before .before .before .before .before .before .args in
-    by-12 (g .c) (now (g .pos)) (now (g .vel)) (now (g .rows)) (g .horizon) (g .dim) 0 (g .from) (g .room) (c .before .before .before .before .before .if1 .left) (brief-is (g .c) (now (g .pos)) (now (g .vel)) (now (g .rows)) (g .horizon) (g .dim) 0 (g .from) (g .room) (c .before .before .before .too-short .ensures) (c .before .before .before .before .entries .ensures)) (c .before .before .if2 .left) (c .before .not-finite .ensures) (c .if3 .taken)
+    by-12 (g .c) (now (g .pos)) (now (g .vel)) (now (g .rows)) (g .horizon) (g .dim) 0 (g .from) (g .room) (c .before .before .before .before .before .if1 .left) (brief-is (g .c) (now (g .pos)) (now (g .vel)) (now (g .rows)) (g .horizon) (g .dim) 0 (g .from) (g .room) (c .before .before .before .too-short .ensures) (c .before .before .before .before .entries .ensures)) (c .before .before .if2 .left) (c .before .some-not-finite .ensures) (c .if3 .taken)
 
 returns-4 : tie.Need-returns-4
 returns-4 c =
     let g = c .before .before .before .before .before .before .before .before .before .before .args in
-    by-none (g .c) (now (g .pos)) (now (g .vel)) (now (g .rows)) (g .horizon) (g .dim) 0 (g .from) (g .room) (c .before .before .before .before .before .if1 .left) (brief-is (g .c) (now (g .pos)) (now (g .vel)) (now (g .rows)) (g .horizon) (g .dim) 0 (g .from) (g .room) (c .before .before .before .too-short .ensures) (c .before .before .before .before .entries .ensures)) (c .before .before .if2 .left) (c .before .not-finite .ensures) (c .if3 .left)
+    by-none (g .c) (now (g .pos)) (now (g .vel)) (now (g .rows)) (g .horizon) (g .dim) 0 (g .from) (g .room) (c .before .before .before .before .before .if1 .left) (brief-is (g .c) (now (g .pos)) (now (g .vel)) (now (g .rows)) (g .horizon) (g .dim) 0 (g .from) (g .room) (c .before .before .before .too-short .ensures) (c .before .before .before .before .entries .ensures)) (c .before .before .if2 .left) (c .before .some-not-finite .ensures) (c .if3 .left)
 
 pub lent-refusal-spec : {M : Type 1} → statement M
 lent-refusal-spec =
@@ -40,6 +40,6 @@ lent-refusal-spec =
     entries-requires
     too-short-requires
     returns-2
-    not-finite-requires
+    some-not-finite-requires
     returns-3
     returns-4)

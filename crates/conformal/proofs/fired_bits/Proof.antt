@@ -41,7 +41,7 @@ fired-so-far c = let a = c .before .before .before .before .before .before .args
 turned : (c : tie.After-weight Inv-loop μ-loop) → let l = c .before .before .before .before .before .loop in Turned (fired-so-far c) (l .j) (l .bits) (l .w) (c .weight .result)
 turned c =
     let l = c .before .before .before .before .before .loop in
-    turn (fired-so-far c) (l .j) (l .bits) (l .w) _ (omega arith) (l .inv .1 .1) (l .inv .1 .0) refl (c .weight .ensures ∙ rw (c .before .before .before .bit .ensures, c .before .before .bit2 .ensures))
+    turn (fired-so-far c) (l .j) (l .bits) (l .w) _ (omega arith) (l .inv .1 .1) (l .inv .1 .0) refl (c .weight .ensures .0 ∙ rw (c .before .before .before .bit .ensures, c .before .before .bit2 .ensures))
 
 add-bits : tie.Need-add-bits Inv-loop μ-loop
 add-bits c = let t = turned c in omega arith

@@ -39,7 +39,7 @@ weight-requires : tie.Need-weight-requires Inv-loop μ-loop
 weight-requires c κs = search needs
 
 turned : (c : tie.After-weight Inv-loop μ-loop) → let l = c .before .before .before .before in Turned (λ (j : ℕ). ne (at (now (l .before .args .a)) j) (at (now (l .before .args .b)) j)) (l .loop .i) (l .loop .m) (l .loop .w) (c .weight .result)
-turned c = let l = c .before .before .before .before .loop in turn _ (l .i) (l .m) (l .w) _ (omega arith) (l .inv .1 .1) (l .inv .1 .0) refl (c .weight .ensures)
+turned c = let l = c .before .before .before .before .loop in turn _ (l .i) (l .m) (l .w) _ (omega arith) (l .inv .1 .1) (l .inv .1 .0) refl (c .weight .ensures .0)
 
 add-m : tie.Need-add-m Inv-loop μ-loop
 add-m c = let t = turned c in omega arith

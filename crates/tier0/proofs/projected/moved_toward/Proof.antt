@@ -1,19 +1,29 @@
 -- `tier0::projected::moved_toward` meets its contract: one coordinate a turn, with one test of it.
 use Prim.Native.Nat.{_≤_, _-_}
-use mathlib.Core.Path.{_≡_, refl}
+use mathlib.Core.Path.{_≡_, refl, ap, _∙_}
+use mathlib.Core.Bool.{Bool, _&&_}
 use native.Mathlib.Nat.{le-antisymm}
 use native.Mathlib.Omega.{arith}
 use borrow.Author.Needs.{needs}
 use denote.Ref.{now}
-use lib.Ieee.{binary64}
+use lib.Ieee.{binary64, Float, Format, sub, mul}
 use Rattle.fmath.specs.Each.{at}
+use Rattle.fmath.specs.Finite.{finite}
 use Rattle.fmath.specs.Checked.{each}
-use Rattle.fmath.proofs.Told.{each-value, each-sound}
+use Rattle.fmath.proofs.Absorbing.{fine-add-right, fine-mul-left}
+use Rattle.fmath.proofs.Told.{each-value, each-sound, Tells, implied}
 use Rattle.tier0.specs.Rule.{toward, towards}
-use Rattle.tier0.proofs.Loops.{toward-tells}
 use Rattle.tier0.proofs.Steps.{a-row}
 use Rattle.tier0.proofs.projected.moved_toward.Statement.{statement}
 use Rattle.tier0.proofs.projected.moved_toward.Tie as tie
+
+-- a coordinate pulled towards another tells whether its numbers are finite
+toward-tells : (f : Format) (s q x : Float) → Tells (toward f s q x)
+unfolding toward
+toward-tells f s q x =
+    let d = sub f x q in
+    let m = mul f d s in
+    ap (λ (b : Bool). finite d && b) (implied _ _ (fine-add-right f q m)) ∙ implied _ _ (λ h. fine-mul-left f d s (fine-add-right f q m h))
 
 abbrev Inv-loop : tie.InvT-loop
 Inv-loop s q n a r₀ sound₀ i₀ r sound i = (i ≤ n) × ((r ≡ each (towards binary64 s q a) a i .value) × (sound ≡ each (towards binary64 s q a) a i .sound))

@@ -20,14 +20,14 @@ chunk-too-short-requires c κs = search needs
 returns-2 : tie.Need-returns-2
 returns-2 c t u = let g = c .before .before .before .before .before .before .before .args in by-11 (whole (g .c) t u) (now (g .pos)) (now (g .aux)) (now (g .rows)) (g .horizon) (g .dim) 0 (g .room) (c .before .before .if1 .left) (c .before .chunk-too-short .ensures) (c .if2 .taken)
 
-chunk-not-finite-requires : tie.Need-chunk-not-finite-requires
-chunk-not-finite-requires c κs = search needs
+some-not-finite-requires : tie.Need-some-not-finite-requires
+some-not-finite-requires c κs = search needs
 
 returns-3 : tie.Need-returns-3
-returns-3 c t u = let g = c .before .before .before .before .before .before .before .before .before .args in by-12 (whole (g .c) t u) (now (g .pos)) (now (g .aux)) (now (g .rows)) (g .horizon) (g .dim) 0 (g .room) (c .before .before .before .before .if1 .left) (c .before .before .before .chunk-too-short .ensures) (c .before .before .if2 .left) (c .before .chunk-not-finite .ensures) (c .if3 .taken)
+returns-3 c t u = let g = c .before .before .before .before .before .before .before .before .before .args in by-12 (whole (g .c) t u) (now (g .pos)) (now (g .aux)) (now (g .rows)) (g .horizon) (g .dim) 0 (g .room) (c .before .before .before .before .if1 .left) (c .before .before .before .chunk-too-short .ensures) (c .before .before .if2 .left) (c .before .some-not-finite .ensures) (c .if3 .taken)
 
 returns-4 : tie.Need-returns-4
-returns-4 c t u = let g = c .before .before .before .before .before .before .before .before .before .args in by-none (whole (g .c) t u) (now (g .pos)) (now (g .aux)) (now (g .rows)) (g .horizon) (g .dim) 0 (g .room) (c .before .before .before .before .if1 .left) (c .before .before .before .chunk-too-short .ensures) (c .before .before .if2 .left) (c .before .chunk-not-finite .ensures) (c .if3 .left)
+returns-4 c t u = let g = c .before .before .before .before .before .before .before .before .before .args in by-none (whole (g .c) t u) (now (g .pos)) (now (g .aux)) (now (g .rows)) (g .horizon) (g .dim) 0 (g .room) (c .before .before .before .before .if1 .left) (c .before .before .before .chunk-too-short .ensures) (c .before .before .if2 .left) (c .before .some-not-finite .ensures) (c .if3 .left)
 
 pub rows-refusal-spec : {M : Type 1} → statement M
 rows-refusal-spec =
@@ -37,6 +37,6 @@ rows-refusal-spec =
     mul-chunk-too-short
     chunk-too-short-requires
     returns-2
-    chunk-not-finite-requires
+    some-not-finite-requires
     returns-3
     returns-4)

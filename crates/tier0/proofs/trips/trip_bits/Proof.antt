@@ -1,6 +1,5 @@
 -- `tier0::trips::trip_bits` meets its contract: six weights, none of which is large.
 use native.Mathlib.Omega.{arith}
-use Rattle.tier0.proofs.Loops.{bounded}
 use Rattle.tier0.proofs.Steps.{trips-are}
 use borrow.Author.Needs.{needs}
 use Rattle.tier0.proofs.trips.trip_bits.Statement.{statement}
@@ -25,22 +24,22 @@ weight-requires-6 : tie.Need-weight-requires-6
 weight-requires-6 c κs = search needs
 
 add-result : tie.Need-add-result
-add-result c = let h1 = bounded (c .before .before .before .before .before .before .args .out) 1 (c .before .before .before .before .before .weight .ensures) in let h2 = bounded (c .before .before .before .before .before .before .args .fast) 2 (c .before .before .before .before .weight2 .ensures) in let h3 = bounded (c .before .before .before .before .before .before .args .bent) 4 (c .before .before .before .weight3 .ensures) in let h4 = bounded (c .before .before .before .before .before .before .args .jolted) 8 (c .before .before .weight4 .ensures) in let h5 = bounded (c .before .before .before .before .before .before .args .far) 16 (c .before .weight5 .ensures) in let h6 = bounded (c .before .before .before .before .before .before .args .close) 32 (c .weight6 .ensures) in omega arith
+add-result c = let h1 = c .before .before .before .before .before .weight .ensures .1 in let h2 = c .before .before .before .before .weight2 .ensures .1 in let h3 = c .before .before .before .weight3 .ensures .1 in let h4 = c .before .before .weight4 .ensures .1 in let h5 = c .before .weight5 .ensures .1 in let h6 = c .weight6 .ensures .1 in omega arith
 
 add-result-2 : tie.Need-add-result-2
-add-result-2 c = let h1 = bounded (c .before .before .before .before .before .before .args .out) 1 (c .before .before .before .before .before .weight .ensures) in let h2 = bounded (c .before .before .before .before .before .before .args .fast) 2 (c .before .before .before .before .weight2 .ensures) in let h3 = bounded (c .before .before .before .before .before .before .args .bent) 4 (c .before .before .before .weight3 .ensures) in let h4 = bounded (c .before .before .before .before .before .before .args .jolted) 8 (c .before .before .weight4 .ensures) in let h5 = bounded (c .before .before .before .before .before .before .args .far) 16 (c .before .weight5 .ensures) in let h6 = bounded (c .before .before .before .before .before .before .args .close) 32 (c .weight6 .ensures) in omega arith
+add-result-2 c = let h1 = c .before .before .before .before .before .weight .ensures .1 in let h2 = c .before .before .before .before .weight2 .ensures .1 in let h3 = c .before .before .before .weight3 .ensures .1 in let h4 = c .before .before .weight4 .ensures .1 in let h5 = c .before .weight5 .ensures .1 in let h6 = c .weight6 .ensures .1 in omega arith
 
 add-result-3 : tie.Need-add-result-3
-add-result-3 c = let h1 = bounded (c .before .before .before .before .before .before .args .out) 1 (c .before .before .before .before .before .weight .ensures) in let h2 = bounded (c .before .before .before .before .before .before .args .fast) 2 (c .before .before .before .before .weight2 .ensures) in let h3 = bounded (c .before .before .before .before .before .before .args .bent) 4 (c .before .before .before .weight3 .ensures) in let h4 = bounded (c .before .before .before .before .before .before .args .jolted) 8 (c .before .before .weight4 .ensures) in let h5 = bounded (c .before .before .before .before .before .before .args .far) 16 (c .before .weight5 .ensures) in let h6 = bounded (c .before .before .before .before .before .before .args .close) 32 (c .weight6 .ensures) in omega arith
+add-result-3 c = let h1 = c .before .before .before .before .before .weight .ensures .1 in let h2 = c .before .before .before .before .weight2 .ensures .1 in let h3 = c .before .before .before .weight3 .ensures .1 in let h4 = c .before .before .weight4 .ensures .1 in let h5 = c .before .weight5 .ensures .1 in let h6 = c .weight6 .ensures .1 in omega arith
 
 add-result-4 : tie.Need-add-result-4
-add-result-4 c = let h1 = bounded (c .before .before .before .before .before .before .args .out) 1 (c .before .before .before .before .before .weight .ensures) in let h2 = bounded (c .before .before .before .before .before .before .args .fast) 2 (c .before .before .before .before .weight2 .ensures) in let h3 = bounded (c .before .before .before .before .before .before .args .bent) 4 (c .before .before .before .weight3 .ensures) in let h4 = bounded (c .before .before .before .before .before .before .args .jolted) 8 (c .before .before .weight4 .ensures) in let h5 = bounded (c .before .before .before .before .before .before .args .far) 16 (c .before .weight5 .ensures) in let h6 = bounded (c .before .before .before .before .before .before .args .close) 32 (c .weight6 .ensures) in omega arith
+add-result-4 c = let h1 = c .before .before .before .before .before .weight .ensures .1 in let h2 = c .before .before .before .before .weight2 .ensures .1 in let h3 = c .before .before .before .weight3 .ensures .1 in let h4 = c .before .before .weight4 .ensures .1 in let h5 = c .before .weight5 .ensures .1 in let h6 = c .weight6 .ensures .1 in omega arith
 
 add-result-5 : tie.Need-add-result-5
-add-result-5 c = let h1 = bounded (c .before .before .before .before .before .before .args .out) 1 (c .before .before .before .before .before .weight .ensures) in let h2 = bounded (c .before .before .before .before .before .before .args .fast) 2 (c .before .before .before .before .weight2 .ensures) in let h3 = bounded (c .before .before .before .before .before .before .args .bent) 4 (c .before .before .before .weight3 .ensures) in let h4 = bounded (c .before .before .before .before .before .before .args .jolted) 8 (c .before .before .weight4 .ensures) in let h5 = bounded (c .before .before .before .before .before .before .args .far) 16 (c .before .weight5 .ensures) in let h6 = bounded (c .before .before .before .before .before .before .args .close) 32 (c .weight6 .ensures) in omega arith
+add-result-5 c = let h1 = c .before .before .before .before .before .weight .ensures .1 in let h2 = c .before .before .before .before .weight2 .ensures .1 in let h3 = c .before .before .before .weight3 .ensures .1 in let h4 = c .before .before .weight4 .ensures .1 in let h5 = c .before .weight5 .ensures .1 in let h6 = c .weight6 .ensures .1 in omega arith
 
 returns : tie.Need-returns
-returns c = let g = c .before .before .before .before .before .before .args in trips-are (g .out) (g .fast) (g .bent) (g .jolted) (g .far) (g .close) (c .before .before .before .before .before .weight .ensures) (c .before .before .before .before .weight2 .ensures) (c .before .before .before .weight3 .ensures) (c .before .before .weight4 .ensures) (c .before .weight5 .ensures) (c .weight6 .ensures)
+returns c = let g = c .before .before .before .before .before .before .args in trips-are (g .out) (g .fast) (g .bent) (g .jolted) (g .far) (g .close) (c .before .before .before .before .before .weight .ensures .0) (c .before .before .before .before .weight2 .ensures .0) (c .before .before .before .weight3 .ensures .0) (c .before .before .weight4 .ensures .0) (c .before .weight5 .ensures .0) (c .weight6 .ensures .0)
 
 pub trip-bits-spec : {M : Type 1} → statement M
 trip-bits-spec =
