@@ -390,7 +390,7 @@ pub one-trip : One trip.Post (λ r x. r)
 one-trip l a r s x y = unique
 
 pub one-weight : One weight.Post (λ r x. r)
-one-weight l a r s x y = unique (x .0) (y .0)
+one-weight l a r s x y p q = unique (p .0) (q .0)
 
 pub one-time-bin : One time-bin.Post (λ r x. r)
 one-time-bin l a r s x y = unique
