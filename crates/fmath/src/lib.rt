@@ -1,4 +1,4 @@
-// The only float helpers on the decision path: tests, least, greatest, clamp, root, norm and dist.
+// The helpers on the decision path, for floats: tests, least, greatest, clamp, root, norm and dist; for counts and rows: fewer, put and padded.
 ghost use Prim.Native.Nat.{min};
 ghost use mathlib.Core.Path.{_≡_};
 ghost use mathlib.Core.List.{[], _∷_};

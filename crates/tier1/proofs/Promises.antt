@@ -62,30 +62,23 @@ module _ (c : FuseConfig) (p ext : List Float) (there : Bool) (k : Head) (rows :
   unfolding featuresOf
   passed-is e = rw e
 
-  -- whatever is answered, z, s and fired stay
-  pub z-kept : answer .scores .z ≡ sc .z
+  -- whatever is answered, what the features do not replace stays: z, s and fired
+  stays : {A : Type 0} (part : Scores → A) → part (scoresWith (found .found) sc) ≡ part sc → part (answer .scores) ≡ part sc
   unfolding featuresOf
-  z-kept = go (featuresRefusal c p ext there k rows rt sc)
+  stays part e = go (featuresRefusal c p ext there k rows rt sc)
     where
-      go : (n : ℕ) → featuredAt n found rt sc .scores .z ≡ sc .z
-      go zero = refl
+      go : (n : ℕ) → part (featuredAt n found rt sc .scores) ≡ part sc
+      go zero = e
       go (suc n) = refl
+
+  pub z-kept : answer .scores .z ≡ sc .z
+  z-kept = stays (λ (s : Scores). s .z) refl
 
   pub s-kept : answer .scores .s ≡ sc .s
-  unfolding featuresOf
-  s-kept = go (featuresRefusal c p ext there k rows rt sc)
-    where
-      go : (n : ℕ) → featuredAt n found rt sc .scores .s ≡ sc .s
-      go zero = refl
-      go (suc n) = refl
+  s-kept = stays (λ (s : Scores). s .s) refl
 
   pub fired-kept : answer .scores .fired ≡ sc .fired
-  unfolding featuresOf
-  fired-kept = go (featuresRefusal c p ext there k rows rt sc)
-    where
-      go : (n : ℕ) → featuredAt n found rt sc .scores .fired ≡ sc .fired
-      go zero = refl
-      go (suc n) = refl
+  fired-kept = stays (λ (s : Scores). s .fired) refl
 
   same-trail : found .rt .trail ≡ rt .trail
   unfolding ticked tick
