@@ -34,7 +34,7 @@ abbrev listed : ℕ → List Judged → Bool
 listed k [] = false
 listed k ((r when b) ∷ l) = eqb (numberOf r) k || listed k l
 
-never : (k : ℕ) (l : List Judged) → (0 ≡ k → ⊥) → listed k l ≡ false → chain l ≡ k → ⊥
+pub never : (k : ℕ) (l : List Judged) → (0 ≡ k → ⊥) → listed k l ≡ false → chain l ≡ k → ⊥
 never k [] z a e = z e
 never k ((r when true) ∷ l) z a e = eqb-false (numberOf r) k (neither (eqb (numberOf r) k) (listed k l) a .0) e
 never k ((r when false) ∷ l) z a e = never k l z (neither (eqb (numberOf r) k) (listed k l) a .1) e

@@ -5,4 +5,6 @@ pub mod Judged
 pub mod Room
 pub mod Told
 pub mod Sending
+pub mod Foreseen
+pub mod Boxed
 pub mod Promises

@@ -1,126 +1,249 @@
--- What module 7's entries promise: the forecast's answer and its entries, word for word, and that position kinds write inside the box.
-use Prim.Native.Nat.{ℕ, suc, _+_, _-_, _*_, _≤_, _<_}
-use mathlib.Core.Path.{_≡_, refl, sym, ap, _∙_}
-use mathlib.Core.Bool.{Bool, true, false, not, _||_}
-use mathlib.Core.List.{List, [], _∷_, _++_}
+-- Demand 3 of the entry, and "a feasible forecast stays inside": the entry's answer and lent entries are what the second-order forecast comes to (`Foreseen`), and of a
+-- forecast `rollout` has said where it reaches, what its entries are and what the least of them is.
+use Prim.Native.Nat.{ℕ, zero, suc, _-_, _*_, _≤_, _<_}
+use mathlib.Core.Path.{_≡_, refl, sym, ap, _∙_, subst}
+use mathlib.Core.Bool.{Bool, true, false}
+use mathlib.Core.List.{List, _++_}
+use mathlib.Core.Logic.{_⊎_, inl, inr}
+use native.Mathlib.Nat.{le-trans}
 use native.Mathlib.Omega.{arith}
-use borrow.Author.Tests.{ne-eqb}
+use borrow.Author.Tests.{eqb-true, eqb-false}
+use lib.Dec.{eqb}
 use lib.ListN.{length}
 use lib.Ieee.{Float, binary64, lt}
-use Rattle.refusal.specs.Order.{computed, _when_, refusal}
-use Rattle.refusal.specs.Chain.{both-pass}
-use Rattle.fmath.specs.Answer.{someNotFinite}
-use Rattle.fmath.specs.Each.{at, all, over}
-use Rattle.fmath.proofs.Each.{over-at}
+use Rattle.refusal.specs.Order.{Judged, refusal, refusedFor}
+use Rattle.fmath.specs.Each.{at, all}
+use Rattle.fmath.specs.Finite.{+0}
+use Rattle.fmath.proofs.Each.{all-at, all-from, length-over}
+use Rattle.fmath.proofs.Ordered.{Real}
 use Rattle.chunk.specs.Refusals.{chunkReasons}
 use Rattle.envelope.specs.Refusals.{configJudged}
-use Rattle.envelope.specs.declared.BrakeKind.the-variants.{PdSecondOrder}
-use Rattle.envelope.specs.declared.FuseConfig.{FuseConfig}
-use Rattle.envelope.proofs.Accepted.{accepted, dim-most, walls-ordered}
-use Rattle.workspace.proofs.Inside.{inward-inside}
-use Rattle.rollout.specs.Forecast.{Forecast, fine, slackAt, placeOf, marginOf, feasibleOf, writtenOf}
-use Rattle.rollout.specs.Rule.{forecast}
-use Rattle.rollout.proofs.Promises.{Whole, whole-reached, written-in-order, others-kept, first-failing-place, failing-at-the-end}
-use Rattle.brake.specs.declared.BrakeOut.{BrakeOut}
-use Rattle.brake.specs.declared.BrakeOut.the-variants as out
-use Rattle.brake.proofs.Eight.{length-eight}
-use Rattle.brake.specs.Rule.{eight, wallsAt, setpoint, secondOrder, forecastBy}
-use Rattle.brake.specs.Answer.{outcome, plan, lentJudged, forecastAnswer, forecastSlacks, rowLent, brakeSent, brakeRefusal, brakeOutput, holdRefusal, holdOutput}
-use Rattle.brake.proofs.Judged.{foreseen}
-use Rattle.brake.proofs.Sending.{Position, position-brakes, position-holds, sized}
+use Rattle.envelope.specs.declared.ControlSteps.{ControlSteps}
+use Rattle.envelope.proofs.Walls.{low-wall-fits, high-wall-fits}
+use Rattle.rollout.specs.Plant.{Gains}
+use Rattle.rollout.specs.Forecast.{Forecast, fine, slackAt, reached, marginOf, feasibleOf, writtenOf}
+use Rattle.rollout.specs.Rule.{forecast, stop}
+use Rattle.rollout.proofs.Reach.{reach-le, first-or-all}
+use Rattle.rollout.proofs.Promises.{Whole, whole-reached, written-in-order, others-kept, first-failing-place, empty-margin, margin-attained, margin-least, feasible-none-negative, none-negative-feasible, entry-is-slack, entries-real, braking, shorter-begins-longer, feasible-inside}
+use Rattle.brake.specs.declared.BrakeOut.the-variants.{Accepted, Refused}
+use Rattle.brake.specs.Rule.{live}
+use Rattle.brake.specs.Answer.{plan, lentJudged}
+use Rattle.brake.specs.Promises.{Call, answer, entries, OnlyThirteen, SecondOrder, N, task, plantAfter, slackAfter, finiteIn, stopFinite, AllFinite, FirstFailing, Wrote, Forecasts, RefusedAt, Demand3, braked, Begins, StaysInside}
+use Rattle.brake.proofs.ByKind.{count-is}
+use Rattle.brake.proofs.Judged.{never, planned, refused}
+use Rattle.brake.proofs.Foreseen.{slacks-are, accepted-answer, refused-answer, refused-at-the-end, second-order-plan, count-is-N}
 
--- ---- the forecast
+-- a call that is accepted was stopped by no refusal
+accepted-free : (x : Call) {n : ℕ} {margin : Float} {feasible : Bool} {stop : Float} → answer x ≡ Accepted n margin feasible stop → OnlyThirteen x
+accepted-free x a r e = let z : _≡_ {A = ℕ} 0 1 = cc in absurd (omega arith)
 
-module _ (c : FuseConfig) (p v rows : List Float) (h d e from : ℕ) (l : List Float)
-    (free : refusal (configJudged c ++ (chunkReasons h d e (length rows) ++ lentJudged c p v rows h d e from (length l))) ≡ 0) where
+module _ (x : Call) where
   abbrev t : Forecast
-  t = plan c p v rows h d e from
+  t = plan (x .config) (x .position) (x .velocity) (x .rows) (x .horizon) (x .dim) (x .exec) (x .from)
 
-  abbrev answer : BrakeOut
-  answer = forecastAnswer c p v rows h d e from (length l)
+  abbrev before : List Judged
+  before =
+      configJudged (x .config)
+      ++ (chunkReasons (x .horizon) (x .dim) (x .exec) (length (x .rows)) ++ lentJudged (x .config) (x .position) (x .velocity) (x .rows) (x .horizon) (x .dim) (x .exec) (x .from) (length (x .lent)))
 
-  abbrev slacks : List Float
-  slacks = forecastSlacks c p v rows h d e from l
+  -- where no refusal but 13 stops the call, nothing that is judged beforehand refuses it
+  free : OnlyThirteen x → refusal before ≡ 0
+  free only = go (eqb (refusal before) 0) refl
+    where
+      go : (b : Bool) → eqb (refusal before) 0 ≡ b → refusal before ≡ 0
+      go true e = eqb-true (refusal before) 0 e
+      go false e =
+          let a = refused (x .config) (x .position) (x .velocity) (x .rows) (x .horizon) (x .dim) (x .exec) (x .from) (x .lent) refl (eqb-false (refusal before) 0 e) refl in
+          absurd (never 13 before (λ o. omega arith) refl (only (refusedFor (refusal before)) (sym (a .gives))))
 
-  -- where no refusal but 13 stops the call, the answer is what the forecast comes to
-  pub answer-is : answer ≡ outcome t
-  answer-is = sym (foreseen c p v rows h d e from l free refl refl .gives)
+module _ (x : Call) (g : Gains) (is : SecondOrder x g) (only : OnlyThirteen x) where
+  abbrev f : Forecast
+  f = t x
 
-  pub slacks-are : slacks ≡ writtenOf t l
-  slacks-are = sym (foreseen c p v rows h d e from l free refl refl .leaves)
+  clear : refusal (before x) ≡ 0
+  clear = free x only
 
-  -- if every computed number is finite, the count, the margin, the flag and the stop distance are the forecast's ..
-  pub accepted-answer : Whole t → t .stop .sound ≡ true → answer ≡ out.Accepted (t .count) (marginOf t) (feasibleOf t) (t .stop .value)
-  unfolding outcome placeOf
-  accepted-answer w s = answer-is ∙ rw (w, s)
+  plan-is : f ≡ forecast binary64 (task x g)
+  plan-is = second-order-plan (x .config) (x .position) (x .velocity) (x .rows) (x .horizon) (x .dim) (x .exec) (x .from) (g .kp) (g .kv) (g .dt) is
 
-  -- .. each entry is written, and all others are kept
-  pub accepted-entries : Whole t → (k : ℕ) → k < t .count → k < length l → at slacks k ≡ slackAt t k
-  accepted-entries w k b r = ap (λ (m : List Float). at m k) slacks-are ∙ written-in-order t l k (rw (← whole-reached t w) at b) r
+  is-N : f .count ≡ N x
+  is-N = count-is-N (x .config) (x .position) (x .velocity) (x .rows) (x .horizon) (x .dim) (x .exec) (x .from) (g .kp) (g .kv) (g .dt) is
 
-  pub accepted-rest : Whole t → (k : ℕ) → t .count ≤ k → at slacks k ≡ at l k
-  accepted-rest w k b = ap (λ (m : List Float). at m k) slacks-are ∙ others-kept t l k (rw (← whole-reached t w) at b)
+  room : f .count ≤ length (x .lent)
+  room =
+      rw (count-is binary64 (x .config) (x .position) (x .velocity) (x .rows) (x .horizon) (x .dim) (x .from) (x .config .brake .kind))
+      (planned (x .config) (x .position) (x .velocity) (x .rows) (x .horizon) (x .dim) (x .exec) (x .from) (length (x .lent)) clear .space)
 
-  -- if place k + 1 is the first with a number that isn't finite, it is refused naming that place, with exactly the k entries before it written
-  module _ (k : ℕ) (in-it : k < t .count) (before : all (fine t) k ≡ true) (there : fine t k ≡ false) where
-    pub refused-answer : answer ≡ out.Refused (record { number = 13; place = suc k })
-    unfolding outcome
-    refused-answer = answer-is ∙ rw (first-failing-place t k in-it before there .0, ne-eqb (suc k) 0 (λ z. omega arith))
+  entries-are : entries x ≡ writtenOf f (x .lent)
+  entries-are = slacks-are (x .config) (x .position) (x .velocity) (x .rows) (x .horizon) (x .dim) (x .exec) (x .from) (x .lent) clear
 
-    pub refused-entries : (j : ℕ) → j < k → j < length l → at slacks j ≡ slackAt t j
-    refused-entries j b r = ap (λ (m : List Float). at m j) slacks-are ∙ written-in-order t l j (rw (← first-failing-place t k in-it before there .1) at b) r
+  fine-is : (k : ℕ) → fine f k ≡ finiteIn x g k
+  fine-is k = ap (λ (y : Forecast). fine y k) plan-is
 
-    pub refused-rest : (j : ℕ) → k ≤ j → at slacks j ≡ at l j
-    refused-rest j b = ap (λ (m : List Float). at m j) slacks-are ∙ others-kept t l j (rw (← first-failing-place t k in-it before there .1) at b)
+  slack-is : (k : ℕ) → slackAt f k ≡ slackAfter x g (suc k)
+  slack-is k = ap (λ (y : Forecast). slackAt y k) plan-is ∙ entry-is-slack binary64 (task x g) k
 
-  -- a stop distance that isn't finite has the place after the last entry
-  pub refused-at-the-end : Whole t → t .stop .sound ≡ false → answer ≡ out.Refused (record { number = 13; place = suc (t .count) })
-  unfolding outcome
-  refused-at-the-end w s = answer-is ∙ rw (failing-at-the-end t w s, ne-eqb (suc (t .count)) 0 (λ z. omega arith))
+  whole : ((k : ℕ) → k < N x → finiteIn x g k ≡ true) → Whole f
+  whole h = all-from (fine f) (f .count) (λ k b. fine-is k ∙ h k (rw (← is-N) b))
 
--- for the second-order brake the forecast is that of `rollout`, whose promises say what N is, what each entry is, when it is feasible, and that the
--- shorter of two lists begins the longer
-module _ (c : FuseConfig) (p v rows : List Float) (h d e from : ℕ) (kp kv dt : Float) (is : c .brake .kind ≡ PdSecondOrder kp kv dt) where
-  pub second-order-plan : plan c p v rows h d e from ≡ forecast binary64 (secondOrder binary64 c p v rows h d from (record { kp = kp; kv = kv; dt = dt }))
-  unfolding forecastBy
-  second-order-plan = rw is
+  wrote-length : length (entries x) ≡ length (x .lent)
+  unfolding writtenOf
+  wrote-length = ap length entries-are ∙ length-over (slackAt f) (x .lent) (reached f)
 
-  pub count-is-N : plan c p v rows h d e from .count ≡ (c .brake .commit .0 - from + c .brake .«brake_steps» .0) * c .brake .substeps .0
-  count-is-N = ap (λ (t : Forecast). t .count) second-order-plan
+  wrote : (n : ℕ) → reached f ≡ n → Wrote x g n
+  wrote n e =
+      let enough : n ≤ length (x .lent) = le-trans (rw (← e) (reach-le (fine f) (f .count))) room in
+      record {
+        room = enough;
+        kth = λ k b. ap (λ (l : List Float). at l k) entries-are ∙ written-in-order f (x .lent) k (rw e b) (omega arith) ∙ slack-is k;
+        rest = λ k b. ap (λ (l : List Float). at l k) entries-are ∙ others-kept f (x .lent) k (rw e b);
+        length-kept = wrote-length;
+      }
 
--- ---- position kinds write inside the box
+  wrote-all : Whole f → Wrote x g (N x)
+  wrote-all w = wrote (N x) (whole-reached f w ∙ is-N)
 
-module _ (c : FuseConfig) (p l : List Float) (j : ℕ) (in-it : j < c .dim) where
-  abbrev lo : Float
-  lo = at (wallsAt binary64 c .lo) j
+  module _ (w : Whole f) where
+    entry-at : (k : ℕ) → k < N x → at (entries x) k ≡ slackAt f k
+    entry-at k b = wrote-all w .kth k b ∙ sym (slack-is k)
 
-  abbrev hi : Float
-  hi = at (wallsAt binary64 c .hi) j
+    real : (k : ℕ) → k < f .count → Real (slackAt f k)
+    real k b = subst (λ (y : Forecast). Real (slackAt y k)) (sym plan-is) (entries-real binary64 (task x g) k (sym (fine-is k) ∙ all-at (fine f) (f .count) w k b))
 
-  setpoint-inside : refusal (configJudged c) ≡ 0 → (lt (at (setpoint (wallsAt binary64 c) p (c .dim)) j) lo ≡ false) × (lt hi (at (setpoint (wallsAt binary64 c) p (c .dim)) j) ≡ false)
-  unfolding setpoint
-  setpoint-inside z =
-      let fit = accepted c z in
-      let few = dim-most c fit in
-      inward-inside (wallsAt binary64 c) (eight p 8) (c .dim) j in-it (omega (arith, length-eight p 8)) (walls-ordered c fit j (omega arith))
+    attained : (n : ℕ) → f .count ≡ n → 0 < n → (k : ℕ) × (k < N x) × (marginOf f ≡ at (entries x) k)
+    attained zero e b = absurd (omega arith)
+    attained (suc n) e b =
+        let a = margin-attained f n e in
+        let c : a .0 < N x = rw (← is-N, e) (a .1) in
+        (a .0, c, a .2 ∙ sym (entry-at (a .0) c))
 
-  abbrev Inside : List Float → Type 0
-  Inside m = (lt (at m j) lo ≡ false) × (lt hi (at m j) ≡ false)
+    forecasts : f .stop .sound ≡ true → Forecasts x g
+    forecasts s = record {
+      margin = marginOf f;
+      feasible = feasibleOf f;
+      reports-N = accepted-answer (x .config) (x .position) (x .velocity) (x .rows) (x .horizon) (x .dim) (x .exec) (x .from) (x .lent) clear w s ∙ rw (is-N, ap (λ (y : Forecast). y .stop .value) plan-is);
+      wrote = wrote-all w;
+      margin-least = λ k b. ap (λ (y : Float). lt y (marginOf f)) (entry-at k b) ∙ margin-least f real k (rw is-N b);
+      margin-attained = λ b. attained (f .count) refl (rw is-N b);
+      margin-of-none = λ e. empty-margin f (is-N ∙ e);
+      feasible-only = λ y k b. ap (λ (z : Float). lt z +0) (entry-at k b) ∙ feasible-none-negative f real y k (rw is-N b);
+      feasible-where = λ h. none-negative-feasible f real (λ k b. let c : k < N x = rw (← is-N) b in ap (λ (z : Float). lt z +0) (sym (entry-at k c)) ∙ h k c);
+    }
 
-  written-inside : (unfit : Bool) → refusal (configJudged c ++ rowLent c unfit (length l)) ≡ 0 → Inside (over (at (setpoint (wallsAt binary64 c) p (c .dim))) l (c .dim))
-  written-inside unfit z =
-      let w = sized c unfit (length l) z in
-      rw (over-at (at (setpoint (wallsAt binary64 c) p (c .dim))) l (c .dim) j in-it (omega (arith, w .1)))
-      (setpoint-inside (both-pass (configJudged c) (rowLent c unfit (length l)) z .0))
+  -- ---- refused at a substep
 
-  module _ (is : Position (c .kind)) where
-    pub brake-inside : (v : List Float) → brakeRefusal c p v (length l) ≡ 0 → Inside (brakeOutput c p v l)
-    unfolding brakeOutput brakeRefusal brakeSent
-    brake-inside v z =
-        let unfit = someNotFinite p || someNotFinite v in
-        rw (z, position-brakes (wallsAt binary64 c) p (c .dim) binary64 (c .limits .«a_max») (c .limits .dt) v (c .kind) is)
-        (written-inside unfit (both-pass (configJudged c ++ rowLent c unfit (length l)) ((computed when not (brakeSent c p v .sound)) ∷ []) z .0))
+  module _ (k : ℕ) (c : FirstFailing x g k) where
+    finite-before : all (fine f) k ≡ true
+    finite-before = all-from (fine f) k (λ j b. fine-is j ∙ c .before j b)
 
-    pub hold-inside : holdRefusal c p (length l) ≡ 0 → Inside (holdOutput c p l)
-    unfolding holdOutput holdRefusal
-    hold-inside z = rw (z, position-holds (wallsAt binary64 c) p (c .dim) (c .kind) is) (written-inside (someNotFinite p) z)
+    counted : k < f .count
+    counted = rw is-N (c .counted)
+
+    failing : fine f k ≡ false
+    failing = fine-is k ∙ c .there
+
+    refuses : RefusedAt x (suc k)
+    refuses = refused-answer (x .config) (x .position) (x .velocity) (x .rows) (x .horizon) (x .dim) (x .exec) (x .from) (x .lent) clear k counted finite-before failing
+
+    wrote-before : Wrote x g k
+    wrote-before = wrote k (first-failing-place f k counted finite-before failing .1)
+
+  refuses-the-stop : Whole f → stopFinite x g ≡ false → RefusedAt x (suc (N x))
+  refuses-the-stop w s =
+      refused-at-the-end (x .config) (x .position) (x .velocity) (x .rows) (x .horizon) (x .dim) (x .exec) (x .from) (x .lent) clear w (ap (λ (y : Forecast). y .stop .sound) plan-is ∙ s)
+      ∙ rw is-N
+
+  -- ---- a call comes to one of the three
+
+  data Comes : Type 0 where
+    finished : AllFinite x g → Comes
+    failed : (k : ℕ) → FirstFailing x g k → Comes
+    stopped : Whole f → stopFinite x g ≡ false → Comes
+
+  comes : Comes
+  comes = go (first-or-all (fine f) (f .count))
+    where
+      ended : Whole f → (b : Bool) → stopFinite x g ≡ b → Comes
+      ended w true s = finished (record { substeps = λ k b. sym (fine-is k) ∙ all-at (fine f) (f .count) w k (rw is-N b); stops = s })
+      ended w false s = stopped w s
+
+      go : ((k : ℕ) × (k < f .count) × (all (fine f) k ≡ true) × (fine f k ≡ false)) ⊎ Whole f → Comes
+      go (inl w) = failed (w .0) (record { counted = rw (← is-N) (w .1); before = λ j b. sym (fine-is j) ∙ all-at (fine f) (w .0) (w .2) j b; there = sym (fine-is (w .0)) ∙ w .3 })
+      go (inr w) = ended w (stopFinite x g) refl
+
+  finishes : AllFinite x g → Forecasts x g
+  finishes h = forecasts (whole (h .substeps)) (ap (λ (y : Forecast). y .stop .sound) plan-is ∙ h .stops)
+
+  only-finite : (n : ℕ) (margin : Float) (feasible : Bool) (stop : Float) → answer x ≡ Accepted n margin feasible stop → AllFinite x g
+  only-finite n margin feasible stop a = go comes
+    where
+      clash : (place : ℕ) → RefusedAt x place → ⊥
+      clash place r = let z : _≡_ {A = ℕ} 0 1 = cc in omega arith
+
+      go : Comes → AllFinite x g
+      go (finished h) = h
+      go (failed k c) = absurd (clash (suc k) (refuses k c))
+      go (stopped w s) = absurd (clash (suc (N x)) (refuses-the-stop w s))
+
+  only-failing : (k : ℕ) → k < N x → RefusedAt x (suc k) → FirstFailing x g k
+  only-failing k b r = go comes
+    where
+      place : (j : ℕ) → RefusedAt x (suc j) → suc j ≡ suc k
+      place j s = cc
+
+      clash : Forecasts x g → ⊥
+      clash w = let a = w .reports-N in let z : _≡_ {A = ℕ} 0 1 = cc in omega arith
+
+      go : Comes → FirstFailing x g k
+      go (finished h) = absurd (clash (finishes h))
+      go (failed j c) = let e : j ≡ k = omega (arith, place j (refuses j c)) in subst (FirstFailing x g) e c
+      go (stopped w s) = absurd (let z : ⊥ = omega (arith, place (N x) (refuses-the-stop w s)) in z)
+
+  pub demand-3 : Demand3 x g
+  demand-3 = record {
+    forecasts = finishes;
+    only-finite = only-finite;
+    refuses = refuses;
+    wrote-before = wrote-before;
+    only-failing = only-failing;
+    refuses-the-stop = λ h s. let w = whole h in (refuses-the-stop w s, wrote-all w);
+  }
+
+-- ---- the shorter list begins the longer
+
+module _ (x : Call) (g : Gains) (is : SecondOrder x g) (b : ControlSteps) (l : List Float) where
+  abbrev y : Call
+  y = braked x b l
+
+  -- of two accepted forecasts that differ only in braking steps, the one with no more of them writes the beginning of what the other writes
+  pub shorter-begins : {m n : ℕ} {margin margin′ : Float} {feasible feasible′ : Bool} {stop stop′ : Float}
+      → answer x ≡ Accepted m margin feasible stop → answer y ≡ Accepted n margin′ feasible′ stop′ → x .config .brake .«brake_steps» .0 ≤ b .0 → Begins (N x) x y
+  shorter-begins {m} {n} {margin} {margin′} {feasible} {feasible′} {stop} {stop′} a a′ less =
+      let only = accepted-free x a in
+      let only′ = accepted-free y a′ in
+      let w = demand-3 x g is only .forecasts (only-finite x g is only m margin feasible stop a) .wrote in
+      let w′ = demand-3 y g is only′ .forecasts (only-finite y g is only′ n margin′ feasible′ stop′ a′) .wrote in
+      let rows = x .config .brake .commit .0 - x .from in
+      let counted : N x ≤ N y = mul-le-mul-right (x .config .brake .substeps .0) (let q : rows + x .config .brake .«brake_steps» .0 ≤ rows + b .0 = omega arith in q) in
+      record {
+        counted = counted;
+        same = λ k c.
+            w .kth k c
+            ∙ sym (entry-is-slack binary64 (task x g) k)
+            ∙ sym (shorter-begins-longer binary64 (task x g) b k)
+            ∙ entry-is-slack binary64 (braking (task x g) b) k
+            ∙ sym (w′ .kth k (omega arith));
+      }
+
+-- ---- a feasible forecast stays inside
+
+module _ (x : Call) (g : Gains) (is : SecondOrder x g) where
+  pub feasible-stays-inside : {n : ℕ} {margin stop : Float} → answer x ≡ Accepted n margin true stop → StaysInside x g
+  feasible-stays-inside {n} {margin} {stop} a k b j c =
+      let only = accepted-free x a in
+      let h = only-finite x g is only n margin true stop a in
+      let w = whole x g is only (h .substeps) in
+      let e = plan-is x g is only in
+      let report = finishes x g is only h .reports-N in
+      let ok : feasibleOf (t x) ≡ true = cc in
+      feasible-inside binary64 (task x g) (subst Whole e w) (subst (λ (y : Forecast). feasibleOf y ≡ true) e ok) k j b c (low-wall-fits binary64 (x .config) j) (high-wall-fits binary64 (x .config) j)

@@ -1,4 +1,5 @@
 pub mod Rule
 pub mod Answer
 pub mod Of
+pub mod Promises
 pub mod Worked

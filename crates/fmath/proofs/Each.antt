@@ -8,8 +8,8 @@ use native.Mathlib.Decide.{decLe}
 use native.Mathlib.Numerals.{add-one}
 use native.Mathlib.Omega.{arith}
 use borrow.Author.Count.{below-more}
-use lib.ListN.{length, getD, take, set, length-set, List·getD-eq-default}
-use lib.Seq.{take-suc-set, take-all, set-out, getD-set-same, getD-set-other}
+use lib.ListN.{length, getD, take, set, length-append, length-set, List·getD-append, List·getD-eq-default}
+use lib.Seq.{take-suc-set, take-all, set-out, getD-append-seam, getD-set-same, getD-set-other}
 use lib.Ieee.{Float, nan}
 use Rattle.fmath.specs.Each.{at, all, some, every, every-from, table, over}
 
@@ -120,6 +120,21 @@ table-more g i a v h e w = rw (add-one, take-suc-set a i v h, e, w)
 -- .. and its end
 pub table-all : (g : ℕ → Float) (n i : ℕ) (a : List Float) → i ≡ n → length a ≡ n → take i a ≡ table g i → a ≡ table g n
 table-all g n i a hi hl e = sym (take-all n a (omega arith)) ∙ rw hi at e
+
+pub table-long : (g : ℕ → Float) (n : ℕ) → length (table g n) ≡ n
+unfolding table
+table-long g zero = refl
+table-long g (suc n) = let e = table-long g n in length-append (table g n) (g n ∷ []) ∙ omega arith
+
+-- entry j of a table
+pub table-at : (g : ℕ → Float) (n j : ℕ) → j < n → at (table g n) j ≡ g j
+unfolding table
+table-at g zero j l = absurd (omega arith)
+table-at g (suc n) j l =
+    below-more (λ (i : ℕ). at (table g (suc n)) i ≡ g i) n
+    (λ i h. List·getD-append (table g n) (g n ∷ []) nan i (rw (table-long g n) h) ∙ table-at g n i h)
+    (ap (at (table g (suc n))) (sym (table-long g n)) ∙ getD-append-seam (table g n) (g n) [] nan)
+    j (omega arith)
 
 -- ---- over
 

@@ -8,8 +8,10 @@ use native.Mathlib.Decide.{decLe}
 use native.Mathlib.Omega.{arith}
 use borrow.Author.Tests.{not-true}
 use lib.Dec.{T, ltb}
-use lib.ListN.{length}
-use lib.Ieee.{Float, Format, inf, lt, fits, sub, isNan}
+use lib.ListN.{length, set, List·getD-eq-default}
+use lib.Seq.{set-out, getD-set-same, getD-set-other}
+use lib.Ieee.{Float, Format, nan, inf, lt, le, fits, sub, mul, isNan}
+use lib.Ieee.Fits.{nan-fits, add-fits}
 use Rattle.refusal.specs.Order.{if_then_else_}
 use Rattle.fmath.specs.Each.{at, all}
 use Rattle.fmath.specs.Finite.{finite, +0}
@@ -22,7 +24,7 @@ use Rattle.fmath.proofs.Absorbing.{fine-sub-left, fine-sub-right}
 use Rattle.fmath.proofs.Sign.{difference-below-zero}
 use Rattle.envelope.specs.declared.ControlSteps.{ControlSteps}
 use Rattle.workspace.specs.Rule.{Walls, between, gap, slack, inward}
-use Rattle.rollout.specs.Plant.{State, substep}
+use Rattle.rollout.specs.Plant.{Gains, State, motionAt, axis, substep}
 use Rattle.rollout.specs.Forecast.{Forecast, fine, slackAt, reach, reached, placeOf, marginOf, feasibleOf, writtenOf}
 use Rattle.rollout.specs.Rule.{Task, pushes, rowAt, total, pushed, setpoint, aim, after, entry, stop, forecast}
 use Rattle.rollout.proofs.Reach.{reach-whole}
@@ -178,8 +180,8 @@ module _ (f : Format) (t : Task) (b : ControlSteps) where
 -- ---- inside the walls, as numbers
 
 -- a difference that is not negative is one of numbers in that order
-in-order : (f : Format) (x y : Float) → T (fits f x) → T (fits f y) → finite (sub f x y) ≡ true → lt (sub f x y) +0 ≡ false → lt x y ≡ false
-in-order f x y p q h n = go (lt x y) refl
+in-order : (f : Format) (x y : Float) → T (fits f x) → T (fits f y) → finite (sub f x y) ≡ true → lt (sub f x y) +0 ≡ false → le y x ≡ true
+in-order f x y p q h n = le-not-above y x (finite-real y (fine-sub-right f x y h)) (finite-real x (fine-sub-left f x y h)) ∙ ap not (go (lt x y) refl)
   where
     go : (b : Bool) → lt x y ≡ b → b ≡ false
     go true e = sym (difference-below-zero f x y p q (fine-sub-left f x y h) (fine-sub-right f x y h) e) ∙ n
@@ -217,19 +219,41 @@ module _ (f : Format) (w : Walls) (p : List Float) (n j : ℕ) (b : j < n) (soun
   gap-real : Real (lesser low high)
   gap-real = lesser-real low high (finite-real low low-finite) (finite-real high high-finite)
 
-  pub above-the-low-wall : T (fits f (at p j)) → T (fits f (at (w .lo) j)) → lt (at p j) (at (w .lo) j) ≡ false
+  above-the-low-wall : T (fits f (at p j)) → T (fits f (at (w .lo) j)) → le (at (w .lo) j) (at p j) ≡ true
   above-the-low-wall x y =
       in-order f (at p j) (at (w .lo) j) x y low-finite (lt-not-below low (lesser low high) +0 gap-real (lesser-left low high low (finite-real low low-finite) (lt-irrefl low)) gap-not-negative)
 
-  pub below-the-high-wall : T (fits f (at p j)) → T (fits f (at (w .hi) j)) → lt (at (w .hi) j) (at p j) ≡ false
+  below-the-high-wall : T (fits f (at p j)) → T (fits f (at (w .hi) j)) → le (at p j) (at (w .hi) j) ≡ true
   below-the-high-wall x y = in-order f (at (w .hi) j) (at p j) y x high-finite (lt-not-below high (lesser low high) +0 gap-real (lesser-right low high) gap-not-negative)
+
+-- what a substep computes is a number of the format
+set-fits : (f : Format) (l : List Float) (i j : ℕ) (x : Float) → T (fits f x) → (j < i → T (fits f (at l j))) → j < suc i → T (fits f (at (set l i x) j))
+set-fits f l i j x p rest b = go (decLe i j)
+  where
+    there : Dec (length l ≤ i) → T (fits f (at (set l i x) i))
+    there (yes o) = rw (set-out l i x o, List·getD-eq-default l nan o) (nan-fits f)
+    there (no o) = rw (getD-set-same l i x nan (lt-of-not-le o)) p
+
+    go : Dec (i ≤ j) → T (fits f (at (set l i x) j))
+    go (yes o) = let e : j ≡ i = omega arith in rw e (there (decLe (length l) i))
+    go (no o) = let n : j < i = lt-of-not-le o in rw (getD-set-other l i j x nan (λ e. omega arith)) (rest n)
+
+substep-fits : (f : Format) (g : Gains) (a : List Float) (n : ℕ) (s : State) (j : ℕ) → j < n → T (fits f (at (substep f g a n s .value .p) j))
+unfolding substep axis
+substep-fits f g a zero s j b = absurd (omega arith)
+substep-fits f g a (suc n) s j b =
+    let t = substep f g a n s .value in
+    let m = axis f g (at a n) (motionAt t n) .value in
+    set-fits f (t .p) n j (m .p) (add-fits f (at (t .p) n) (mul f (m .v) (g .dt))) (substep-fits f g a n s j) b
 
 -- a feasible forecast: after every substep each live axis is inside its walls as numbers, not only by rounded differences
 module _ (f : Format) (t : Task) (whole : Whole (forecast f t)) (ok : feasibleOf (forecast f t) ≡ true) where
-  pub feasible-inside : (k j : ℕ) → k < total t → j < t .n → T (fits f (at (after f t (suc k) .p) j)) → T (fits f (at (t .walls .lo) j)) → T (fits f (at (t .walls .hi) j))
-      → (lt (at (after f t (suc k) .p) j) (at (t .walls .lo) j) ≡ false) × (lt (at (t .walls .hi) j) (at (after f t (suc k) .p) j) ≡ false)
-  feasible-inside k j h b x y z =
+  pub feasible-inside : (k j : ℕ) → k < total t → j < t .n → T (fits f (at (t .walls .lo) j)) → T (fits f (at (t .walls .hi) j))
+      → (le (at (t .walls .lo) j) (at (after f t (suc k) .p) j) ≡ true) × (le (at (after f t (suc k) .p) j) (at (t .walls .hi) j) ≡ true)
+  unfolding after
+  feasible-inside k j h b y z =
       let s = fine-slack f t k (all-at (fine (forecast f t)) (total t) whole k h) in
       let real : (i : ℕ) → i < total t → Real (slackAt (forecast f t) i) = λ i c. entries-real f t i (all-at (fine (forecast f t)) (total t) whole i c) in
       let n : lt (slack f (t .walls) (after f t (suc k) .p) (t .n) .value) +0 ≡ false = subst (λ (v : Float). lt v +0 ≡ false) (entry-is-slack f t k) (feasible-none-negative (forecast f t) real ok k h) in
+      let x = substep-fits f (t .gains) (aim f t k) (t .n) (after f t k) j b in
       (above-the-low-wall f (t .walls) (after f t (suc k) .p) (t .n) j b s n x y, below-the-high-wall f (t .walls) (after f t (suc k) .p) (t .n) j b s n x z)

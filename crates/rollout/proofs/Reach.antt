@@ -1,7 +1,8 @@
--- How far the finite entries reach, one entry more at a time.
+-- How far the finite entries reach, one entry more at a time; and the first that is not finite, where there is one.
 use mathlib.Core.Path.{_≡_, refl}
 use mathlib.Core.Bool.{Bool, true, false, _&&_}
-use Prim.Native.Nat.{ℕ, zero, suc, _+_, _≤_}
+use mathlib.Core.Logic.{_⊎_, inl, inr}
+use Prim.Native.Nat.{ℕ, zero, suc, _+_, _≤_, _<_}
 use native.Mathlib.Numerals.{add-one}
 use native.Mathlib.Omega.{arith}
 use Rattle.refusal.specs.Order.{if_then_else_}
@@ -37,3 +38,17 @@ module _ (ok : ℕ → Bool) where
       go : (b : Bool) → reach ok n ≤ n → (if b then suc n else reach ok n) ≤ suc n
       go true h = omega arith
       go false h = omega arith
+
+  -- all of the first n are finite, or one of them is the first that is not
+  pub first-or-all : (n : ℕ) → ((k : ℕ) × (k < n) × (all ok k ≡ true) × (ok k ≡ false)) ⊎ (all ok n ≡ true)
+  unfolding all
+  first-or-all zero = inr refl
+  first-or-all (suc n) = go (first-or-all n)
+    where
+      last : all ok n ≡ true → (b : Bool) → ok n ≡ b → ((k : ℕ) × (k < suc n) × (all ok k ≡ true) × (ok k ≡ false)) ⊎ (all ok (suc n) ≡ true)
+      last h true e = inr (rw (h, e))
+      last h false e = inl (n, omega arith, h, e)
+
+      go : ((k : ℕ) × (k < n) × (all ok k ≡ true) × (ok k ≡ false)) ⊎ (all ok n ≡ true) → ((k : ℕ) × (k < suc n) × (all ok k ≡ true) × (ok k ≡ false)) ⊎ (all ok (suc n) ≡ true)
+      go (inl w) = inl (w .0, omega (arith, w .1), w .2, w .3)
+      go (inr h) = last h (ok n) refl

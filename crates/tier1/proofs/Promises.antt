@@ -4,15 +4,14 @@ use mathlib.Core.Path.{_≡_, refl, sym, ap, _∙_}
 use mathlib.Core.Bool.{Bool, true, false}
 use mathlib.Core.List.{List, [], _∷_}
 use native.Mathlib.Omega.{arith}
-use borrow.Author.Count.{below-more}
 use borrow.Author.Tests.{lt-ltb, le-ltb}
 use lib.Dec.{leb, ltb}
-use lib.ListN.{length, length-append, List·getD-append}
-use lib.Seq.{getD-append-seam}
+use lib.ListN.{length}
 use lib.Ieee.{Float, binary64, nan}
 use Rattle.refusal.specs.Order.{refusedFor}
 use Rattle.fmath.specs.Each.{at, table}
 use Rattle.fmath.specs.Finite.{+0}
+use Rattle.fmath.proofs.Each.{table-at}
 use Rattle.conformal.specs.Bits.{bit, bitsWhere}
 use Rattle.conformal.specs.declared.Scores.{Scores}
 use Rattle.conformal.proofs.Bits.{bit-where, no-bit-past}
@@ -25,22 +24,6 @@ use Rattle.tier1.specs.declared.Featured.{Featured}
 use Rattle.tier1.specs.Rule.{shared, overlap, boundaryAt, boundary, boundaryBits, moving, validAt, valueAt, twelve}
 use Rattle.tier1.proofs.Ticks.{chunk-keeps-trail}
 use Rattle.tier1.specs.Of.{keptOf, manifestOf, afterChunk, Tick, tick, scoresWith, featuredAt, ticked, featuresRefusal, featuresOf}
-
--- ---- entry j of a table
-
-table-long : (g : ℕ → Float) (n : ℕ) → length (table g n) ≡ n
-unfolding table
-table-long g zero = refl
-table-long g (suc n) = let e = table-long g n in length-append (table g n) (g n ∷ []) ∙ omega arith
-
-table-at : (g : ℕ → Float) (n j : ℕ) → j < n → at (table g n) j ≡ g j
-unfolding table
-table-at g zero j l = absurd (omega arith)
-table-at g (suc n) j l =
-    below-more (λ (i : ℕ). at (table g (suc n)) i ≡ g i) n
-    (λ i h. List·getD-append (table g n) (g n ∷ []) nan i (rw (table-long g n) h) ∙ table-at g n i h)
-    (ap (at (table g (suc n))) (sym (table-long g n)) ∙ getD-append-seam (table g n) (g n) [] nan)
-    j (omega arith)
 
 module _ (c : FuseConfig) (p ext : List Float) (there : Bool) (k : Head) (rows : List Float) (rt : Tier1Rt) (sc : Scores) where
   abbrev answer : Featured

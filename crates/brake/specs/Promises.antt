@@ -1,0 +1,167 @@
+-- What is promised of one call of `brake_feasible` with the second-order brake, said of its own answer and of the entries that were lent to it. The proofs are
+-- `proofs/Promises.antt`.
+use Prim.Native.Nat.{ℕ, suc, _+_, _-_, _*_, _≤_, _<_}
+use mathlib.Core.Path.{_≡_}
+use mathlib.Core.Bool.{Bool, true, false}
+use mathlib.Core.List.{List}
+use lib.ListN.{length}
+use lib.Ieee.{Float, binary64, inf, lt, le}
+use Rattle.refusal.specs.declared.Refusal.{Refusal}
+use Rattle.fmath.specs.Each.{at}
+use Rattle.fmath.specs.Finite.{+0}
+use Rattle.envelope.specs.declared.BrakeKind.the-variants.{PdSecondOrder}
+use Rattle.envelope.specs.declared.ControlSteps.{ControlSteps}
+use Rattle.envelope.specs.declared.FuseConfig.{FuseConfig}
+use Rattle.workspace.specs.Rule.{slack}
+use Rattle.rollout.specs.Plant.{Gains, State}
+use Rattle.rollout.specs.Rule.{Task, after, entry, stop}
+use Rattle.brake.specs.declared.BrakeOut.{BrakeOut}
+use Rattle.brake.specs.declared.BrakeOut.the-variants.{Accepted, Refused}
+use Rattle.brake.specs.Rule.{live, wallsAt, secondOrder}
+use Rattle.brake.specs.Answer.{forecastAnswer, forecastSlacks}
+
+-- ---- a call
+
+pub record Call : Type 0 where
+  pub config : FuseConfig
+  pub position : List Float
+  pub velocity : List Float
+  pub rows : List Float
+  pub horizon : ℕ
+  pub dim : ℕ
+  pub exec : ℕ
+  pub from : ℕ
+  pub lent : List Float
+
+-- what it answers, and the lent entries afterwards, as the entry's contract has them
+abbrev pub answer : Call → BrakeOut
+answer x = forecastAnswer (x .config) (x .position) (x .velocity) (x .rows) (x .horizon) (x .dim) (x .exec) (x .from) (length (x .lent))
+
+abbrev pub entries : Call → List Float
+entries x = forecastSlacks (x .config) (x .position) (x .velocity) (x .rows) (x .horizon) (x .dim) (x .exec) (x .from) (x .lent)
+
+-- no refusal but 13 stops the call
+abbrev pub OnlyThirteen : Call → Type 0
+OnlyThirteen x = (r : Refusal) → answer x ≡ Refused r → r .number ≡ 13
+
+-- the configuration has the second-order brake, with these gains
+abbrev pub SecondOrder : Call → Gains → Type 0
+SecondOrder x g = x .config .brake .kind ≡ PdSecondOrder (g .kp) (g .kv) (g .dt)
+
+-- N: the control steps still committed from the given row, none if past them, plus the braking steps, times the substeps
+abbrev pub N : Call → ℕ
+N x = (x .config .brake .commit .0 - x .from + x .config .brake .«brake_steps» .0) * x .config .brake .substeps .0
+
+-- ---- the step rules, from the given start
+
+abbrev pub task : Call → Gains → Task
+task x g = secondOrder binary64 (x .config) (x .position) (x .velocity) (x .rows) (x .horizon) (x .dim) (x .from) g
+
+-- the plant after k substeps of the rule, and the slack that is taken there
+abbrev pub plantAfter : Call → Gains → ℕ → State
+plantAfter x g k = after binary64 (task x g) k
+
+abbrev pub slackAfter : Call → Gains → ℕ → Float
+slackAfter x g k = slack binary64 (wallsAt binary64 (x .config)) (plantAfter x g k .p) (live (x .config)) .value
+
+-- every number that substep k + 1 computes is finite, its slack's included
+abbrev pub finiteIn : Call → Gains → ℕ → Bool
+finiteIn x g k = entry binary64 (task x g) k .sound
+
+-- every number that the stop distance computes is finite
+abbrev pub stopFinite : Call → Gains → Bool
+stopFinite x g = stop binary64 (task x g) .sound
+
+-- every computed number is finite
+pub record AllFinite (x : Call) (g : Gains) : Type 0 where
+  pub substeps : (k : ℕ) → k < N x → finiteIn x g k ≡ true
+  pub stops : stopFinite x g ≡ true
+
+-- substep k + 1 is the first that computes a number that isn't finite
+pub record FirstFailing (x : Call) (g : Gains) (k : ℕ) : Type 0 where
+  pub counted : k < N x
+  pub before : (j : ℕ) → j < k → finiteIn x g j ≡ true
+  pub there : finiteIn x g k ≡ false
+
+-- ---- demand 3
+
+-- the first n lent entries are the slacks after 1, .., n substeps, and all others are kept
+pub record Wrote (x : Call) (g : Gains) (n : ℕ) : Type 0 where
+  pub room : n ≤ length (x .lent)
+  pub kth : (k : ℕ) → k < n → at (entries x) k ≡ slackAfter x g (suc k)
+  pub rest : (k : ℕ) → n ≤ k → at (entries x) k ≡ at (x .lent) k
+  pub length-kept : length (entries x) ≡ length (x .lent)
+
+-- it reports N and writes N slacks; the margin is the least of them, or infinity if there is none; it is feasible exactly when none is negative
+pub record Forecasts (x : Call) (g : Gains) : Type 0 where
+  pub margin : Float
+  pub feasible : Bool
+  pub reports-N : answer x ≡ Accepted (N x) margin feasible (stop binary64 (task x g) .value)
+  pub wrote : Wrote x g (N x)
+  pub margin-least : (k : ℕ) → k < N x → lt (at (entries x) k) margin ≡ false
+  pub margin-attained : 0 < N x → (k : ℕ) × (k < N x) × (margin ≡ at (entries x) k)
+  pub margin-of-none : N x ≡ 0 → margin ≡ inf false
+  pub feasible-only : feasible ≡ true → (k : ℕ) → k < N x → lt (at (entries x) k) +0 ≡ false
+  pub feasible-where : ((k : ℕ) → k < N x → lt (at (entries x) k) +0 ≡ false) → feasible ≡ true
+
+-- refused with 13, naming a place
+abbrev pub RefusedAt : Call → ℕ → Type 0
+RefusedAt x place = answer x ≡ Refused (record { number = 13; place = place })
+
+pub record Demand3 (x : Call) (g : Gains) : Type 0 where
+  -- if every computed number is finite, and only then
+  pub forecasts : AllFinite x g → Forecasts x g
+  pub only-finite : (n : ℕ) (margin : Float) (feasible : Bool) (stop : Float) → answer x ≡ Accepted n margin feasible stop → AllFinite x g
+  -- if substep k first computes a number that isn't finite, and only then, it is refused naming k; the k - 1 earlier slacks are written
+  pub refuses : (k : ℕ) → FirstFailing x g k → RefusedAt x (suc k)
+  pub wrote-before : (k : ℕ) → FirstFailing x g k → Wrote x g k
+  pub only-failing : (k : ℕ) → k < N x → RefusedAt x (suc k) → FirstFailing x g k
+  -- a stop distance that isn't finite has the place after the last entry, and all entries are written
+  pub refuses-the-stop : ((k : ℕ) → k < N x → finiteIn x g k ≡ true) → stopFinite x g ≡ false → RefusedAt x (suc (N x)) × Wrote x g (N x)
+
+-- the call with another number of braking steps and other lent entries
+abbrev pub withBraking : FuseConfig → ControlSteps → FuseConfig
+withBraking c b = record {
+  kind = c .kind;
+  dim = c .dim;
+  «pos_dim» = c .«pos_dim»;
+  limits = c .limits;
+  norm = c .norm;
+  walls = c .walls;
+  contact = c .contact;
+  brake = record { kind = c .brake .kind; substeps = c .brake .substeps; commit = c .brake .commit; «brake_steps» = b; «react_ticks» = c .brake .«react_ticks» };
+  clamp = c .clamp;
+  armed = c .armed;
+  «aux_count» = c .«aux_count»;
+  calibrated = c .calibrated;
+  calib = c .calib;
+  «horizon_ticks» = c .«horizon_ticks»;
+}
+
+abbrev pub braked : Call → ControlSteps → List Float → Call
+braked x b l = record {
+  config = withBraking (x .config) b;
+  position = x .position;
+  velocity = x .velocity;
+  rows = x .rows;
+  horizon = x .horizon;
+  dim = x .dim;
+  exec = x .exec;
+  from = x .from;
+  lent = l;
+}
+
+-- the entries that a forecast of n entries wrote begin those of another
+pub record Begins (n : ℕ) (x y : Call) : Type 0 where
+  pub counted : n ≤ N y
+  pub same : (k : ℕ) → k < n → at (entries x) k ≡ at (entries y) k
+
+-- ---- a feasible forecast is inside as numbers, and not only by rounded differences
+
+-- axis j of a point lies between the derived walls
+abbrev pub Between : FuseConfig → ℕ → Float → Type 0
+Between c j x = (le (at (wallsAt binary64 c .lo) j) x ≡ true) × (le x (at (wallsAt binary64 c .hi) j) ≡ true)
+
+-- after each substep that counts, each live axis does
+abbrev pub StaysInside : Call → Gains → Type 0
+StaysInside x g = (k : ℕ) → k < N x → (j : ℕ) → j < live (x .config) → Between (x .config) j (at (plantAfter x g (suc k) .p) j)
