@@ -1,11 +1,11 @@
 -- Demand 3 of the entry, and "a feasible forecast stays inside": the entry's answer and lent entries are what the second-order forecast comes to (`Foreseen`), and of a
 -- forecast `rollout` has said where it reaches, what its entries are and what the least of them is.
-use Prim.Native.Nat.{ℕ, zero, suc, _-_, _*_, _≤_, _<_}
+use Prim.Native.Nat.{ℕ, zero, suc, _+_, _-_, _≤_, _<_}
 use mathlib.Core.Path.{_≡_, refl, sym, ap, _∙_, subst}
 use mathlib.Core.Bool.{Bool, true, false}
 use mathlib.Core.List.{List, _++_}
 use mathlib.Core.Logic.{_⊎_, inl, inr}
-use native.Mathlib.Nat.{le-trans}
+use native.Mathlib.Nat.{le-trans, mul-le-mul-right}
 use native.Mathlib.Omega.{arith}
 use borrow.Author.Tests.{eqb-true, eqb-false}
 use lib.Dec.{eqb}
@@ -25,6 +25,7 @@ use Rattle.rollout.specs.Forecast.{Forecast, fine, slackAt, reached, marginOf, 
 use Rattle.rollout.specs.Rule.{forecast, stop}
 use Rattle.rollout.proofs.Reach.{reach-le, first-or-all}
 use Rattle.rollout.proofs.Promises.{Whole, whole-reached, written-in-order, others-kept, first-failing-place, empty-margin, margin-attained, margin-least, feasible-none-negative, none-negative-feasible, entry-is-slack, entries-real, braking, shorter-begins-longer, feasible-inside}
+use Rattle.brake.specs.declared.BrakeOut.{BrakeOut}
 use Rattle.brake.specs.declared.BrakeOut.the-variants.{Accepted, Refused}
 use Rattle.brake.specs.Rule.{live}
 use Rattle.brake.specs.Answer.{plan, lentJudged}
@@ -36,6 +37,15 @@ use Rattle.brake.proofs.Foreseen.{slacks-are, accepted-answer, refused-
 -- a call that is accepted was stopped by no refusal
 accepted-free : (x : Call) {n : ℕ} {margin : Float} {feasible : Bool} {stop : Float} → answer x ≡ Accepted n margin feasible stop → OnlyThirteen x
 accepted-free x a r e = let z : _≡_ {A = ℕ} 0 1 = cc in absurd (omega arith)
+
+-- what an answer says: the place of a refusal, and whether it is feasible
+abbrev placeIn : BrakeOut → ℕ
+placeIn (Accepted n margin feasible stop) = 0
+placeIn (Refused r) = r .place
+
+abbrev feasibleIn : BrakeOut → Bool
+feasibleIn (Accepted n margin feasible stop) = feasible
+feasibleIn (Refused r) = false
 
 module _ (x : Call) where
   abbrev t : Forecast
@@ -103,6 +113,9 @@ module _ (x : Call) (g : Gains) (is : SecondOrder x g) (only : OnlyThirteen x) w
   wrote-all : Whole f → Wrote x g (N x)
   wrote-all w = wrote (N x) (whole-reached f w ∙ is-N)
 
+  report : Whole f → f .stop .sound ≡ true → answer x ≡ Accepted (f .count) (marginOf f) (feasibleOf f) (f .stop .value)
+  report w s = accepted-answer (x .config) (x .position) (x .velocity) (x .rows) (x .horizon) (x .dim) (x .exec) (x .from) (x .lent) clear w s
+
   module _ (w : Whole f) where
     entry-at : (k : ℕ) → k < N x → at (entries x) k ≡ slackAt f k
     entry-at k b = wrote-all w .kth k b ∙ sym (slack-is k)
@@ -114,14 +127,14 @@ module _ (x : Call) (g : Gains) (is : SecondOrder x g) (only : OnlyThirteen x) w
     attained zero e b = absurd (omega arith)
     attained (suc n) e b =
         let a = margin-attained f n e in
-        let c : a .0 < N x = rw (← is-N, e) (a .1) in
+        let c : a .0 < N x = subst (λ (z : ℕ). a .0 < z) (sym e ∙ is-N) (a .1) in
         (a .0, c, a .2 ∙ sym (entry-at (a .0) c))
 
     forecasts : f .stop .sound ≡ true → Forecasts x g
     forecasts s = record {
       margin = marginOf f;
       feasible = feasibleOf f;
-      reports-N = accepted-answer (x .config) (x .position) (x .velocity) (x .rows) (x .horizon) (x .dim) (x .exec) (x .from) (x .lent) clear w s ∙ rw (is-N, ap (λ (y : Forecast). y .stop .value) plan-is);
+      reports-N = report w s ∙ rw (is-N, ap (λ (y : Forecast). y .stop .value) plan-is);
       wrote = wrote-all w;
       margin-least = λ k b. ap (λ (y : Float). lt y (marginOf f)) (entry-at k b) ∙ margin-least f real k (rw is-N b);
       margin-attained = λ b. attained (f .count) refl (rw is-N b);
@@ -171,8 +184,11 @@ module _ (x : Call) (g : Gains) (is : SecondOrder x g) (only : OnlyThirteen x) w
       go (inl w) = failed (w .0) (record { counted = rw (← is-N) (w .1); before = λ j b. sym (fine-is j) ∙ all-at (fine f) (w .0) (w .2) j b; there = sym (fine-is (w .0)) ∙ w .3 })
       go (inr w) = ended w (stopFinite x g) refl
 
+  stop-sound : AllFinite x g → f .stop .sound ≡ true
+  stop-sound h = ap (λ (y : Forecast). y .stop .sound) plan-is ∙ h .stops
+
   finishes : AllFinite x g → Forecasts x g
-  finishes h = forecasts (whole (h .substeps)) (ap (λ (y : Forecast). y .stop .sound) plan-is ∙ h .stops)
+  finishes h = forecasts (whole (h .substeps)) (stop-sound h)
 
   only-finite : (n : ℕ) (margin : Float) (feasible : Bool) (stop : Float) → answer x ≡ Accepted n margin feasible stop → AllFinite x g
   only-finite n margin feasible stop a = go comes
@@ -189,7 +205,7 @@ module _ (x : Call) (g : Gains) (is : SecondOrder x g) (only : OnlyThirteen x) w
   only-failing k b r = go comes
     where
       place : (j : ℕ) → RefusedAt x (suc j) → suc j ≡ suc k
-      place j s = cc
+      place j s = ap placeIn (sym s ∙ r)
 
       clash : Forecasts x g → ⊥
       clash w = let a = w .reports-N in let z : _≡_ {A = ℕ} 0 1 = cc in omega arith
@@ -244,6 +260,5 @@ module _ (x : Call) (g : Gains) (is : SecondOrder x g) where
       let h = only-finite x g is only n margin true stop a in
       let w = whole x g is only (h .substeps) in
       let e = plan-is x g is only in
-      let report = finishes x g is only h .reports-N in
-      let ok : feasibleOf (t x) ≡ true = cc in
+      let ok : feasibleOf (t x) ≡ true = ap feasibleIn (sym (report x g is only w (stop-sound x g is only h)) ∙ a) in
       feasible-inside binary64 (task x g) (subst Whole e w) (subst (λ (y : Forecast). feasibleOf y ≡ true) e ok) k j b c (low-wall-fits binary64 (x .config) j) (high-wall-fits binary64 (x .config) j)

@@ -1,4 +1,4 @@
--- What document 01 promises of tier 0, from its rules: when each bit is raised, that a limit which is touched does not trip, when there is no slow zone, that
+-- What follows from tier 0's rules: when each bit is raised, that a wall which is touched is not exceeded, when there is no slow zone, that
 -- unarmed checks move nothing. (That the box move ends inside the box is workspace's `Inside.inward-inside`.) A projected row re-passing its check is not promised.
 use Prim.Native.Nat.{ℕ, zero, suc, _+_, _*_, _/_, _%_, _≤_, _<_}
 use mathlib.Core.Path.{_≡_, refl, sym, ap, _∙_}
@@ -29,13 +29,10 @@ use Rattle.chunk.proofs.Rows.{row-fits}
 use Rattle.tier0.specs.declared.Checks.{Checks}
 use Rattle.tier0.specs.declared.Difference.the-variants.{Accel, Jerk}
 use Rattle.tier0.specs.Rule.{WORKSPACE, SPEED, ACCEL, JERK, REACH, CONTACT, arms, shared, Slow, clear, seen, inZone, zoneIn, slowZone, outOfBox, outOfReach, tripBits, leash, boxed, leashed, reached, moves, moved, project, projection, checkAction}
+use Rattle.tier0.specs.Promises.{raised}
 use Rattle.tier0.specs.Chunk.{startRow, stepTo, someLonger, someOutOfBox, tooLarge, rawRow, exceeds, putRow, nextRow, runRows, projectedRows, checkChunk}
 
 -- ---- the bits
-
--- a bit of the trips is raised
-abbrev pub raised : ℕ → ℕ → Bool
-raised w t = eqb (t / w % 2) 1
 
 -- each bit says its own test
 module _ (a b c d e g : Bool) where
@@ -52,10 +49,6 @@ module _ (a b c d e g : Bool) where
     where
       says : (j : ℕ) → j < 6 → bit (bitsWhere tests 6) j ≡ tests j
       says = bit-where tests 6
-
-never : (b : Bool) → (b && false) ≡ false
-never true = refl
-never false = refl
 
 -- ---- check_chunk: each check is raised exactly when it is armed and some row strictly exceeds
 
@@ -100,8 +93,8 @@ module _ (f : Format) (s : Checks) (p aux prev a : List Float) where
   actionTrips = checkAction f s p aux prev a .value .trips
 
   -- the computed step
-  abbrev pub actionStep : Float
-  actionStep = dist f a prev (s .dim) .value
+  abbrev step : Float
+  step = dist f a prev (s .dim) .value
 
   abbrev zone : Slow
   zone = slowZone f s p aux .value
@@ -110,7 +103,7 @@ module _ (f : Format) (s : Checks) (p aux prev a : List Float) where
   unfolding checkAction
   action-workspace-exactly = bits _ _ _ _ _ _ .0
 
-  pub action-speed-exactly : raised SPEED actionTrips ≡ (arms s SPEED && lt (s .«step_max») actionStep)
+  pub action-speed-exactly : raised SPEED actionTrips ≡ (arms s SPEED && lt (s .«step_max») step)
   unfolding checkAction
   action-speed-exactly = bits _ _ _ _ _ _ .1
 
@@ -126,36 +119,11 @@ module _ (f : Format) (s : Checks) (p aux prev a : List Float) where
   unfolding checkAction
   action-reach-exactly = bits _ _ _ _ _ _ .4
 
-  pub action-contact-exactly : raised CONTACT actionTrips ≡ (zone .inside && lt (zone .step) actionStep)
+  pub action-contact-exactly : raised CONTACT actionTrips ≡ (zone .inside && lt (zone .step) step)
   unfolding checkAction
   action-contact-exactly = bits _ _ _ _ _ _ .5
 
-  -- a limit that is touched does not trip
-  pub action-speed-touched : actionStep ≡ s .«step_max» → raised SPEED actionTrips ≡ false
-  action-speed-touched e = action-speed-exactly ∙ ap (λ (x : Float). arms s SPEED && lt (s .«step_max») x) e ∙ ap (λ (b : Bool). arms s SPEED && b) (lt-irrefl (s .«step_max»)) ∙ never (arms s SPEED)
-
-  pub action-contact-touched : actionStep ≡ zone .step → raised CONTACT actionTrips ≡ false
-  action-contact-touched e = action-contact-exactly ∙ ap (λ (x : Float). zone .inside && lt (zone .step) x) e ∙ ap (λ (b : Bool). zone .inside && b) (lt-irrefl (zone .step)) ∙ never (zone .inside)
-
 -- ---- touched
-
-none-so : (g : ℕ → Bool) (n : ℕ) → ((j : ℕ) → j < n → g j ≡ false) → some g n ≡ false
-unfolding some
-none-so g zero h = refl
-none-so g (suc n) h = rw (none-so g n (λ j l. h j (omega arith)), h n (omega arith))
-
--- no step that touches a limit, or stays below it, is longer
-pub steps-touched : (f : Format) (q rows : List Float) (n : ℕ) (most : Float) (h : ℕ) → ((i : ℕ) → i < h → stepTo f q rows n i .value ≡ most) → someLonger f q rows n most h ≡ false
-unfolding someLonger
-steps-touched f q rows n most h e = none-so (λ (i : ℕ). lt most (stepTo f q rows n i .value)) h (λ i l. ap (λ (x : Float). lt most x) (e i l) ∙ lt-irrefl most)
-
-pub reach-touched : (f : Format) (s : Checks) (p a : List Float) → dist f a p (shared s) .value ≡ s .«reach_max» → outOfReach f s p a .value ≡ false
-unfolding outOfReach
-reach-touched f s p a e = go (arms s REACH)
-  where
-    go : (b : Bool) → (if b then record { value = lt (s .«reach_max») (dist f a p (shared s) .value); sound = dist f a p (shared s) .sound && true } else pure false) .value ≡ false
-    go true = ap (λ (x : Float). lt (s .«reach_max») x) e ∙ lt-irrefl (s .«reach_max»)
-    go false = refl
 
 -- a coordinate on one of its walls is not beyond them
 pub low-wall-touched : (w : Walls) (a : List Float) (j : ℕ) → lt (at (w .hi) j) (at (w .lo) j) ≡ false → at a j ≡ at (w .lo) j → beyond w a j ≡ false
@@ -200,7 +168,7 @@ clear-no-trip f s p aux rows l h e =
 pub clear-no-action-trip : (f : Format) (s : Checks) (p aux prev a : List Float) → slowZone f s p aux .value ≡ clear → raised CONTACT (actionTrips f s p aux prev a) ≡ false
 clear-no-action-trip f s p aux prev a e =
     action-contact-exactly f s p aux prev a
-    ∙ ap (λ (x : Slow). x .inside && lt (x .step) (actionStep f s p aux prev a)) e
+    ∙ ap (λ (x : Slow). x .inside && lt (x .step) (dist f a prev (s .dim) .value)) e
 
 -- with no contact configured, in particular
 pub no-contact-no-trip : (f : Format) (s : Checks) (p aux rows l : List Float) (h : ℕ) → s .contact ≡ None → raised CONTACT (chunkTrips f s p aux rows l h) ≡ false
@@ -243,11 +211,6 @@ pub unmoved : (a : List Float) (n : ℕ) → ((j : ℕ) → j < n → finite (at
 unfolding bitsWhere
 unmoved a zero e = refl
 unmoved a (suc n) e = rw (unmoved a n (λ j l. e j (omega arith)), equal-itself (at a n) (e n (omega arith)))
-
--- a difference of rows whose scaled length touches its limit: ACCEL and JERK
-pub difference-touched : (f : Format) (g : ℕ → Checked Float) (n : ℕ) (inv most : Float) → mul f (norm f (each g (replicate 8 +0) n .value) n .value) inv ≡ most → exceeds f g n inv most .value ≡ false
-unfolding exceeds
-difference-touched f g n inv most e = ap (λ (x : Float). lt most x) e ∙ lt-irrefl most
 
 -- ---- with everything unarmed, said of the whole checks
 

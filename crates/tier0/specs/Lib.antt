@@ -2,4 +2,5 @@ pub mod Rule
 pub mod Chunk
 pub mod Refusals
 pub mod Of
+pub mod Promises
 pub mod Worked

@@ -1,0 +1,189 @@
+-- Where no contact is configured, a call answers and writes what it does with CONTACT unarmed: there is no slow zone either way, and CONTACT is
+-- asked about nowhere else.
+use Prim.Native.Nat.{ℕ, zero, suc, _-_, _/_, _%_}
+use mathlib.Core.Path.{_≡_, refl, ap}
+use mathlib.Core.Bool.{Bool, true, false}
+use mathlib.Core.List.{List}
+use native.Mathlib.Omega.{arith}
+use borrow.Author.Tests.{eqb-true}
+use lib.Dec.{eqb}
+use lib.ListN.{length, replicate}
+use lib.Ieee.{Float, Format, binary64}
+use Rattle.fmath.specs.Each.{some}
+use Rattle.fmath.specs.Finite.{+0}
+use Rattle.fmath.specs.Row.{padded}
+use Rattle.envelope.specs.declared.ClampMode.{ClampMode}
+use Rattle.envelope.specs.declared.ClampMode.the-variants.{Off, Project}
+use Rattle.envelope.specs.declared.Contact.the-variants.{None}
+use Rattle.envelope.specs.declared.FuseConfig.{FuseConfig}
+use Rattle.envelope.specs.Refusals.{numbersOk}
+use Rattle.tier0.specs.declared.Checks.{Checks}
+use Rattle.tier0.specs.declared.Difference.{Difference}
+use Rattle.tier0.specs.declared.Difference.the-variants.{Accel, Jerk}
+use Rattle.tier0.specs.Rule.{WORKSPACE, SPEED, ACCEL, JERK, REACH, CONTACT, arms, bit, clear, outOfBox, outOfReach, boxed, leashed, reached, moves, project, projection, checkAction}
+use Rattle.tier0.specs.Chunk.{rawRow, startRow, someOutOfBox, largeAt, tooLarge, nextRow, runRows, projectedRows, checkChunk}
+use Rattle.tier0.specs.Of.{checksOf, actionRuling, actionRefusal, actionAnswer, actionOut, chunkRuling, chunkRefusal, chunkAnswer, chunkOut}
+use Rattle.tier0.specs.Promises.{raised, withoutContact, contactUnarmed}
+use Rattle.tier0.proofs.Promises.{no-contact}
+
+-- ---- every other check is armed as before
+
+keeps : (a w : ℕ) → (a / 32 % 2 ≡ 1 → (a - 32) / w % 2 ≡ a / w % 2) → raised w (withoutContact a) ≡ raised w a
+keeps a w h = go (raised CONTACT a) refl
+  where
+    go : (b : Bool) → raised CONTACT a ≡ b → raised w (a - bit b CONTACT) ≡ raised w a
+    go true e = ap (λ (n : ℕ). eqb n 1) (h (eqb-true (a / 32 % 2) 1 e))
+    go false e = ap (raised w) (let z : a - 0 ≡ a = omega arith in z)
+
+abbrev quiet : Checks → Checks
+quiet s = record {
+  dim = s .dim;
+  «pos_dim» = s .«pos_dim»;
+  armed = withoutContact (s .armed);
+  contact = s .contact;
+  clamp = s .clamp;
+  dt = s .dt;
+  «a_max» = s .«a_max»;
+  «j_max» = s .«j_max»;
+  «reach_max» = s .«reach_max»;
+  «inv_dt» = s .«inv_dt»;
+  «inv_dt2» = s .«inv_dt2»;
+  «inv_dt3» = s .«inv_dt3»;
+  «step_max» = s .«step_max»;
+  walls = s .walls;
+}
+
+module _ (s : Checks) where
+  workspace-as-before : arms (quiet s) WORKSPACE ≡ arms s WORKSPACE
+  unfolding arms
+  workspace-as-before = keeps (s .armed) WORKSPACE (λ e. omega arith)
+
+  speed-as-before : arms (quiet s) SPEED ≡ arms s SPEED
+  unfolding arms
+  speed-as-before = keeps (s .armed) SPEED (λ e. omega arith)
+
+  accel-as-before : arms (quiet s) ACCEL ≡ arms s ACCEL
+  unfolding arms
+  accel-as-before = keeps (s .armed) ACCEL (λ e. omega arith)
+
+  jerk-as-before : arms (quiet s) JERK ≡ arms s JERK
+  unfolding arms
+  jerk-as-before = keeps (s .armed) JERK (λ e. omega arith)
+
+  reach-as-before : arms (quiet s) REACH ≡ arms s REACH
+  unfolding arms
+  reach-as-before = keeps (s .armed) REACH (λ e. omega arith)
+
+-- ---- the rule of either check, with no slow zone
+
+module _ (f : Format) (s : Checks) (p : List Float) where
+  same-moves : (first : Bool) (prev a : List Float) → moves f (quiet s) clear p first prev a ≡ moves f s clear p first prev a
+  unfolding moves boxed leashed reached
+  same-moves first prev a = rw (workspace-as-before s, speed-as-before s, reach-as-before s)
+
+  same-box : (a : List Float) → outOfBox (quiet s) a ≡ outOfBox s a
+  unfolding outOfBox
+  same-box a = rw (workspace-as-before s)
+
+  same-reach : (a : List Float) → outOfReach f (quiet s) p a ≡ outOfReach f s p a
+  unfolding outOfReach
+  same-reach a = rw (reach-as-before s)
+
+  module _ (rows q : List Float) where
+    same-boxes : (h : ℕ) → someOutOfBox (quiet s) rows h ≡ someOutOfBox s rows h
+    unfolding someOutOfBox some
+    same-boxes zero = refl
+    same-boxes (suc h) = rw (same-boxes h, same-box (rawRow rows (s .dim) h))
+
+    same-large : (d : Difference) (h : ℕ) → tooLarge f (quiet s) d q rows h ≡ tooLarge f s d q rows h
+    unfolding tooLarge largeAt
+    same-large Accel h = rw (accel-as-before s)
+    same-large Jerk h = rw (jerk-as-before s)
+
+    same-run : (l : List Float) (h : ℕ) → runRows f (quiet s) clear p rows q l h ≡ runRows f s clear p rows q l h
+    unfolding runRows nextRow
+    same-run l zero = refl
+    same-run l (suc i) = rw (same-run l i, same-moves (eqb i 0) (runRows f s clear p rows q l i .value .last) (rawRow rows (s .dim) i))
+
+    same-projected : (m : ClampMode) (l : List Float) (h : ℕ) → projectedRows f (quiet s) m clear p rows q l h ≡ projectedRows f s m clear p rows q l h
+    unfolding projectedRows
+    same-projected Off l h = refl
+    same-projected Project l h = rw (same-run l h)
+
+  same-projection : (m : ClampMode) (prev a : List Float) → projection f (quiet s) m clear p prev a ≡ projection f s m clear p prev a
+  unfolding projection project
+  same-projection Off prev a = refl
+  same-projection Project prev a = rw (same-moves true prev a)
+
+  module _ (aux : List Float) (none : s .contact ≡ None) where
+    same-action : (prev a : List Float) → checkAction f (quiet s) p aux prev a ≡ checkAction f s p aux prev a
+    unfolding checkAction
+    same-action prev a =
+        rw (
+          no-contact f (quiet s) p aux none,
+          no-contact f s p aux none,
+          speed-as-before s,
+          same-box a,
+          same-reach a,
+          same-projection (s .clamp) prev (padded a (s .dim)),
+        )
+
+    same-chunk : (rows l : List Float) (h : ℕ) → checkChunk f (quiet s) p aux rows l h ≡ checkChunk f s p aux rows l h
+    unfolding checkChunk startRow
+    same-chunk rows l h =
+        let q = startRow s p rows in
+        rw (
+          no-contact f (quiet s) p aux none,
+          no-contact f s p aux none,
+          speed-as-before s,
+          same-boxes rows q h,
+          same-large rows q Accel h,
+          same-large rows q Jerk h,
+          same-reach (rawRow rows (s .dim) 0),
+          same-projected rows q (s .clamp) l h,
+        )
+
+-- ---- the entries
+
+module _ (c : FuseConfig) (none : c .contact ≡ None) where
+  quiet-checks : checksOf (contactUnarmed c) ≡ quiet (checksOf c)
+  unfolding checksOf
+  quiet-checks = refl
+
+  still-none : checksOf c .contact ≡ None
+  unfolding checksOf
+  still-none = none
+
+  module _ (p aux rows : List Float) (h d e : ℕ) where
+    chunk-ruled : chunkRuling (contactUnarmed c) p aux rows h d e ≡ chunkRuling c p aux rows h d e
+    unfolding chunkRuling
+    chunk-ruled = rw quiet-checks (same-chunk binary64 (checksOf c) p aux still-none rows (replicate 512 +0) h)
+
+    chunk-refused : (room : ℕ) → chunkRefusal (contactUnarmed c) p aux rows h d e room ≡ chunkRefusal c p aux rows h d e room
+    unfolding chunkRefusal numbersOk
+    chunk-refused room = rw chunk-ruled
+
+    pub no-contact-chunk-answer : (room : ℕ) → chunkAnswer (contactUnarmed c) p aux rows h d e room ≡ chunkAnswer c p aux rows h d e room
+    unfolding chunkAnswer
+    no-contact-chunk-answer room = rw (chunk-refused room, chunk-ruled)
+
+    pub no-contact-chunk-rows : (l : List Float) → chunkOut (contactUnarmed c) p aux rows h d e l ≡ chunkOut c p aux rows h d e l
+    unfolding chunkOut
+    no-contact-chunk-rows l = rw (chunk-refused (length l), chunk-ruled)
+
+  module _ (p aux prev a : List Float) where
+    action-ruled : actionRuling (contactUnarmed c) p aux prev a ≡ actionRuling c p aux prev a
+    unfolding actionRuling
+    action-ruled = rw quiet-checks (same-action binary64 (checksOf c) p aux still-none prev a)
+
+    action-refused : (room : ℕ) → actionRefusal (contactUnarmed c) p aux prev a room ≡ actionRefusal c p aux prev a room
+    unfolding actionRefusal numbersOk
+    action-refused room = rw action-ruled
+
+    pub no-contact-action-answer : (room : ℕ) → actionAnswer (contactUnarmed c) p aux prev a room ≡ actionAnswer c p aux prev a room
+    unfolding actionAnswer
+    no-contact-action-answer room = rw (action-refused room, action-ruled)
+
+    pub no-contact-action-row : (l : List Float) → actionOut (contactUnarmed c) p aux prev a l ≡ actionOut c p aux prev a l
+    unfolding actionOut
+    no-contact-action-row l = rw (action-refused (length l), action-ruled)

@@ -1,0 +1,167 @@
+-- A limit that is not strictly exceeded is not raised: a trip is "armed, and some comparison holds", and none does.
+use Prim.Native.Nat.{ℕ, zero, suc, _-_, _<_}
+use mathlib.Core.Path.{_≡_, refl, ap, _∙_}
+use mathlib.Core.Bool.{Bool, true, false, _&&_}
+use mathlib.Core.List.{List}
+use native.Mathlib.Omega.{arith}
+use lib.ListN.{replicate}
+use lib.Ieee.{Float, binary64, lt}
+use Rattle.refusal.specs.Order.{if_then_else_}
+use Rattle.fmath.specs.Each.{some, all}
+use Rattle.fmath.specs.Finite.{+0}
+use Rattle.fmath.specs.Checked.{Checked, pure}
+use Rattle.fmath.specs.Norm.{dist}
+use Rattle.workspace.specs.Of.{wallsOf}
+use Rattle.workspace.specs.Rule.{outside, beyond}
+use Rattle.envelope.specs.declared.FuseConfig.{FuseConfig}
+use Rattle.tier0.specs.declared.Checks.{Checks}
+use Rattle.tier0.specs.declared.Difference.{Difference}
+use Rattle.tier0.specs.declared.Difference.the-variants.{Accel, Jerk}
+use Rattle.tier0.specs.Rule.{WORKSPACE, SPEED, ACCEL, JERK, REACH, CONTACT, arms, shared, outOfBox, outOfReach, tripBits, Judgement, checkAction}
+use Rattle.tier0.specs.Chunk.{rawRow, stepTo, someLonger, someOutOfBox, someOf, exceeds, largeAt, further, tripOf, tooLarge, checkChunk}
+use Rattle.tier0.specs.Refusals.{answerAt}
+use Rattle.tier0.specs.Of.{checksOf, actionRuling, actionRefusal, actionAnswer, chunkRuling, chunkRefusal, chunkAnswer}
+use Rattle.tier0.specs.Promises.{tripsIn, raised, q, zone, ChunkInBox, ChunkSlowEnough, ChunkSlowInZone, ChunkBendsLittle, ChunkJoltsLittle, ChunkInReach, ChunkWithin, checks, here, actionStep, ActionInBox, ActionSlowEnough, ActionSlowInZone, ActionInReach, ActionWithin}
+use Rattle.tier0.proofs.Promises.{chunkTrips, chunk-workspace-exactly, chunk-speed-exactly, chunk-accel-exactly, chunk-jerk-exactly, chunk-reach-exactly, chunk-contact-exactly, actionTrips, action-workspace-exactly, action-speed-exactly, action-reach-exactly, action-contact-exactly}
+
+-- ---- comparisons of which none holds
+
+none-so : (g : ℕ → Bool) (n : ℕ) → ((j : ℕ) → j < n → g j ≡ false) → some g n ≡ false
+unfolding some
+none-so g zero h = refl
+none-so g (suc n) h = rw (none-so g n (λ j l. h j (omega arith)), h n (omega arith))
+
+where-so : (b x : Bool) → (b ≡ true → x ≡ false) → (b && x) ≡ false
+where-so true x h = h refl
+where-so false x h = refl
+
+if-so : (b : Bool) (x : Checked Bool) → x .value ≡ false → (if b then x else pure false) .value ≡ false
+if-so true x h = h
+if-so false x h = refl
+
+in-box : (s : Checks) (a : List Float) → ((j : ℕ) → j < shared s → beyond (wallsOf (s .walls)) a j ≡ false) → outOfBox s a ≡ false
+unfolding outOfBox outside
+in-box s a h = where-so (arms s WORKSPACE) _ (λ e. none-so (beyond (wallsOf (s .walls)) a) (shared s) h)
+
+in-reach : (s : Checks) (p a : List Float) → lt (s .«reach_max») (dist binary64 a p (shared s) .value) ≡ false → outOfReach binary64 s p a .value ≡ false
+unfolding outOfReach
+in-reach s p a h = if-so (arms s REACH) _ h
+
+none-large : (s : Checks) (d : Difference) (q rows : List Float) (h : ℕ) → ((i : ℕ) → i < h - further d → largeAt binary64 s d q rows i .value ≡ false) → tooLarge binary64 s d q rows h .value ≡ false
+unfolding tooLarge someOf
+none-large s d q rows h e = if-so (arms s (tripOf d)) _ (none-so (λ (i : ℕ). largeAt binary64 s d q rows i .value) (h - further d) e)
+
+-- ---- the trips of an answer are those of the rule, or none
+
+trips-raised : (w n : ℕ) (j : Judgement) → raised w 0 ≡ false → raised w (j .trips) ≡ false → raised w (tripsIn (answerAt n j)) ≡ false
+trips-raised w zero j none h = h
+trips-raised w (suc n) j none h = none
+
+trips-none : (n : ℕ) (j : Judgement) → j .trips ≡ 0 → tripsIn (answerAt n j) ≡ 0
+trips-none zero j h = h
+trips-none (suc n) j h = refl
+
+-- ---- a chunk
+
+module _ (c : FuseConfig) (p aux rows : List Float) (h d e room : ℕ) where
+  abbrev s : Checks
+  s = checksOf c
+
+  abbrev trips : ℕ
+  trips = tripsIn (chunkAnswer c p aux rows h d e room)
+
+  from-rule : (w : ℕ) → raised w 0 ≡ false → raised w (chunkTrips binary64 s p aux rows (replicate 512 +0) h) ≡ false → raised w trips ≡ false
+  unfolding chunkAnswer chunkRuling
+  from-rule w none = trips-raised w (chunkRefusal c p aux rows h d e room) (chunkRuling c p aux rows h d e .value) none
+
+  not-out : ChunkInBox c p aux rows h → someOutOfBox s rows h ≡ false
+  unfolding someOutOfBox
+  not-out w = none-so (λ (i : ℕ). outOfBox s (rawRow rows (s .dim) i)) h (λ i b. in-box s (rawRow rows (s .dim) i) (w i b))
+
+  not-longer : (most : Float) → ((i : ℕ) → i < h → lt most (stepTo binary64 (q c p aux rows) rows (s .dim) i .value) ≡ false) → someLonger binary64 (q c p aux rows) rows (s .dim) most h ≡ false
+  unfolding someLonger
+  not-longer most = none-so (λ (i : ℕ). lt most (stepTo binary64 (q c p aux rows) rows (s .dim) i .value)) h
+
+  not-fast : ChunkSlowEnough c p aux rows h → (arms s SPEED && someLonger binary64 (q c p aux rows) rows (s .dim) (s .«step_max») h) ≡ false
+  not-fast w = where-so (arms s SPEED) _ (λ a. not-longer (s .«step_max») w)
+
+  not-close : ChunkSlowInZone c p aux rows h → (zone c p aux rows .inside && someLonger binary64 (q c p aux rows) rows (s .dim) (zone c p aux rows .step) h) ≡ false
+  not-close w = where-so (zone c p aux rows .inside) _ (λ a. not-longer (zone c p aux rows .step) (w a))
+
+  not-bent : ChunkBendsLittle c p aux rows h → tooLarge binary64 s Accel (q c p aux rows) rows h .value ≡ false
+  unfolding largeAt exceeds
+  not-bent w = none-large s Accel (q c p aux rows) rows h w
+
+  not-jolted : ChunkJoltsLittle c p aux rows h → tooLarge binary64 s Jerk (q c p aux rows) rows h .value ≡ false
+  unfolding largeAt exceeds
+  not-jolted w = none-large s Jerk (q c p aux rows) rows h w
+
+  not-far : ChunkInReach c p aux rows → outOfReach binary64 s p (rawRow rows (s .dim) 0) .value ≡ false
+  not-far w = in-reach s p (rawRow rows (s .dim) 0) w
+
+  abbrev l : List Float
+  l = replicate 512 +0
+
+  -- each limit by itself ..
+  pub chunk-workspace-touched : ChunkInBox c p aux rows h → raised WORKSPACE trips ≡ false
+  chunk-workspace-touched w = from-rule WORKSPACE refl (chunk-workspace-exactly binary64 s p aux rows l h ∙ not-out w)
+
+  pub chunk-speed-touched : ChunkSlowEnough c p aux rows h → raised SPEED trips ≡ false
+  chunk-speed-touched w = from-rule SPEED refl (chunk-speed-exactly binary64 s p aux rows l h ∙ not-fast w)
+
+  pub chunk-accel-touched : ChunkBendsLittle c p aux rows h → raised ACCEL trips ≡ false
+  chunk-accel-touched w = from-rule ACCEL refl (chunk-accel-exactly binary64 s p aux rows l h ∙ not-bent w)
+
+  pub chunk-jerk-touched : ChunkJoltsLittle c p aux rows h → raised JERK trips ≡ false
+  chunk-jerk-touched w = from-rule JERK refl (chunk-jerk-exactly binary64 s p aux rows l h ∙ not-jolted w)
+
+  pub chunk-reach-touched : ChunkInReach c p aux rows → raised REACH trips ≡ false
+  chunk-reach-touched w = from-rule REACH refl (chunk-reach-exactly binary64 s p aux rows l h ∙ not-far w)
+
+  pub chunk-contact-touched : ChunkSlowInZone c p aux rows h → raised CONTACT trips ≡ false
+  chunk-contact-touched w = from-rule CONTACT refl (chunk-contact-exactly binary64 s p aux rows l h ∙ not-close w)
+
+  -- .. and all of them: nothing is raised
+  none-tripped : ChunkWithin c p aux rows h → chunkTrips binary64 s p aux rows l h ≡ 0
+  unfolding checkChunk tripBits
+  none-tripped w = rw (not-out (w .box), not-fast (w .speed), not-bent (w .accel), not-jolted (w .jerk), not-far (w .reach), not-close (w .contact))
+
+  pub chunk-touched : ChunkWithin c p aux rows h → trips ≡ 0
+  unfolding chunkAnswer chunkRuling
+  chunk-touched w = trips-none (chunkRefusal c p aux rows h d e room) (chunkRuling c p aux rows h d e .value) (none-tripped w)
+
+-- ---- an action
+
+module _ (c : FuseConfig) (p aux prev a : List Float) (room : ℕ) where
+  abbrev trips-of : ℕ
+  trips-of = tripsIn (actionAnswer c p aux prev a room)
+
+  action-from-rule : (w : ℕ) → raised w 0 ≡ false → raised w (actionTrips binary64 (checksOf c) p aux prev a) ≡ false → raised w trips-of ≡ false
+  unfolding actionAnswer actionRuling
+  action-from-rule w none = trips-raised w (actionRefusal c p aux prev a room) (actionRuling c p aux prev a .value) none
+
+  action-not-fast : ActionSlowEnough c p aux prev a → (arms (checksOf c) SPEED && lt (checksOf c .«step_max») (actionStep c p aux prev a)) ≡ false
+  action-not-fast w = where-so (arms (checksOf c) SPEED) _ (λ e. w)
+
+  action-not-close : ActionSlowInZone c p aux prev a → (here c p aux prev a .inside && lt (here c p aux prev a .step) (actionStep c p aux prev a)) ≡ false
+  action-not-close w = where-so (here c p aux prev a .inside) _ w
+
+  pub action-workspace-touched : ActionInBox c p aux prev a → raised WORKSPACE trips-of ≡ false
+  action-workspace-touched w = action-from-rule WORKSPACE refl (action-workspace-exactly binary64 (checksOf c) p aux prev a ∙ in-box (checksOf c) a w)
+
+  pub action-speed-touched : ActionSlowEnough c p aux prev a → raised SPEED trips-of ≡ false
+  action-speed-touched w = action-from-rule SPEED refl (action-speed-exactly binary64 (checksOf c) p aux prev a ∙ action-not-fast w)
+
+  pub action-reach-touched : ActionInReach c p aux prev a → raised REACH trips-of ≡ false
+  action-reach-touched w = action-from-rule REACH refl (action-reach-exactly binary64 (checksOf c) p aux prev a ∙ in-reach (checksOf c) p a w)
+
+  pub action-contact-touched : ActionSlowInZone c p aux prev a → raised CONTACT trips-of ≡ false
+  action-contact-touched w = action-from-rule CONTACT refl (action-contact-exactly binary64 (checksOf c) p aux prev a ∙ action-not-close w)
+
+  action-none-tripped : ActionWithin c p aux prev a → actionTrips binary64 (checksOf c) p aux prev a ≡ 0
+  unfolding checkAction tripBits
+  action-none-tripped w = rw (in-box (checksOf c) a (w .box), action-not-fast (w .speed), in-reach (checksOf c) p a (w .reach), action-not-close (w .contact))
+
+  pub action-touched : ActionWithin c p aux prev a → trips-of ≡ 0
+  unfolding actionAnswer actionRuling
+  action-touched w = trips-none (actionRefusal c p aux prev a room) (actionRuling c p aux prev a .value) (action-none-tripped w)

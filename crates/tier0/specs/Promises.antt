@@ -1,0 +1,137 @@
+-- What is promised of the answers of `check_chunk` and `check_action`. The proofs are `proofs/Promises.antt` and `proofs/NoContact.antt`.
+use Prim.Native.Nat.{ℕ, _+_, _-_, _/_, _%_, _<_}
+use mathlib.Core.Path.{_≡_}
+use mathlib.Core.Bool.{Bool, true, false}
+use mathlib.Core.List.{List}
+use lib.Dec.{eqb}
+use lib.ListN.{replicate}
+use lib.Ieee.{Float, binary64, mul, lt}
+use Rattle.fmath.specs.Finite.{+0}
+use Rattle.fmath.specs.Checked.{Checked, each}
+use Rattle.fmath.specs.Norm.{norm, dist}
+use Rattle.workspace.specs.Of.{wallsOf}
+use Rattle.workspace.specs.Rule.{beyond}
+use Rattle.envelope.specs.declared.FuseConfig.{FuseConfig}
+use Rattle.tier0.specs.declared.Check.{Check}
+use Rattle.tier0.specs.declared.Check.the-variants.{Passed, Refused}
+use Rattle.tier0.specs.declared.Checks.{Checks}
+use Rattle.tier0.specs.Rule.{CONTACT, bit, shared, Slow, slowZone}
+use Rattle.tier0.specs.Chunk.{rawRow, startRow, rowBefore, stepTo, bends, jolts}
+use Rattle.tier0.specs.Of.{checksOf}
+
+-- the trips of an answer: none where it is refused
+abbrev pub tripsIn : Check → ℕ
+tripsIn (Passed trips clamped peak) = trips
+tripsIn (Refused r) = 0
+
+-- a bit of the trips is raised
+abbrev pub raised : ℕ → ℕ → Bool
+raised w t = eqb (t / w % 2) 1
+
+-- ---- no limit is exceeded: each number that is compared with one stays below it, or touches it
+
+-- the scaled length of a difference of rows, as ACCEL and JERK compare it
+abbrev pub sizeOf : (ℕ → Checked Float) → ℕ → Float → Float
+sizeOf g n inv = mul binary64 (norm binary64 (each g (replicate 8 +0) n .value) n .value) inv
+
+module _ (c : FuseConfig) (p aux rows : List Float) where
+  abbrev pub s : Checks
+  s = checksOf c
+
+  -- what stands before row 0
+  abbrev pub q : List Float
+  q = startRow s p rows
+
+  -- the slow zone as the position and the camera have it
+  abbrev pub zone : Slow
+  zone = slowZone binary64 s p aux .value
+
+  -- the step to row i, its second and its third difference
+  abbrev pub stepAt : ℕ → Float
+  stepAt i = stepTo binary64 q rows (s .dim) i .value
+
+  abbrev pub bendAt : ℕ → Float
+  bendAt i = sizeOf (bends binary64 (rawRow rows (s .dim) (i + 1)) (rawRow rows (s .dim) i) (rowBefore q rows (s .dim) i)) (s .dim) (s .«inv_dt2»)
+
+  abbrev pub joltAt : ℕ → Float
+  joltAt i = sizeOf (jolts binary64 (rawRow rows (s .dim) (i + 2)) (rawRow rows (s .dim) (i + 1)) (rawRow rows (s .dim) i) (rowBefore q rows (s .dim) i)) (s .dim) (s .«inv_dt3»)
+
+  abbrev pub ChunkInBox : ℕ → Type 0
+  ChunkInBox h = (i : ℕ) → i < h → (j : ℕ) → j < shared s → beyond (wallsOf (s .walls)) (rawRow rows (s .dim) i) j ≡ false
+
+  abbrev pub ChunkSlowEnough : ℕ → Type 0
+  ChunkSlowEnough h = (i : ℕ) → i < h → lt (s .«step_max») (stepAt i) ≡ false
+
+  abbrev pub ChunkSlowInZone : ℕ → Type 0
+  ChunkSlowInZone h = zone .inside ≡ true → (i : ℕ) → i < h → lt (zone .step) (stepAt i) ≡ false
+
+  abbrev pub ChunkBendsLittle : ℕ → Type 0
+  ChunkBendsLittle h = (i : ℕ) → i < h - 1 → lt (s .«a_max») (bendAt i) ≡ false
+
+  abbrev pub ChunkJoltsLittle : ℕ → Type 0
+  ChunkJoltsLittle h = (i : ℕ) → i < h - 2 → lt (s .«j_max») (joltAt i) ≡ false
+
+  abbrev pub ChunkInReach : Type 0
+  ChunkInReach = lt (s .«reach_max») (dist binary64 (rawRow rows (s .dim) 0) p (shared s) .value) ≡ false
+
+-- none of a chunk's limits
+pub record ChunkWithin (c : FuseConfig) (p aux rows : List Float) (h : ℕ) : Type 0 where
+  pub box : ChunkInBox c p aux rows h
+  pub speed : ChunkSlowEnough c p aux rows h
+  pub contact : ChunkSlowInZone c p aux rows h
+  pub accel : ChunkBendsLittle c p aux rows h
+  pub jerk : ChunkJoltsLittle c p aux rows h
+  pub reach : ChunkInReach c p aux rows
+
+-- an action and its predecessor
+module _ (c : FuseConfig) (p aux prev a : List Float) where
+  abbrev pub checks : Checks
+  checks = checksOf c
+
+  abbrev pub here : Slow
+  here = slowZone binary64 checks p aux .value
+
+  abbrev pub actionStep : Float
+  actionStep = dist binary64 a prev (checks .dim) .value
+
+  abbrev pub ActionInBox : Type 0
+  ActionInBox = (j : ℕ) → j < shared checks → beyond (wallsOf (checks .walls)) a j ≡ false
+
+  abbrev pub ActionSlowEnough : Type 0
+  ActionSlowEnough = lt (checks .«step_max») actionStep ≡ false
+
+  abbrev pub ActionSlowInZone : Type 0
+  ActionSlowInZone = here .inside ≡ true → lt (here .step) actionStep ≡ false
+
+  abbrev pub ActionInReach : Type 0
+  ActionInReach = lt (checks .«reach_max») (dist binary64 a p (shared checks) .value) ≡ false
+
+-- none of an action's limits
+pub record ActionWithin (c : FuseConfig) (p aux prev a : List Float) : Type 0 where
+  pub box : ActionInBox c p aux prev a
+  pub speed : ActionSlowEnough c p aux prev a
+  pub contact : ActionSlowInZone c p aux prev a
+  pub reach : ActionInReach c p aux prev a
+
+-- ---- no contact: the configuration with CONTACT unarmed, whatever else is armed
+
+abbrev pub withoutContact : ℕ → ℕ
+withoutContact armed = armed - bit (raised CONTACT armed) CONTACT
+
+abbrev pub contactUnarmed : FuseConfig → FuseConfig
+contactUnarmed c = record {
+  kind = c .kind;
+  dim = c .dim;
+  «pos_dim» = c .«pos_dim»;
+  limits = c .limits;
+  norm = c .norm;
+  walls = c .walls;
+  contact = c .contact;
+  brake = c .brake;
+  clamp = c .clamp;
+  armed = withoutContact (c .armed);
+  «aux_count» = c .«aux_count»;
+  calibrated = c .calibrated;
+  calib = c .calib;
+  «horizon_ticks» = c .«horizon_ticks»;
+}
