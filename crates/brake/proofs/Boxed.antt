@@ -1,59 +1,99 @@
--- Each coordinate that a position kind's brake or hold writes lies in its box: the row is the position moved inside walls that an accepted configuration has in order.
-use Prim.Native.Nat.{ℕ, _+_, _-_, _<_}
-use mathlib.Core.Path.{_≡_}
-use mathlib.Core.Bool.{Bool, false, not, _||_}
+-- Each coordinate that a position kind's brake or hold writes lies in its box: the row is the position, which is finite, moved inside walls that an accepted
+-- configuration has finite and in order.
+use Prim.Native.Nat.{ℕ, zero, suc, min, _≤_, _<_}
+use mathlib.Core.Path.{_≡_, refl, sym, ap, _∙_, subst}
+use mathlib.Core.Bool.{Bool, true, false, not, _||_, false≢true}
+use mathlib.Core.Logic.{inl, inr}
 use mathlib.Core.List.{List, [], _∷_, _++_}
+use native.Mathlib.Nat.{lt-of-not-le}
+use native.Mathlib.Decide.{decLe}
 use native.Mathlib.Omega.{arith}
-use lib.ListN.{length}
-use lib.Ieee.{Float, binary64, lt}
-use Rattle.refusal.specs.Order.{computed, _when_, refusal}
-use Rattle.refusal.specs.Chain.{both-pass}
+use borrow.Author.Tests.{not-false}
+use lib.Dec.{ltb}
+use lib.ListN.{length, replicate, getD-replicate}
+use lib.Ieee.{Float, nan, binary64}
+use Rattle.refusal.specs.Order.{short, notFinite, computed, _when_, refusal}
+use Rattle.refusal.specs.Chain.{both-pass, passes-at}
 use Rattle.fmath.specs.Answer.{someNotFinite}
 use Rattle.fmath.specs.Each.{at, over}
-use Rattle.fmath.proofs.Each.{over-at}
+use Rattle.fmath.specs.Finite.{+0, finite, allFinite}
+use Rattle.fmath.specs.Row.{padded}
+use Rattle.fmath.proofs.Each.{all-at, neither, over-at, over-keeps}
+use Rattle.fmath.proofs.Ordered.{Real, finite-real}
 use Rattle.envelope.specs.Refusals.{configJudged}
+use Rattle.envelope.specs.declared.ActionKind.{ActionKind}
+use Rattle.envelope.specs.declared.ActionKind.the-variants.{EePosition, EeDelta, JointPosition, JointVelocity, Other}
 use Rattle.envelope.specs.declared.FuseConfig.{FuseConfig}
-use Rattle.envelope.proofs.Accepted.{accepted, dim-most, walls-ordered}
+use Rattle.envelope.proofs.Accepted.{accepted, dim-most, low-wall-finite, high-wall-finite, walls-ordered}
 use Rattle.workspace.proofs.Inside.{inward-inside}
-use Rattle.brake.specs.declared.BrakeOut.the-variants as out
-use Rattle.brake.proofs.Eight.{length-eight}
+use Rattle.brake.specs.declared.Sent.{Sent}
+use Rattle.brake.specs.declared.Sent.the-variants.{Done, Refused}
 use Rattle.brake.specs.Rule.{eight, wallsAt, setpoint}
-use Rattle.brake.specs.Answer.{rowLent, brakeSent, brakeRefusal, brakeOutput, holdRefusal, holdOutput}
+use Rattle.brake.specs.Answer.{rowLent, sentAt, brakeSent, brakeRefusal, brakeAnswer, brakeOutput, holdRefusal, holdAnswer, holdOutput}
+use Rattle.brake.specs.Promises.{InBox, isPosition, BrakesInside, HoldsInside}
+use Rattle.brake.proofs.Eight.{length-eight}
 use Rattle.brake.proofs.Sending.{Position, position-brakes, position-holds, sized}
 
--- ---- position kinds write inside the box
+-- ---- the row before it is moved
 
-module _ (c : FuseConfig) (p l : List Float) (j : ℕ) (in-it : j < c .dim) where
-  abbrev lo : Float
-  lo = at (wallsAt binary64 c .lo) j
+eight-finite : (p : List Float) (j : ℕ) → j < 8 → someNotFinite p ≡ false → finite (at (eight p 8) j) ≡ true
+unfolding eight padded allFinite finite
+eight-finite p j h fit = go (decLe (length p) j)
+  where
+    go : Dec (length p ≤ j) → finite (at (eight p 8) j) ≡ true
+    go (yes o) = rw (over-keeps (at p) (replicate 8 +0) (min 8 (length p)) j (omega arith)) (rw (getD-replicate 8 j +0 nan h))
+    go (no o) =
+        let n : j < length p = lt-of-not-le o in
+        let k : j < min 8 (length p) = omega arith in
+        rw (over-at (at p) (replicate 8 +0) (min 8 (length p)) j k h) (all-at (λ (i : ℕ). finite (at p i)) (length p) (not-false (allFinite p (length p)) fit) j n)
 
-  abbrev hi : Float
-  hi = at (wallsAt binary64 c .hi) j
+-- ---- .. and after
 
-  setpoint-inside : refusal (configJudged c) ≡ 0 → (lt (at (setpoint (wallsAt binary64 c) p (c .dim)) j) lo ≡ false) × (lt hi (at (setpoint (wallsAt binary64 c) p (c .dim)) j) ≡ false)
+sent-zero : (k : ℕ) → sentAt k ≡ Done → k ≡ 0
+sent-zero zero e = refl
+sent-zero (suc k) e = let z : _≡_ {A = ℕ} 0 1 = cc in absurd (omega arith)
+
+positions : (k : ActionKind) → isPosition k ≡ true → Position k
+positions EePosition h = inl refl
+positions EeDelta h = absurd (false≢true h)
+positions JointPosition h = inr (inl refl)
+positions JointVelocity h = absurd (false≢true h)
+positions Other h = inr (inr refl)
+
+module _ (c : FuseConfig) (p l : List Float) (unfit : Bool) (passed : refusal (configJudged c ++ rowLent c unfit (length l)) ≡ 0) where
+  fit-position : unfit ≡ false
+  fit-position =
+      let w = both-pass (configJudged c) (rowLent c unfit (length l)) passed .1 in
+      let a = passes-at short (ltb (length l) (c .dim)) ((notFinite when unfit) ∷ []) w in
+      passes-at notFinite unfit [] (a .1) .0
+
+  written-inside : someNotFinite p ≡ false → (j : ℕ) → j < c .dim → InBox c j (at (over (at (setpoint (wallsAt binary64 c) p (c .dim))) l (c .dim)) j)
   unfolding setpoint
-  setpoint-inside z =
-      let fit = accepted c z in
+  written-inside real j in-it =
+      let fit = accepted c (both-pass (configJudged c) (rowLent c unfit (length l)) passed .0) in
       let few = dim-most c fit in
-      inward-inside (wallsAt binary64 c) (eight p 8) (c .dim) j in-it (omega (arith, length-eight p 8)) (walls-ordered c fit j (omega arith))
+      let room = sized c unfit (length l) passed .1 in
+      let below : j < 8 = omega arith in
+      let point = finite-real (at (eight p 8) j) (eight-finite p j below real) in
+      let low = finite-real (at (wallsAt binary64 c .lo) j) (low-wall-finite c fit j below) in
+      let high = finite-real (at (wallsAt binary64 c .hi) j) (high-wall-finite c fit j below) in
+      rw (over-at (at (setpoint (wallsAt binary64 c) p (c .dim))) l (c .dim) j in-it (omega arith))
+      (inward-inside (wallsAt binary64 c) (eight p 8) (c .dim) j in-it (omega (arith, length-eight p 8)) point low high (walls-ordered c fit j below))
 
-  abbrev Inside : List Float → Type 0
-  Inside m = (lt (at m j) lo ≡ false) × (lt hi (at m j) ≡ false)
+module _ (c : FuseConfig) (is : isPosition (c .kind) ≡ true) (p l : List Float) where
+  pub brake-inside : (v : List Float) → BrakesInside c p v l
+  unfolding brakeAnswer brakeOutput brakeRefusal brakeSent
+  brake-inside v done j in-it =
+      let z = sent-zero (brakeRefusal c p v (length l)) done in
+      let unfit = someNotFinite p || someNotFinite v in
+      let passed = both-pass (configJudged c ++ rowLent c unfit (length l)) ((computed when not (brakeSent c p v .sound)) ∷ []) z .0 in
+      let real = neither (someNotFinite p) (someNotFinite v) (fit-position c p l unfit passed) .0 in
+      rw (z, position-brakes (wallsAt binary64 c) p (c .dim) binary64 (c .limits .«a_max») (c .limits .dt) v (c .kind) (positions (c .kind) is))
+      (written-inside c p l unfit passed real j in-it)
 
-  written-inside : (unfit : Bool) → refusal (configJudged c ++ rowLent c unfit (length l)) ≡ 0 → Inside (over (at (setpoint (wallsAt binary64 c) p (c .dim))) l (c .dim))
-  written-inside unfit z =
-      let w = sized c unfit (length l) z in
-      rw (over-at (at (setpoint (wallsAt binary64 c) p (c .dim))) l (c .dim) j in-it (omega (arith, w .1)))
-      (setpoint-inside (both-pass (configJudged c) (rowLent c unfit (length l)) z .0))
-
-  module _ (is : Position (c .kind)) where
-    pub brake-inside : (v : List Float) → brakeRefusal c p v (length l) ≡ 0 → Inside (brakeOutput c p v l)
-    unfolding brakeOutput brakeRefusal brakeSent
-    brake-inside v z =
-        let unfit = someNotFinite p || someNotFinite v in
-        rw (z, position-brakes (wallsAt binary64 c) p (c .dim) binary64 (c .limits .«a_max») (c .limits .dt) v (c .kind) is)
-        (written-inside unfit (both-pass (configJudged c ++ rowLent c unfit (length l)) ((computed when not (brakeSent c p v .sound)) ∷ []) z .0))
-
-    pub hold-inside : holdRefusal c p (length l) ≡ 0 → Inside (holdOutput c p l)
-    unfolding holdOutput holdRefusal
-    hold-inside z = rw (z, position-holds (wallsAt binary64 c) p (c .dim) (c .kind) is) (written-inside (someNotFinite p) z)
+  pub hold-inside : HoldsInside c p l
+  unfolding holdAnswer holdOutput holdRefusal
+  hold-inside done j in-it =
+      let z = sent-zero (holdRefusal c p (length l)) done in
+      rw (z, position-holds (wallsAt binary64 c) p (c .dim) (c .kind) (positions (c .kind) is))
+      (written-inside c p l (someNotFinite p) z (fit-position c p l (someNotFinite p) z) j in-it)

@@ -1,5 +1,5 @@
--- What is promised of one call of `brake_feasible` with the second-order brake, said of its own answer and of the entries that were lent to it. The proofs are
--- `proofs/Promises.antt`.
+-- What is promised of one call of `brake_feasible` with the second-order brake, said of its own answer and of the entries that were lent to it; and that the rows of brake and
+-- hold lie in the box. The proofs are `proofs/Promises.antt` and `proofs/Boxed.antt`.
 use Prim.Native.Nat.{ℕ, suc, _+_, _-_, _*_, _≤_, _<_}
 use mathlib.Core.Path.{_≡_}
 use mathlib.Core.Bool.{Bool, true, false}
@@ -9,6 +9,8 @@ use lib.Ieee.{Float, binary64, inf, lt, le}
 use Rattle.refusal.specs.declared.Refusal.{Refusal}
 use Rattle.fmath.specs.Each.{at}
 use Rattle.fmath.specs.Finite.{+0}
+use Rattle.envelope.specs.declared.ActionKind.{ActionKind}
+use Rattle.envelope.specs.declared.ActionKind.the-variants.{EePosition, EeDelta, JointPosition, JointVelocity, Other}
 use Rattle.envelope.specs.declared.BrakeKind.the-variants.{PdSecondOrder}
 use Rattle.envelope.specs.declared.ControlSteps.{ControlSteps}
 use Rattle.envelope.specs.declared.FuseConfig.{FuseConfig}
@@ -17,8 +19,9 @@ use Rattle.rollout.specs.Plant.{Gains, State}
 use Rattle.rollout.specs.Rule.{Task, after, entry, stop}
 use Rattle.brake.specs.declared.BrakeOut.{BrakeOut}
 use Rattle.brake.specs.declared.BrakeOut.the-variants.{Accepted, Refused}
+use Rattle.brake.specs.declared.Sent.the-variants.{Done}
 use Rattle.brake.specs.Rule.{live, wallsAt, secondOrder}
-use Rattle.brake.specs.Answer.{forecastAnswer, forecastSlacks}
+use Rattle.brake.specs.Answer.{forecastAnswer, forecastSlacks, brakeAnswer, brakeOutput, holdAnswer, holdOutput}
 
 -- ---- a call
 
@@ -156,12 +159,29 @@ pub record Begins (n : ℕ) (x y : Call) : Type 0 where
   pub counted : n ≤ N y
   pub same : (k : ℕ) → k < n → at (entries x) k ≡ at (entries y) k
 
+-- ---- inside the box
+
+-- a number lies in the box of axis j
+abbrev pub InBox : FuseConfig → ℕ → Float → Type 0
+InBox c j x = (le (at (wallsAt binary64 c .lo) j) x ≡ true) × (le x (at (wallsAt binary64 c .hi) j) ≡ true)
+
+-- a position kind: none of the two kinds whose numbers are velocities or displacements
+abbrev pub isPosition : ActionKind → Bool
+isPosition EePosition = true
+isPosition EeDelta = false
+isPosition JointPosition = true
+isPosition JointVelocity = false
+isPosition Other = true
+
+-- each coordinate that brake writes, or hold, lies in its box
+abbrev pub BrakesInside : FuseConfig → List Float → List Float → List Float → Type 0
+BrakesInside c p v l = brakeAnswer c p v (length l) ≡ Done → (j : ℕ) → j < c .dim → InBox c j (at (brakeOutput c p v l) j)
+
+abbrev pub HoldsInside : FuseConfig → List Float → List Float → Type 0
+HoldsInside c p l = holdAnswer c p (length l) ≡ Done → (j : ℕ) → j < c .dim → InBox c j (at (holdOutput c p l) j)
+
 -- ---- a feasible forecast is inside as numbers, and not only by rounded differences
 
--- axis j of a point lies between the derived walls
-abbrev pub Between : FuseConfig → ℕ → Float → Type 0
-Between c j x = (le (at (wallsAt binary64 c .lo) j) x ≡ true) × (le x (at (wallsAt binary64 c .hi) j) ≡ true)
-
--- after each substep that counts, each live axis does
+-- after each substep that counts, each live axis lies in its box
 abbrev pub StaysInside : Call → Gains → Type 0
-StaysInside x g = (k : ℕ) → k < N x → (j : ℕ) → j < live (x .config) → Between (x .config) j (at (plantAfter x g (suc k) .p) j)
+StaysInside x g = (k : ℕ) → k < N x → (j : ℕ) → j < live (x .config) → InBox (x .config) j (at (plantAfter x g (suc k) .p) j)

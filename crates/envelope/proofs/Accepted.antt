@@ -7,6 +7,7 @@ use lib.Ieee.{binary64, lt}
 use Rattle.refusal.specs.Order.{size, number, steps, channels, among, refusal}
 use Rattle.refusal.specs.Exactly.{exactly-none}
 use Rattle.fmath.specs.Each.{at}
+use Rattle.fmath.specs.Finite.{finite, allFinite}
 use Rattle.fmath.proofs.Each.{all-at, every-at}
 use Rattle.envelope.specs.Derive.{derived}
 use Rattle.envelope.specs.Steps.{substepsIn}
@@ -54,6 +55,15 @@ module _ (c : FuseConfig) (fit : Fit c) where
   pub walls-ordered : (i : ℕ) → i < 8 → lt (at (derived binary64 c .«box_hi») i) (at (derived binary64 c .«box_lo») i) ≡ false
   unfolding derivedOk ordered
   walls-ordered i h = not-true _ (all-at (λ (i : ℕ). not (lt (at (derived binary64 c .«box_hi») i) (at (derived binary64 c .«box_lo») i))) 8 (every-at _ 4 derived-fit) i h)
+
+  -- each wall is a finite number
+  pub low-wall-finite : (i : ℕ) → i < 8 → finite (at (derived binary64 c .«box_lo») i) ≡ true
+  unfolding derivedOk allFinite
+  low-wall-finite = all-at _ 8 (every-at _ 1 derived-fit)
+
+  pub high-wall-finite : (i : ℕ) → i < 8 → finite (at (derived binary64 c .«box_hi») i) ≡ true
+  unfolding derivedOk allFinite
+  high-wall-finite = all-at _ 8 (every-at _ 2 derived-fit)
 
   -- ---- the counts
 
