@@ -262,3 +262,16 @@ module _ (x : Call) (g : Gains) (is : SecondOrder x g) where
       let e = plan-is x g is only in
       let ok : feasibleOf (t x) ≡ true = ap feasibleIn (sym (report x g is only w (stop-sound x g is only h)) ∙ a) in
       feasible-inside binary64 (task x g) (subst Whole e w) (subst (λ (y : Forecast). feasibleOf y ≡ true) e ok) k j b c (low-wall-fits binary64 (x .config) j) (high-wall-fits binary64 (x .config) j)
+
+-- ---- feasible exactly when no slack after one substep or more is negative
+
+module _ (x : Call) (g : Gains) (is : SecondOrder x g) where
+  pub feasible-exactly : {n : ℕ} {margin : Float} {feasible : Bool} {stop : Float} → answer x ≡ Accepted n margin feasible stop
+      → (feasible ≡ true → (k : ℕ) → k < N x → lt (slackAfter x g (suc k)) +0 ≡ false) × (((k : ℕ) → k < N x → lt (slackAfter x g (suc k)) +0 ≡ false) → feasible ≡ true)
+  feasible-exactly {n} {margin} {feasible} {stop} a =
+      let only = accepted-free x a in
+      let w = demand-3 x g is only .forecasts (only-finite x g is only n margin feasible stop a) in
+      let same : w .feasible ≡ feasible = ap feasibleIn (sym (w .reports-N) ∙ a) in (
+        λ y k b. ap (λ (z : Float). lt z +0) (sym (w .wrote .kth k b)) ∙ w .feasible-only (same ∙ y) k b,
+        λ h. sym same ∙ w .feasible-where (λ k b. ap (λ (z : Float). lt z +0) (w .wrote .kth k b) ∙ h k b),
+      )

@@ -1,4 +1,5 @@
 pub mod Bits
+pub mod Feat
 pub mod Rule
 pub mod Refusals
 pub mod Answer

@@ -39,6 +39,8 @@ impl Feat {
     pub const EXT2: usize = 10;
 
     pub const EXT3: usize = 11;
+
+    pub const COUNT: usize = 12;
 }
 
 // The features f, standardised to z, with their aggregate s; `valid` and `fired` have a bit for each feature.

@@ -44,8 +44,7 @@ module _ (x lo hi : Float) (a : Real x) (b : Real lo) (c : Real hi) where
       go false false = a
 
   pub clamp-between : lt hi lo ≡ false → (le lo (clamped x lo hi) ≡ true) × (le (clamped x lo hi) hi ≡ true)
-  clamp-between walls =
-      (
-        le-not-above lo (clamped x lo hi) b clamp-real ∙ ap not (clamp-above-lo x lo hi walls),
-        le-not-above (clamped x lo hi) hi clamp-real c ∙ ap not (clamp-below-hi x lo hi walls)
-      )
+  clamp-between walls = (
+    le-not-above lo (clamped x lo hi) b clamp-real ∙ ap not (clamp-above-lo x lo hi walls),
+    le-not-above (clamped x lo hi) hi clamp-real c ∙ ap not (clamp-below-hi x lo hi walls),
+  )

@@ -1,5 +1,5 @@
 -- The second-order brake: the committed rows, then the setpoint clamp(p), each held for its substeps; the slack after each substep.
-use Prim.Native.Nat.{ℕ, zero, suc, _+_, _-_, _*_, _/_}
+use Prim.Native.Nat.{ℕ, zero, suc, _+_, _-_, _/_}
 use mathlib.Core.List.{List}
 use lib.Dec.{ltb}
 use lib.Ieee.{Float, Format}
@@ -10,7 +10,7 @@ use Rattle.fmath.specs.Norm.{dist}
 use Rattle.chunk.specs.Rule.{rowOf}
 use Rattle.envelope.specs.declared.ControlSteps.{ControlSteps}
 use Rattle.envelope.specs.declared.Substeps.{Substeps}
-use Rattle.envelope.specs.Steps.{substepsIn}
+use Rattle.envelope.specs.Steps.{substepsOf, substepsIn}
 use Rattle.workspace.specs.Rule.{Walls, inward, slack}
 use Rattle.rollout.specs.Plant.{Gains, State, substep}
 use Rattle.rollout.specs.Forecast.{Forecast}
@@ -37,7 +37,7 @@ pub record Task : Type 0 where
 
 -- the substeps under committed rows
 abbrev pub pushes : Task → ℕ
-pushes t = rowsLeft (t .commit) (t .from) .0 * t .per .0
+pushes t = substepsOf (rowsLeft (t .commit) (t .from)) (t .per)
 
 -- N
 abbrev pub total : Task → ℕ

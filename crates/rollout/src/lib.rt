@@ -2,10 +2,11 @@
 ghost use mathlib.Core.Path.{_≡_};
 ghost use mathlib.Core.Bool.{true};
 ghost use mathlib.Core.List.{List};
-ghost use Prim.Native.Nat.{ℕ, _+_, _*_, _≤_, _<_};
+ghost use Prim.Native.Nat.{ℕ, _+_, _≤_, _<_};
 ghost use lib.ListN.{length};
 ghost use lib.Ieee.{Float, binary64};
 ghost use Rattle.refusal.specs.Order.{if_then_else_};
+ghost use Rattle.envelope.specs.Steps.{substepsOf};
 ghost use Rattle.rollout.specs.Plant.{axis, substep};
 ghost use Rattle.rollout.specs.Forecast.{writtenOf};
 ghost use Rattle.rollout.specs.Rule.{Task, rowsLeft, after, stopDistance, forecast};
@@ -231,8 +232,8 @@ pub fn rows_left(commit: ControlSteps, from: usize) -> ControlSteps
 
 // The committed rows, each held for its substeps.
 fn push(g: Law, w: Workspace, c: Course, rows: &[f64], run: Run, slack: &mut [f64]) -> Run
-    requires { ⌜ (shaped c (length (now rows)) ≡ true) × (run .done + leftOf c .0 * c .per .0 ≤ length (now slack)) ⌝ }
-    ensures { λ r. ⌜ (r .done ≤ run .done + leftOf c .0 * c .per .0) × ((s : Plant) (l : List Float) → Along binary64 (taskOf g w c s (now (rows .entry))) l 0 run (now (slack .entry)) → Along binary64 (taskOf g w c s (now (rows .entry))) l (leftOf c .0 * c .per .0) r (now (slack .exit))) ⌝ }
+    requires { ⌜ (shaped c (length (now rows)) ≡ true) × (run .done + substepsOf (leftOf c) (c .per) ≤ length (now slack)) ⌝ }
+    ensures { λ r. ⌜ (r .done ≤ run .done + substepsOf (leftOf c) (c .per)) × ((s : Plant) (l : List Float) → Along binary64 (taskOf g w c s (now (rows .entry))) l 0 run (now (slack .entry)) → Along binary64 (taskOf g w c s (now (rows .entry))) l (substepsOf (leftOf c) (c .per)) r (now (slack .exit))) ⌝ }
 {
     let left = rows_left(c.commit, c.from).0 as usize;
     let per = c.per.0 as usize;

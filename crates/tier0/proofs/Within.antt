@@ -53,7 +53,7 @@ none-large s d q rows h e = if-so (arms s (tripOf d)) _ (none-so (λ (i : ℕ). 
 
 -- ---- the trips of an answer are those of the rule, or none
 
-trips-raised : (w n : ℕ) (j : Judgement) → raised w 0 ≡ false → raised w (j .trips) ≡ false → raised w (tripsIn (answerAt n j)) ≡ false
+pub trips-raised : (w n : ℕ) (j : Judgement) → raised w 0 ≡ false → raised w (j .trips) ≡ false → raised w (tripsIn (answerAt n j)) ≡ false
 trips-raised w zero j none h = h
 trips-raised w (suc n) j none h = none
 

@@ -13,6 +13,7 @@ use Rattle.fmath.specs.Each.{at, table}
 use Rattle.fmath.specs.Finite.{+0}
 use Rattle.fmath.proofs.Each.{table-at}
 use Rattle.conformal.specs.Bits.{bit, bitsWhere}
+use Rattle.conformal.specs.Feat.{TCE, ACC, ACM-NEG, NJR, REACH, SPEED-PEAK, PATH-INEFF, EXT0}
 use Rattle.conformal.specs.declared.Scores.{Scores}
 use Rattle.conformal.proofs.Bits.{bit-where, no-bit-past}
 use Rattle.envelope.specs.Derive.{kept}
@@ -104,12 +105,12 @@ module _ (c : FuseConfig) (p ext : List Float) (there : Bool) (k : Head) (rows :
   zero-where-not-valid e j l h = rw (passed-is e, f-is) (table-at (λ (i : ℕ). kept (says i) (value i)) 12 j l ∙ rw (sym (valid-exactly e j l) ∙ h))
 
   -- the features of the trail are valid where it holds 20 samples
-  pub trail-bits : Passed → (j : ℕ) → 6 ≤ j → j < 8 → bit (answer .scores .valid) j ≡ leb 20 (rt .trail .len)
+  pub trail-bits : Passed → (j : ℕ) → PATH-INEFF ≤ j → j < EXT0 → bit (answer .scores .valid) j ≡ leb 20 (rt .trail .len)
   unfolding validAt
-  trail-bits e j g l = valid-exactly e j (omega arith) ∙ rw (le-ltb j 6 g, lt-ltb j 8 l)
+  trail-bits e j g l = valid-exactly e j (omega arith) ∙ rw (le-ltb j PATH-INEFF g, lt-ltb j EXT0 l)
 
   -- .. and external scalar i, below 4, where it is lent
-  pub external-bits : Passed → (i : ℕ) → i < 4 → bit (answer .scores .valid) (8 + i) ≡ ltb i (length ext)
+  pub external-bits : Passed → (i : ℕ) → i < 4 → bit (answer .scores .valid) (EXT0 + i) ≡ ltb i (length ext)
   unfolding validAt
   external-bits e i l =
       let n : 8 + i - 8 ≡ i = omega arith in
@@ -129,23 +130,23 @@ module _ (c : FuseConfig) (p ext : List Float) (k : Head) (rows : List Float) (r
   unfolding validAt ticked tick afterChunk boundaryBits
   chunk-bit j l = valid-exactly c p ext true k rows rt sc e j (omega arith) ∙ rw (lt-ltb j 6 l) (bit-where holds 6 j l)
 
-  pub tce-exactly : bit (featuresOf c p ext true k rows rt sc .scores .valid) 0 ≡ leb 2 common
-  tce-exactly = chunk-bit 0 (omega arith)
+  pub tce-exactly : bit (featuresOf c p ext true k rows rt sc .scores .valid) TCE ≡ leb 2 common
+  tce-exactly = chunk-bit TCE (omega arith)
 
-  pub acc-exactly : bit (featuresOf c p ext true k rows rt sc .scores .valid) 1 ≡ leb 2 common
-  acc-exactly = chunk-bit 1 (omega arith)
+  pub acc-exactly : bit (featuresOf c p ext true k rows rt sc .scores .valid) ACC ≡ leb 2 common
+  acc-exactly = chunk-bit ACC (omega arith)
 
-  pub acm-neg-exactly : bit (featuresOf c p ext true k rows rt sc .scores .valid) 2 ≡ leb 2 (k .horizon)
-  acm-neg-exactly = chunk-bit 2 (omega arith)
+  pub acm-neg-exactly : bit (featuresOf c p ext true k rows rt sc .scores .valid) ACM-NEG ≡ leb 2 (k .horizon)
+  acm-neg-exactly = chunk-bit ACM-NEG (omega arith)
 
-  pub njr-exactly : bit (featuresOf c p ext true k rows rt sc .scores .valid) 3 ≡ leb 4 (k .horizon)
-  njr-exactly = chunk-bit 3 (omega arith)
+  pub njr-exactly : bit (featuresOf c p ext true k rows rt sc .scores .valid) NJR ≡ leb 4 (k .horizon)
+  njr-exactly = chunk-bit NJR (omega arith)
 
-  pub reach-exactly : bit (featuresOf c p ext true k rows rt sc .scores .valid) 4 ≡ ltb 0 (shared (manifestOf c) p)
-  reach-exactly = chunk-bit 4 (omega arith)
+  pub reach-exactly : bit (featuresOf c p ext true k rows rt sc .scores .valid) REACH ≡ ltb 0 (shared (manifestOf c) p)
+  reach-exactly = chunk-bit REACH (omega arith)
 
-  pub speed-peak-always : bit (featuresOf c p ext true k rows rt sc .scores .valid) 5 ≡ true
-  speed-peak-always = chunk-bit 5 (omega arith)
+  pub speed-peak-always : bit (featuresOf c p ext true k rows rt sc .scores .valid) SPEED-PEAK ≡ true
+  speed-peak-always = chunk-bit SPEED-PEAK (omega arith)
 
   -- the held features are replaced by the chunk's, which were taken against the one before
   pub held-replaced : featuresOf c p ext true k rows rt sc .rt .held ≡ boundary binary64 (manifestOf c) (keptOf rt) (rt .prev .«data») p (k .«t_emit») (k .horizon) rows .value

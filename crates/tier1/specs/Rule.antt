@@ -17,6 +17,7 @@ use Rattle.fmath.specs.Norm.{dist}
 use Rattle.window.specs.Rule.{net, path}
 use Rattle.window.specs.declared.Trail.{Trail}
 use Rattle.conformal.specs.Bits.{bit, bitsWhere}
+use Rattle.conformal.specs.Feat.{PATH-INEFF, EXT0, COUNT}
 use Rattle.envelope.specs.Derive.{kept}
 use Rattle.tier1.specs.declared.Manifest.{Manifest}
 use Rattle.tier1.specs.declared.Kept.{Kept}
@@ -222,11 +223,11 @@ moving f m t = do
 
 -- a feature is valid: a held one by its bit, one of the trail where it holds 20 samples, an external one where it is lent
 unfoldable pub validAt : ℕ → ℕ → ℕ → ℕ → Bool
-validAt held len ext j = if ltb j 6 then bit held j else if ltb j 8 then leb 20 len else ltb (j - 8) ext
+validAt held len ext j = if ltb j PATH-INEFF then bit held j else if ltb j EXT0 then leb 20 len else ltb (j - EXT0) ext
 
 -- its value
 unfoldable pub valueAt : List Float → List Float → List Float → ℕ → Float
-valueAt held trail ext j = if ltb j 6 then at held j else if ltb j 8 then at trail (j - 6) else at ext (j - 8)
+valueAt held trail ext j = if ltb j PATH-INEFF then at held j else if ltb j EXT0 then at trail (j - PATH-INEFF) else at ext (j - EXT0)
 
 -- twelve features and their bits
 pub record Twelve : Type 0 where
@@ -237,4 +238,4 @@ pub record Twelve : Type 0 where
 unfoldable pub twelve : Format → Manifest → Trail → List Float → ℕ → List Float → Checked Twelve
 twelve f m t held heldValid ext = do
   trail ← moving f m t
-  pure (record { f = table (λ (j : ℕ). kept (validAt heldValid (t .len) (length ext) j) (valueAt held trail ext j)) 12; valid = bitsWhere (validAt heldValid (t .len) (length ext)) 12 })
+  pure (record { f = table (λ (j : ℕ). kept (validAt heldValid (t .len) (length ext) j) (valueAt held trail ext j)) COUNT; valid = bitsWhere (validAt heldValid (t .len) (length ext)) COUNT })

@@ -19,6 +19,7 @@ ghost use Rattle.tier1.specs.Refusals.{newJudged, stateJudged, someNotFi
 ghost use Rattle.chunk.specs.Refusals.{lentReasons};
 ghost use Rattle.chunk.specs.Of.{fillOf};
 use chunk::ChunkBuf;
+use conformal::Feat;
 use conformal::Scores;
 use envelope::FuseConfig;
 use envelope::Settings;
@@ -507,13 +508,13 @@ fn valid_at(held: u32, len: u8, ext: usize, j: usize, w: u32) -> bool
     requires { ⌜ (0 < w) × (w ≡ 2 ^ j) ⌝ }
     ensures { λ r. ⌜ r ≡ validAt held len ext j ⌝ }
 {
-    if j < 6 {
+    if j < Feat::PATH_INEFF {
         return held / w % 2 == 1;
     }
-    if j < 8 {
+    if j < Feat::EXT0 {
         return 20 <= len;
     }
-    j - 8 < ext
+    j - Feat::EXT0 < ext
 }
 
 // Feature j, 0.0 where it is not valid.
@@ -523,14 +524,14 @@ fn feature_at<'a>(on: bool, held: &'a [f64; 6], trail: &'a [f64; 2], ext: &[f64]
     if !on {
         return 0.0;
     }
-    if j < 6 {
+    if j < Feat::PATH_INEFF {
         return held[j];
     }
-    if j < 8 {
-        return trail[j - 6];
+    if j < Feat::EXT0 {
+        return trail[j - Feat::PATH_INEFF];
     }
-    if j - 8 < ext.len() {
-        return ext[j - 8];
+    if j - Feat::EXT0 < ext.len() {
+        return ext[j - Feat::EXT0];
     }
     0.0 / 0.0
 }
@@ -550,7 +551,7 @@ fn gathered(
     let mut valid = 0u32;
     let mut w = 1u32;
     let mut j = 0usize;
-    while j < 12 {
+    while j < Feat::COUNT {
         let on = valid_at(held_valid, len, ext.len(), j, w);
         f[j] = feature_at(on, &held, &trail, ext, j);
         valid += conformal::weight(on, w);

@@ -3,3 +3,4 @@ pub mod OneAnswer
 pub mod Exported
 pub mod Exactly
 pub mod Beliefs
+pub mod Refused

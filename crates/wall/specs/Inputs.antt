@@ -52,15 +52,15 @@ abbrev pub 1! : ℕ
 abbrev pub 2! : ℕ
 2! = 0x4000_0000_0000_0000
 
--- F1 with another high wall, row to start from and number of braking steps
-abbrev pub card : ℕ → ℕ → ℕ → Card
-card hi from brake = record {
+-- F1 with another start, high wall, row to start from and number of braking steps
+abbrev pub card : ℕ → ℕ → ℕ → ℕ → Card
+card p hi from brake = record {
   «k_p» = 2!;
   «k_v» = 1!;
   dt = 0x3fe0_0000_0000_0000;
   lo = 0xbff0_0000_0000_0000;
   hi = hi;
-  p = 0;
+  p = p;
   v = 0;
   row0 = 1!;
   row1 = 1!;
@@ -99,9 +99,9 @@ plane = record {
   «pos_dim» = 2;
   limits = record { dt = one; «v_max» = num 0x4014_0000_0000_0000; «a_max» = one; «j_max» = one; «reach_max» = one; margin = +0 };
   norm = normOf;
-  walls = wallsOf (card 2! 0 1);
+  walls = wallsOf (card 0 2! 0 1);
   contact = None;
-  brake = brakeOf (card 2! 0 1);
+  brake = brakeOf (card 0 2! 0 1);
   clamp = Project;
   armed = SPEED;
   «aux_count» = 0;

@@ -1,2 +1,4 @@
 pub mod Inputs
 pub mod Wall
+pub mod Beliefs
+pub mod Refused

@@ -1,4 +1,4 @@
--- Document 01's numbers to keep on the wall that are marked P: for each, what the definitions give and what the document writes.
+-- Document 01's numbers to keep on the wall that are marked P, and the trainees' card with a start outside: for each, what the definitions give and what is written.
 use Prim.Native.Nat.{ℕ}
 use mathlib.Core.Bool.{true, false}
 use mathlib.Core.List.{List, [], _∷_}
@@ -12,19 +12,23 @@ pub record Case : Type 0 where
 
 -- slacks 1.5, 1, 0.75, 0.75
 abbrev F1 : Case
-F1 = record { given = forecastOf (card 2! 0 1) 4; written = 0 ∷ 4 ∷ 0x3fe8_0000_0000_0000 ∷ 1 ∷ 0x3ff4_0000_0000_0000 ∷ 0x3ff8_0000_0000_0000 ∷ 1! ∷ 0x3fe8_0000_0000_0000 ∷ 0x3fe8_0000_0000_0000 ∷ [] }
+F1 = record { given = forecastOf (card 0 2! 0 1) 4; written = 0 ∷ 4 ∷ 0x3fe8_0000_0000_0000 ∷ 1 ∷ 0x3ff4_0000_0000_0000 ∷ 0x3ff8_0000_0000_0000 ∷ 1! ∷ 0x3fe8_0000_0000_0000 ∷ 0x3fe8_0000_0000_0000 ∷ [] }
 
 -- slacks 0.5, 0, -0.25, -0.25
 abbrev F2 : Case
-F2 = record { given = forecastOf (card 1! 0 1) 4; written = 0 ∷ 4 ∷ 0xbfd0_0000_0000_0000 ∷ 0 ∷ 0x3ff4_0000_0000_0000 ∷ 0x3fe0_0000_0000_0000 ∷ 0 ∷ 0xbfd0_0000_0000_0000 ∷ 0xbfd0_0000_0000_0000 ∷ [] }
+F2 = record { given = forecastOf (card 0 1! 0 1) 4; written = 0 ∷ 4 ∷ 0xbfd0_0000_0000_0000 ∷ 0 ∷ 0x3ff4_0000_0000_0000 ∷ 0x3fe0_0000_0000_0000 ∷ 0 ∷ 0xbfd0_0000_0000_0000 ∷ 0xbfd0_0000_0000_0000 ∷ [] }
 
 -- F1 with hi 1.25: margin 0, feasible
 abbrev F1-touching : Case
-F1-touching = record { given = forecastOf (card 0x3ff4_0000_0000_0000 0 1) 4; written = 0 ∷ 4 ∷ 0 ∷ 1 ∷ 0x3ff4_0000_0000_0000 ∷ 0x3fe8_0000_0000_0000 ∷ 0x3fd0_0000_0000_0000 ∷ 0 ∷ 0 ∷ [] }
+F1-touching = record { given = forecastOf (card 0 0x3ff4_0000_0000_0000 0 1) 4; written = 0 ∷ 4 ∷ 0 ∷ 1 ∷ 0x3ff4_0000_0000_0000 ∷ 0x3fe8_0000_0000_0000 ∷ 0x3fd0_0000_0000_0000 ∷ 0 ∷ 0 ∷ [] }
 
 -- no entry, an infinite margin, stop distance 0
 abbrev F3 : Case
-F3 = record { given = forecastOf (card 2! 1 0) 0; written = 0 ∷ 0 ∷ 0x7ff0_0000_0000_0000 ∷ 1 ∷ 0 ∷ [] }
+F3 = record { given = forecastOf (card 0 2! 1 0) 0; written = 0 ∷ 0 ∷ 0x7ff0_0000_0000_0000 ∷ 1 ∷ 0 ∷ [] }
+
+-- F1 from a start a metre beyond the high wall (cards/7-start-outside.card): slacks 0, 1, 1.5, 1.5, and feasible
+abbrev start-outside : Case
+start-outside = record { given = forecastOf (card 0x4008_0000_0000_0000 2! 0 1) 4; written = 0 ∷ 4 ∷ 0 ∷ 1 ∷ 0x4004_0000_0000_0000 ∷ 0 ∷ 1! ∷ 0x3ff8_0000_0000_0000 ∷ 0x3ff8_0000_0000_0000 ∷ [] }
 
 -- ---- roots: 0 and the root
 
@@ -67,4 +71,4 @@ abbrev gate-none : Case
 gate-none = record { given = gateOf 0; written = 0 ∷ 0xfff0_0000_0000_0000 ∷ 0 ∷ 0 ∷ [] }
 
 abbrev pub cases : List Case
-cases = F1 ∷ F2 ∷ F1-touching ∷ F3 ∷ root-25 ∷ root-2 ∷ root-least ∷ row-6-8 ∷ row-3-4 ∷ window-3 ∷ gate-2 ∷ gate-none ∷ []
+cases = F1 ∷ F2 ∷ F1-touching ∷ F3 ∷ start-outside ∷ root-25 ∷ root-2 ∷ root-least ∷ row-6-8 ∷ row-3-4 ∷ window-3 ∷ gate-2 ∷ gate-none ∷ []

@@ -1,0 +1,147 @@
+-- A refusal changes nothing: each rule chooses between the new and the old by whether its number is 0.
+use Prim.Native.Nat.{ℕ, zero, suc}
+use mathlib.Core.Path.{_≡_, refl}
+use mathlib.Core.Bool.{Bool, true, false, _||_}
+use mathlib.Core.List.{List}
+use borrow.Author.Tests.{ne-eqb}
+use lib.Dec.{eqb}
+use lib.ListN.{length}
+use lib.Ieee.{Float, binary64}
+use Rattle.refusal.specs.Order.{given, refusal, refusedFor, if_then_else_}
+use Rattle.chunk.specs.Refusals.{lentReasons}
+use Rattle.chunk.specs.declared.ChunkBuf.{ChunkBuf}
+use Rattle.chunk.specs.declared.Filled.{Filled}
+use Rattle.chunk.specs.Of.{fillOf}
+use Rattle.window.specs.declared.Trail.{Trail}
+use Rattle.window.specs.declared.Recorded.{Recorded}
+use Rattle.window.specs.Answer.{trailReasons, pushReasons}
+use Rattle.window.specs.Of.{pushOf, clearOf}
+use Rattle.conformal.specs.declared.Calibration.{Calibration}
+use Rattle.conformal.specs.declared.Scores.{Scores}
+use Rattle.conformal.specs.Answer.{judged, scored, standardsOf, standardised, aggregated}
+use Rattle.envelope.specs.declared.FuseConfig.{FuseConfig}
+use Rattle.tier0.specs.Rule.{Judgement}
+use Rattle.tier0.specs.Refusals as checks
+use Rattle.tier0.specs.Of.{actionRuling, actionRefusal, actionAnswer, actionOut, chunkRuling, chunkRefusal, chunkAnswer, chunkOut}
+use Rattle.tier1.specs.declared.Head.{Head}
+use Rattle.tier1.specs.declared.Tier1Rt.{Tier1Rt}
+use Rattle.tier1.specs.Refusals.{stateJudged}
+use Rattle.tier1.specs.Of.{Tick, featuredAt, ticked, featuresRefusal, featuresOf, clearedAt, resetOf}
+use Rattle.rollout.specs.Forecast.{Forecast, placeOf, marginOf, feasibleOf, writtenOf}
+use Rattle.brake.specs.declared.BrakeOut.the-variants as out
+use Rattle.brake.specs.Answer.{outcome, answerAt, slacksAt, plan, forecastRefusal, forecastAnswer, forecastSlacks, sentAt, rowAt, brakeSent, brakeRefusal, brakeAnswer, brakeOutput, holdRefusal, holdAnswer, holdOutput}
+use Rattle.lictor.specs.Answer.{checkNumber, forecastNumber, sentNumber}
+use Rattle.wall.specs.Refused.{Refuses, RefusalChangesNothing}
+
+-- ---- chosen by a test of the number
+
+chosen-kept : {A B : Type 0} (told : A → ℕ) (part : A → B) (x : Bool) (new old : A) → told new ≡ 0 → Refuses (told (if x then new else old)) → part (if x then new else old) ≡ part old
+chosen-kept told part true new old z no = absurd (no z)
+chosen-kept told part false new old z no = refl
+
+fill-kept : (b : ChunkBuf) (seq t h d e : ℕ) (l : List Float) → Refuses (fillOf b seq t h d e l .number) → fillOf b seq t h d e l .buf ≡ b
+unfolding fillOf
+fill-kept b seq t h d e l = chosen-kept (λ (x : Filled). x .number) (λ (x : Filled). x .buf) (eqb (refusal (lentReasons l h d e)) 0) _ _ refl
+
+push-kept : (t : Trail) (p : List Float) (d : ℕ) → Refuses (pushOf t p d .number) → pushOf t p d .trail ≡ t
+unfolding pushOf
+push-kept t p d = chosen-kept (λ (x : Recorded). x .number) (λ (x : Recorded). x .trail) (eqb (refusal (pushReasons t p)) 0) _ _ refl
+
+clear-kept : (t : Trail) → Refuses (clearOf t .number) → clearOf t .trail ≡ t
+unfolding clearOf
+clear-kept t = chosen-kept (λ (x : Recorded). x .number) (λ (x : Recorded). x .trail) (eqb (refusal (trailReasons t)) 0) _ _ refl
+
+scored-kept : (n : ℕ) (old new : Scores) → Refuses n → scored n old new .scores ≡ old
+scored-kept n old new no = rw (ne-eqb n 0 no)
+
+standardise-kept : (cal : Calibration) (bin : ℕ) (sc : Scores) → Refuses (standardised binary64 cal bin sc .refusal .number) → standardised binary64 cal bin sc .scores ≡ sc
+unfolding standardised
+standardise-kept cal bin sc = scored-kept (judged cal sc (standardsOf binary64 cal bin sc .sound)) sc _
+
+aggregate-kept : (cal : Calibration) (sc : Scores) → Refuses (aggregated cal sc .refusal .number) → aggregated cal sc .scores ≡ sc
+unfolding aggregated
+aggregate-kept cal sc = scored-kept (judged cal sc true) sc _
+
+-- ---- chosen by the number itself
+
+checked-kept : (n : ℕ) (j : Judgement) (k : ℕ) (l : List Float) → Refuses (checkNumber (checks.answerAt n j)) → checks.outAt n j k l ≡ l
+unfolding checkNumber
+checked-kept zero j k l no = absurd (no refl)
+checked-kept (suc n) j k l no = refl
+
+chunk-kept : (c : FuseConfig) (p aux rows : List Float) (h d e : ℕ) (l : List Float) → Refuses (checkNumber (chunkAnswer c p aux rows h d e (length l))) → chunkOut c p aux rows h d e l ≡ l
+unfolding chunkAnswer chunkOut
+chunk-kept c p aux rows h d e l = checked-kept (chunkRefusal c p aux rows h d e (length l)) (chunkRuling c p aux rows h d e .value) _ l
+
+action-kept : (c : FuseConfig) (p aux prev a l : List Float) → Refuses (checkNumber (actionAnswer c p aux prev a (length l))) → actionOut c p aux prev a l ≡ l
+unfolding actionAnswer actionOut
+action-kept c p aux prev a l = checked-kept (actionRefusal c p aux prev a (length l)) (actionRuling c p aux prev a .value) (c .dim) l
+
+featured-kept : (n : ℕ) (x : Tick) (rt : Tier1Rt) (sc : Scores) → Refuses (featuredAt n x rt sc .refusal .number) → (featuredAt n x rt sc .rt ≡ rt) × (featuredAt n x rt sc .scores ≡ sc)
+featured-kept zero x rt sc no = absurd (no refl)
+featured-kept (suc n) x rt sc no = (refl, refl)
+
+features-kept : (c : FuseConfig) (p ext : List Float) (there : Bool) (k : Head) (rows : List Float) (rt : Tier1Rt) (sc : Scores) → Refuses (featuresOf c p ext there k rows rt sc .refusal .number)
+    → (featuresOf c p ext there k rows rt sc .rt ≡ rt) × (featuresOf c p ext there k rows rt sc .scores ≡ sc)
+unfolding featuresOf
+features-kept c p ext there k rows rt sc = featured-kept (featuresRefusal c p ext there k rows rt sc) (ticked c p ext there k rows rt sc .value) rt sc
+
+cleared-kept : (n : ℕ) (rt : Tier1Rt) → Refuses (clearedAt n rt .refusal .number) → clearedAt n rt .rt ≡ rt
+cleared-kept zero rt no = absurd (no refl)
+cleared-kept (suc n) rt no = refl
+
+reset-kept : (rt : Tier1Rt) → Refuses (resetOf rt .refusal .number) → resetOf rt .rt ≡ rt
+unfolding resetOf
+reset-kept rt = cleared-kept (given (stateJudged rt)) rt
+
+row-kept : (n : ℕ) (row : List Float) (k : ℕ) (l : List Float) → Refuses (sentNumber (sentAt n)) → rowAt n row k l ≡ l
+unfolding sentNumber
+row-kept zero row k l no = absurd (no refl)
+row-kept (suc n) row k l no = refl
+
+brake-kept : (c : FuseConfig) (p v l : List Float) → Refuses (sentNumber (brakeAnswer c p v (length l))) → brakeOutput c p v l ≡ l
+unfolding brakeAnswer brakeOutput
+brake-kept c p v l = row-kept (brakeRefusal c p v (length l)) (brakeSent c p v .value) (c .dim) l
+
+hold-kept : (c : FuseConfig) (p l : List Float) → Refuses (sentNumber (holdAnswer c p (length l))) → holdOutput c p l ≡ l
+unfolding holdAnswer holdOutput
+hold-kept c p l = row-kept (holdRefusal c p (length l)) _ (c .dim) l
+
+-- ---- a forecast: what it comes to is accepted or 13
+
+comes-to : (t : Forecast) → Refuses (forecastNumber (outcome t)) → forecastNumber (outcome t) ≡ 13
+unfolding outcome forecastNumber
+comes-to t no = go (eqb (placeOf t) 0) no
+  where
+    go : (b : Bool) → Refuses (forecastNumber (if b then out.Accepted (t .count) (marginOf t) (feasibleOf t) (t .stop .value) else out.Refused (record { number = 13; place = placeOf t })))
+        → forecastNumber (if b then out.Accepted (t .count) (marginOf t) (feasibleOf t) (t .stop .value) else out.Refused (record { number = 13; place = placeOf t })) ≡ 13
+    go true n = absurd (n refl)
+    go false n = refl
+
+slacks-kept : (n : ℕ) (t : Forecast) (l : List Float) → Refuses (forecastNumber (answerAt n t)) → (forecastNumber (answerAt n t) ≡ 13 → ⊥) → slacksAt n t l ≡ l
+slacks-kept n t l = go (eqb n 0 || eqb n 13)
+  where
+    go : (b : Bool) → Refuses (forecastNumber (if b then outcome t else out.Refused (refusedFor n))) → (forecastNumber (if b then outcome t else out.Refused (refusedFor n)) ≡ 13 → ⊥) → (if b then writtenOf t l else l) ≡ l
+    go true no not-13 = absurd (not-13 (comes-to t no))
+    go false no not-13 = refl
+
+forecast-kept : (c : FuseConfig) (p v rows : List Float) (h d e from : ℕ) (l : List Float) → Refuses (forecastNumber (forecastAnswer c p v rows h d e from (length l)))
+    → (forecastNumber (forecastAnswer c p v rows h d e from (length l)) ≡ 13 → ⊥) → forecastSlacks c p v rows h d e from l ≡ l
+unfolding forecastAnswer forecastSlacks
+forecast-kept c p v rows h d e from l = slacks-kept (forecastRefusal c p v rows h d e from (length l)) (plan c p v rows h d e from) l
+
+pub refusal-changes-nothing : RefusalChangesNothing
+refusal-changes-nothing = record {
+  fill = fill-kept;
+  push = push-kept;
+  clear = clear-kept;
+  standardise = standardise-kept;
+  aggregate = aggregate-kept;
+  check-chunk = chunk-kept;
+  check-action = action-kept;
+  features = features-kept;
+  reset = reset-kept;
+  brake-feasible = forecast-kept;
+  brake-action = brake-kept;
+  hold-action = hold-kept;
+}

@@ -1,0 +1,53 @@
+-- Four beliefs that do not hold (docs/TRAINEES.md), each with what holds instead, said of the entries' answers. The proofs are `proofs/Beliefs.antt`.
+use Prim.Native.Nat.{ℕ, suc, _<_}
+use mathlib.Core.Path.{_≡_}
+use mathlib.Core.Bool.{Bool, true, false}
+use mathlib.Core.List.{List}
+use lib.ListN.{length}
+use lib.Ieee.{Float, lt}
+use Rattle.refusal.specs.Order.{numberOf, channels, refusal, refusedFor}
+use Rattle.fmath.specs.Finite.{+0}
+use Rattle.envelope.specs.Refusals.{numbersOk, sizesFit, stepsFit, configJudged}
+use Rattle.envelope.specs.declared.Contact.the-variants.{None, Zone}
+use Rattle.envelope.specs.declared.FuseConfig.{FuseConfig}
+use Rattle.tier0.specs.Rule.{CONTACT}
+use Rattle.tier0.specs.Of.{actionAnswer, actionOut, chunkAnswer, chunkOut}
+use Rattle.tier0.specs.Promises.{tripsIn, raised, ChunkWithin, ActionWithin, contactUnarmed}
+use Rattle.tier0.specs.declared.Check.the-variants as check
+use Rattle.rollout.specs.Plant.{Gains}
+use Rattle.brake.specs.Answer.{forecastAnswer, brakeAnswer, holdAnswer}
+use Rattle.brake.specs.Promises.{Call, SecondOrder, N, slackAfter, answer}
+use Rattle.brake.specs.declared.BrakeOut.the-variants as forecast
+use Rattle.brake.specs.declared.Sent.the-variants as sent
+
+-- "An empty contact box means slow everywhere": with no contact configured CONTACT is never raised, and a call answers and writes what it does with CONTACT unarmed
+pub record EmptyBoxSlowsNothing : Type 0 where
+  pub chunk-not-raised : (c : FuseConfig) → c .contact ≡ None → (p aux rows : List Float) (h d e room : ℕ) → raised CONTACT (tripsIn (chunkAnswer c p aux rows h d e room)) ≡ false
+  pub chunk-answer : (c : FuseConfig) → c .contact ≡ None → (p aux rows : List Float) (h d e room : ℕ) → chunkAnswer (contactUnarmed c) p aux rows h d e room ≡ chunkAnswer c p aux rows h d e room
+  pub chunk-rows : (c : FuseConfig) → c .contact ≡ None → (p aux rows : List Float) (h d e : ℕ) (l : List Float) → chunkOut (contactUnarmed c) p aux rows h d e l ≡ chunkOut c p aux rows h d e l
+  pub action-not-raised : (c : FuseConfig) → c .contact ≡ None → (p aux prev a : List Float) (room : ℕ) → raised CONTACT (tripsIn (actionAnswer c p aux prev a room)) ≡ false
+  pub action-answer : (c : FuseConfig) → c .contact ≡ None → (p aux prev a : List Float) (room : ℕ) → actionAnswer (contactUnarmed c) p aux prev a room ≡ actionAnswer c p aux prev a room
+  pub action-row : (c : FuseConfig) → c .contact ≡ None → (p aux prev a l : List Float) → actionOut (contactUnarmed c) p aux prev a l ≡ actionOut c p aux prev a l
+
+-- "Two arms may share camera channels": where 1, 2 and 3 do not apply, one channel for both coordinates of a zone is refused with 4 by whatever entry takes the configuration
+pub record OneChannelIs4 (c : FuseConfig) : Type 0 where
+  pub configuration : refusal (configJudged c) ≡ 4
+  pub chunk : (p aux rows : List Float) (h d e room : ℕ) → chunkAnswer c p aux rows h d e room ≡ check.Refused (refusedFor 4)
+  pub action : (p aux prev a : List Float) (room : ℕ) → actionAnswer c p aux prev a room ≡ check.Refused (refusedFor 4)
+  pub forecast : (p v rows : List Float) (h d e from room : ℕ) → forecastAnswer c p v rows h d e from room ≡ forecast.Refused (refusedFor 4)
+  pub brake : (p v : List Float) (room : ℕ) → brakeAnswer c p v room ≡ sent.Refused (refusedFor 4)
+  pub hold : (p : List Float) (room : ℕ) → holdAnswer c p room ≡ sent.Refused (refusedFor 4)
+
+abbrev pub OneChannelIsRefused : Type 0
+OneChannelIsRefused = (c : FuseConfig) (radius speed : Float) (i : ℕ) → c .contact ≡ Zone radius speed i i → sizesFit c ≡ true → numbersOk c ≡ true → stepsFit c ≡ true → OneChannelIs4 c
+
+-- "Touching a limit trips it": where no limit is strictly exceeded nothing is raised, however many are touched
+pub record TouchingTripsNothing : Type 0 where
+  pub chunk : (c : FuseConfig) (p aux rows : List Float) (h d e room : ℕ) → ChunkWithin c p aux rows h → tripsIn (chunkAnswer c p aux rows h d e room) ≡ 0
+  pub action : (c : FuseConfig) (p aux prev a : List Float) (room : ℕ) → ActionWithin c p aux prev a → tripsIn (actionAnswer c p aux prev a room) ≡ 0
+
+-- "The stopping forecast inspects where the arm stands now": an accepted one is feasible exactly when no slack after k substeps is negative, with k at least 1
+pub record StartIsNotInspected : Type 0 where
+  pub only : (x : Call) (g : Gains) → SecondOrder x g → (n : ℕ) (margin stop : Float) → answer x ≡ forecast.Accepted n margin true stop → (k : ℕ) → k < N x → lt (slackAfter x g (suc k)) +0 ≡ false
+  pub where-none : (x : Call) (g : Gains) → SecondOrder x g → (n : ℕ) (margin : Float) (feasible : Bool) (stop : Float) → answer x ≡ forecast.Accepted n margin feasible stop
+      → ((k : ℕ) → k < N x → lt (slackAfter x g (suc k)) +0 ≡ false) → feasible ≡ true
