@@ -1,33 +1,33 @@
 -- The four beliefs: each follows from the promises of the crate that has the entry.
-use Prim.Native.Nat.{ℕ, zero, suc, _<_}
-use mathlib.Core.Path.{_≡_, refl, sym, ap, _∙_}
-use mathlib.Core.Bool.{Bool, true, false, not}
+use Prim.Native.Nat.{ℕ}
+use mathlib.Core.Path.{_≡_, refl, ap, _∙_}
+use mathlib.Core.Bool.{false, not, _||_}
 use mathlib.Core.List.{List, [], _∷_, _++_}
 use native.Mathlib.Omega.{arith}
 use borrow.Author.Tests.{eq-eqb}
 use lib.Dec.{eqb}
-use lib.ListN.{replicate}
-use lib.Ieee.{Float, binary64, lt}
-use Rattle.refusal.specs.Order.{Judged, refusal, computed, _when_}
-use Rattle.refusal.specs.Chain.{first-refuses}
+use lib.ListN.{length, replicate}
+use lib.Ieee.{Float, binary64}
+use Rattle.refusal.specs.Order.{Judged, computed, _when_, refusal, refusedFor}
+use Rattle.refusal.specs.Chain.{chain, first-refuses}
 use Rattle.fmath.specs.Answer.{someNotFinite}
 use Rattle.fmath.specs.Finite.{+0}
 use Rattle.chunk.specs.Refusals.{chunkReasons}
-use Rattle.envelope.specs.Refusals.{numbersOk, sizesFit, stepsFit, channelsFit, configJudged}
-use Rattle.envelope.specs.declared.Contact.the-variants.{None, Zone}
+use Rattle.envelope.specs.Refusals.{configJudged}
+use Rattle.envelope.specs.declared.Contact.the-variants.{None}
 use Rattle.envelope.specs.declared.FuseConfig.{FuseConfig}
-use Rattle.tier0.specs.Rule.{CONTACT, Judgement}
-use Rattle.tier0.specs.Refusals.{answerAt}
+use Rattle.tier0.specs.Rule.{CONTACT}
+use Rattle.tier0.specs.Refusals.{answerAt as checked}
 use Rattle.tier0.specs.Of.{checksOf, lentToAction, actionRuling, actionRefusal, actionAnswer, lentToChunk, chunkRuling, chunkRefusal, chunkAnswer}
 use Rattle.tier0.specs.Promises.{tripsIn, raised}
+use Rattle.tier0.specs.declared.Check.the-variants as check
 use Rattle.tier0.proofs.Promises.{no-contact-no-trip, no-contact-no-action-trip}
 use Rattle.tier0.proofs.Within.{chunk-touched, action-touched, trips-raised}
 use Rattle.tier0.proofs.NoContact.{no-contact-chunk-answer, no-contact-chunk-rows, no-contact-action-answer, no-contact-action-row}
-use Rattle.rollout.specs.Plant.{Gains}
 use Rattle.rollout.specs.Forecast.{placeOf}
 use Rattle.brake.specs.declared.BrakeOut.the-variants as forecast
-use Rattle.brake.specs.Answer.{plan, lentJudged, forecastRefusal, forecastAnswer, rowLent, brakeSent, brakeRefusal, brakeAnswer, holdRefusal, holdAnswer}
-use Rattle.brake.specs.Promises.{Call, SecondOrder, N, slackAfter, answer, entries}
+use Rattle.brake.specs.declared.Sent.the-variants as sent
+use Rattle.brake.specs.Answer.{answerAt as foreseen, plan, lentJudged, forecastRefusal, forecastAnswer, rowLent, sentAt, brakeSent, brakeRefusal, brakeAnswer, holdRefusal, holdAnswer}
 use Rattle.brake.proofs.Promises.{feasible-exactly}
 use Rattle.wall.specs.Beliefs.{EmptyBoxSlowsNothing, OneChannelIs4, OneChannelIsRefused, TouchingTripsNothing, StartIsNotInspected}
 
@@ -59,19 +59,36 @@ empty-box-slows-nothing = record {
 
 module _ (c : FuseConfig) (four : refusal (configJudged c) ≡ 4) where
   -- what is judged after the configuration does not matter
-  is-4 : (rest : List Judged) → refusal (configJudged c ++ rest) ≡ 4
-  is-4 rest = first-refuses (configJudged c) rest (λ z. omega (arith, four, z)) ∙ four
+  is-4 : (rest : List Judged) → chain (configJudged c ++ rest) ≡ 4
+  is-4 rest = first-refuses (configJudged c) rest (λ z. let f : chain (configJudged c) ≡ 4 = four in omega (arith, f, z)) ∙ four
+
+  chunk-4 : (p aux rows : List Float) (h d e room : ℕ) → chunkAnswer c p aux rows h d e room ≡ check.Refused (refusedFor 4)
+  unfolding chunkAnswer chunkRefusal
+  chunk-4 p aux rows h d e room =
+      ap (λ (n : ℕ). checked n (chunkRuling c p aux rows h d e .value))
+      (is-4 (chunkReasons h d e (length rows) ++ lentToChunk c p aux rows h d e room ((computed when not (chunkRuling c p aux rows h d e .sound)) ∷ [])))
+
+  action-4 : (p aux prev a : List Float) (room : ℕ) → actionAnswer c p aux prev a room ≡ check.Refused (refusedFor 4)
+  unfolding actionAnswer actionRefusal
+  action-4 p aux prev a room =
+      ap (λ (n : ℕ). checked n (actionRuling c p aux prev a .value)) (is-4 (lentToAction c p aux prev a room ((computed when not (actionRuling c p aux prev a .sound)) ∷ [])))
+
+  forecast-4 : (p v rows : List Float) (h d e from room : ℕ) → forecastAnswer c p v rows h d e from room ≡ forecast.Refused (refusedFor 4)
+  unfolding forecastAnswer forecastRefusal
+  forecast-4 p v rows h d e from room =
+      let t = plan c p v rows h d e from in
+      ap (λ (n : ℕ). foreseen n t) (is-4 (chunkReasons h d e (length rows) ++ (lentJudged c p v rows h d e from room ++ ((computed when not (eqb (placeOf t) 0)) ∷ []))))
+
+  brake-4 : (p v : List Float) (room : ℕ) → brakeAnswer c p v room ≡ sent.Refused (refusedFor 4)
+  unfolding brakeAnswer brakeRefusal
+  brake-4 p v room = ap sentAt (is-4 (rowLent c (someNotFinite p || someNotFinite v) room ++ ((computed when not (brakeSent c p v .sound)) ∷ [])))
+
+  hold-4 : (p : List Float) (room : ℕ) → holdAnswer c p room ≡ sent.Refused (refusedFor 4)
+  unfolding holdAnswer holdRefusal
+  hold-4 p room = ap sentAt (is-4 (rowLent c (someNotFinite p) room))
 
   all-4 : OneChannelIs4 c
-  unfolding chunkAnswer chunkRefusal actionAnswer actionRefusal forecastAnswer forecastRefusal brakeAnswer brakeRefusal holdAnswer holdRefusal
-  all-4 = record {
-    configuration = four;
-    chunk = λ p aux rows h d e room. rw (is-4 (chunkReasons h d e _ ++ lentToChunk c p aux rows h d e room ((computed when not (chunkRuling c p aux rows h d e .sound)) ∷ [])));
-    action = λ p aux prev a room. rw (is-4 (lentToAction c p aux prev a room ((computed when not (actionRuling c p aux prev a .sound)) ∷ [])));
-    forecast = λ p v rows h d e from room. rw (is-4 (chunkReasons h d e _ ++ (lentJudged c p v rows h d e from room ++ ((computed when not (eqb (placeOf (plan c p v rows h d e from)) 0)) ∷ []))));
-    brake = λ p v room. rw (is-4 (rowLent c _ room ++ ((computed when not (brakeSent c p v .sound)) ∷ [])));
-    hold = λ p room. rw (is-4 (rowLent c (someNotFinite p) room));
-  }
+  all-4 = record { configuration = four; chunk = chunk-4; action = action-4; forecast = forecast-4; brake = brake-4; hold = hold-4 }
 
 pub one-channel-is-refused : OneChannelIsRefused
 one-channel-is-refused c radius speed i is sizes numbers counts = all-4 c (rw (sizes, numbers, counts, is, eq-eqb i i refl))

@@ -36,8 +36,8 @@ use Rattle.wall.specs.Refused.{Refuses, RefusalChangesNothing}
 -- ---- chosen by a test of the number
 
 chosen-kept : {A B : Type 0} (told : A → ℕ) (part : A → B) (x : Bool) (new old : A) → told new ≡ 0 → Refuses (told (if x then new else old)) → part (if x then new else old) ≡ part old
-chosen-kept told part true new old z no = absurd (no z)
-chosen-kept told part false new old z no = refl
+chosen-kept told part true new old z is = absurd (is z)
+chosen-kept told part false new old z is = refl
 
 fill-kept : (b : ChunkBuf) (seq t h d e : ℕ) (l : List Float) → Refuses (fillOf b seq t h d e l .number) → fillOf b seq t h d e l .buf ≡ b
 unfolding fillOf
@@ -52,7 +52,7 @@ unfolding clearOf
 clear-kept t = chosen-kept (λ (x : Recorded). x .number) (λ (x : Recorded). x .trail) (eqb (refusal (trailReasons t)) 0) _ _ refl
 
 scored-kept : (n : ℕ) (old new : Scores) → Refuses n → scored n old new .scores ≡ old
-scored-kept n old new no = rw (ne-eqb n 0 no)
+scored-kept n old new is = rw (ne-eqb n 0 is)
 
 standardise-kept : (cal : Calibration) (bin : ℕ) (sc : Scores) → Refuses (standardised binary64 cal bin sc .refusal .number) → standardised binary64 cal bin sc .scores ≡ sc
 unfolding standardised
@@ -66,8 +66,8 @@ aggregate-kept cal sc = scored-kept (judged cal sc true) sc _
 
 checked-kept : (n : ℕ) (j : Judgement) (k : ℕ) (l : List Float) → Refuses (checkNumber (checks.answerAt n j)) → checks.outAt n j k l ≡ l
 unfolding checkNumber
-checked-kept zero j k l no = absurd (no refl)
-checked-kept (suc n) j k l no = refl
+checked-kept zero j k l is = absurd (is refl)
+checked-kept (suc n) j k l is = refl
 
 chunk-kept : (c : FuseConfig) (p aux rows : List Float) (h d e : ℕ) (l : List Float) → Refuses (checkNumber (chunkAnswer c p aux rows h d e (length l))) → chunkOut c p aux rows h d e l ≡ l
 unfolding chunkAnswer chunkOut
@@ -78,8 +78,8 @@ unfolding actionAnswer actionOut
 action-kept c p aux prev a l = checked-kept (actionRefusal c p aux prev a (length l)) (actionRuling c p aux prev a .value) (c .dim) l
 
 featured-kept : (n : ℕ) (x : Tick) (rt : Tier1Rt) (sc : Scores) → Refuses (featuredAt n x rt sc .refusal .number) → (featuredAt n x rt sc .rt ≡ rt) × (featuredAt n x rt sc .scores ≡ sc)
-featured-kept zero x rt sc no = absurd (no refl)
-featured-kept (suc n) x rt sc no = (refl, refl)
+featured-kept zero x rt sc is = absurd (is refl)
+featured-kept (suc n) x rt sc is = (refl, refl)
 
 features-kept : (c : FuseConfig) (p ext : List Float) (there : Bool) (k : Head) (rows : List Float) (rt : Tier1Rt) (sc : Scores) → Refuses (featuresOf c p ext there k rows rt sc .refusal .number)
     → (featuresOf c p ext there k rows rt sc .rt ≡ rt) × (featuresOf c p ext there k rows rt sc .scores ≡ sc)
@@ -87,8 +87,8 @@ unfolding featuresOf
 features-kept c p ext there k rows rt sc = featured-kept (featuresRefusal c p ext there k rows rt sc) (ticked c p ext there k rows rt sc .value) rt sc
 
 cleared-kept : (n : ℕ) (rt : Tier1Rt) → Refuses (clearedAt n rt .refusal .number) → clearedAt n rt .rt ≡ rt
-cleared-kept zero rt no = absurd (no refl)
-cleared-kept (suc n) rt no = refl
+cleared-kept zero rt is = absurd (is refl)
+cleared-kept (suc n) rt is = refl
 
 reset-kept : (rt : Tier1Rt) → Refuses (resetOf rt .refusal .number) → resetOf rt .rt ≡ rt
 unfolding resetOf
@@ -96,8 +96,8 @@ reset-kept rt = cleared-kept (given (stateJudged rt)) rt
 
 row-kept : (n : ℕ) (row : List Float) (k : ℕ) (l : List Float) → Refuses (sentNumber (sentAt n)) → rowAt n row k l ≡ l
 unfolding sentNumber
-row-kept zero row k l no = absurd (no refl)
-row-kept (suc n) row k l no = refl
+row-kept zero row k l is = absurd (is refl)
+row-kept (suc n) row k l is = refl
 
 brake-kept : (c : FuseConfig) (p v l : List Float) → Refuses (sentNumber (brakeAnswer c p v (length l))) → brakeOutput c p v l ≡ l
 unfolding brakeAnswer brakeOutput
@@ -111,7 +111,7 @@ hold-kept c p l = row-kept (holdRefusal c p (length l)) _ (c .dim) l
 
 comes-to : (t : Forecast) → Refuses (forecastNumber (outcome t)) → forecastNumber (outcome t) ≡ 13
 unfolding outcome forecastNumber
-comes-to t no = go (eqb (placeOf t) 0) no
+comes-to t is = go (eqb (placeOf t) 0) is
   where
     go : (b : Bool) → Refuses (forecastNumber (if b then out.Accepted (t .count) (marginOf t) (feasibleOf t) (t .stop .value) else out.Refused (record { number = 13; place = placeOf t })))
         → forecastNumber (if b then out.Accepted (t .count) (marginOf t) (feasibleOf t) (t .stop .value) else out.Refused (record { number = 13; place = placeOf t })) ≡ 13
@@ -122,8 +122,8 @@ slacks-kept : (n : ℕ) (t : Forecast) (l : List Float) → Refuses (forecastNum
 slacks-kept n t l = go (eqb n 0 || eqb n 13)
   where
     go : (b : Bool) → Refuses (forecastNumber (if b then outcome t else out.Refused (refusedFor n))) → (forecastNumber (if b then outcome t else out.Refused (refusedFor n)) ≡ 13 → ⊥) → (if b then writtenOf t l else l) ≡ l
-    go true no not-13 = absurd (not-13 (comes-to t no))
-    go false no not-13 = refl
+    go true is not-13 = absurd (not-13 (comes-to t is))
+    go false is not-13 = refl
 
 forecast-kept : (c : FuseConfig) (p v rows : List Float) (h d e from : ℕ) (l : List Float) → Refuses (forecastNumber (forecastAnswer c p v rows h d e from (length l)))
     → (forecastNumber (forecastAnswer c p v rows h d e from (length l)) ≡ 13 → ⊥) → forecastSlacks c p v rows h d e from l ≡ l
