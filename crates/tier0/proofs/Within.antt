@@ -1,13 +1,13 @@
 -- A limit that is not strictly exceeded is not raised: a trip is "armed, and some comparison holds", and none does.
 use Prim.Native.Nat.{ℕ, zero, suc, _-_, _<_}
-use mathlib.Core.Path.{_≡_, refl, ap, _∙_}
+use mathlib.Core.Path.{_≡_, refl, _∙_}
 use mathlib.Core.Bool.{Bool, true, false, _&&_}
 use mathlib.Core.List.{List}
 use native.Mathlib.Omega.{arith}
 use lib.ListN.{replicate}
 use lib.Ieee.{Float, binary64, lt}
 use Rattle.refusal.specs.Order.{if_then_else_}
-use Rattle.fmath.specs.Each.{some, all}
+use Rattle.fmath.specs.Each.{some}
 use Rattle.fmath.specs.Finite.{+0}
 use Rattle.fmath.specs.Checked.{Checked, pure}
 use Rattle.fmath.specs.Norm.{dist}
@@ -21,7 +21,7 @@ use Rattle.tier0.specs.Rule.{WORKSPACE, SPEED, ACCEL, JERK, REACH, CONTA
 use Rattle.tier0.specs.Chunk.{rawRow, stepTo, someLonger, someOutOfBox, someOf, exceeds, largeAt, further, tripOf, tooLarge, checkChunk}
 use Rattle.tier0.specs.Refusals.{answerAt}
 use Rattle.tier0.specs.Of.{checksOf, actionRuling, actionRefusal, actionAnswer, chunkRuling, chunkRefusal, chunkAnswer}
-use Rattle.tier0.specs.Promises.{tripsIn, raised, q, zone, ChunkInBox, ChunkSlowEnough, ChunkSlowInZone, ChunkBendsLittle, ChunkJoltsLittle, ChunkInReach, ChunkWithin, checks, here, actionStep, ActionInBox, ActionSlowEnough, ActionSlowInZone, ActionInReach, ActionWithin}
+use Rattle.tier0.specs.Promises.{tripsIn, raised, beforeFirst, zoneNow, ChunkInBox, ChunkSlowEnough, ChunkSlowInZone, ChunkBendsLittle, ChunkJoltsLittle, ChunkInReach, ChunkWithin, zoneHere, actionStep, ActionInBox, ActionSlowEnough, ActionSlowInZone, ActionInReach, ActionWithin}
 use Rattle.tier0.proofs.Promises.{chunkTrips, chunk-workspace-exactly, chunk-speed-exactly, chunk-accel-exactly, chunk-jerk-exactly, chunk-reach-exactly, chunk-contact-exactly, actionTrips, action-workspace-exactly, action-speed-exactly, action-reach-exactly, action-contact-exactly}
 
 -- ---- comparisons of which none holds
@@ -78,23 +78,23 @@ module _ (c : FuseConfig) (p aux rows : List Float) (h d e room : ℕ) where
   unfolding someOutOfBox
   not-out w = none-so (λ (i : ℕ). outOfBox s (rawRow rows (s .dim) i)) h (λ i b. in-box s (rawRow rows (s .dim) i) (w i b))
 
-  not-longer : (most : Float) → ((i : ℕ) → i < h → lt most (stepTo binary64 (q c p aux rows) rows (s .dim) i .value) ≡ false) → someLonger binary64 (q c p aux rows) rows (s .dim) most h ≡ false
+  not-longer : (most : Float) → ((i : ℕ) → i < h → lt most (stepTo binary64 (beforeFirst c p aux rows) rows (s .dim) i .value) ≡ false) → someLonger binary64 (beforeFirst c p aux rows) rows (s .dim) most h ≡ false
   unfolding someLonger
-  not-longer most = none-so (λ (i : ℕ). lt most (stepTo binary64 (q c p aux rows) rows (s .dim) i .value)) h
+  not-longer most = none-so (λ (i : ℕ). lt most (stepTo binary64 (beforeFirst c p aux rows) rows (s .dim) i .value)) h
 
-  not-fast : ChunkSlowEnough c p aux rows h → (arms s SPEED && someLonger binary64 (q c p aux rows) rows (s .dim) (s .«step_max») h) ≡ false
+  not-fast : ChunkSlowEnough c p aux rows h → (arms s SPEED && someLonger binary64 (beforeFirst c p aux rows) rows (s .dim) (s .«step_max») h) ≡ false
   not-fast w = where-so (arms s SPEED) _ (λ a. not-longer (s .«step_max») w)
 
-  not-close : ChunkSlowInZone c p aux rows h → (zone c p aux rows .inside && someLonger binary64 (q c p aux rows) rows (s .dim) (zone c p aux rows .step) h) ≡ false
-  not-close w = where-so (zone c p aux rows .inside) _ (λ a. not-longer (zone c p aux rows .step) (w a))
+  not-close : ChunkSlowInZone c p aux rows h → (zoneNow c p aux rows .inside && someLonger binary64 (beforeFirst c p aux rows) rows (s .dim) (zoneNow c p aux rows .step) h) ≡ false
+  not-close w = where-so (zoneNow c p aux rows .inside) _ (λ a. not-longer (zoneNow c p aux rows .step) (w a))
 
-  not-bent : ChunkBendsLittle c p aux rows h → tooLarge binary64 s Accel (q c p aux rows) rows h .value ≡ false
+  not-bent : ChunkBendsLittle c p aux rows h → tooLarge binary64 s Accel (beforeFirst c p aux rows) rows h .value ≡ false
   unfolding largeAt exceeds
-  not-bent w = none-large s Accel (q c p aux rows) rows h w
+  not-bent w = none-large s Accel (beforeFirst c p aux rows) rows h w
 
-  not-jolted : ChunkJoltsLittle c p aux rows h → tooLarge binary64 s Jerk (q c p aux rows) rows h .value ≡ false
+  not-jolted : ChunkJoltsLittle c p aux rows h → tooLarge binary64 s Jerk (beforeFirst c p aux rows) rows h .value ≡ false
   unfolding largeAt exceeds
-  not-jolted w = none-large s Jerk (q c p aux rows) rows h w
+  not-jolted w = none-large s Jerk (beforeFirst c p aux rows) rows h w
 
   not-far : ChunkInReach c p aux rows → outOfReach binary64 s p (rawRow rows (s .dim) 0) .value ≡ false
   not-far w = in-reach s p (rawRow rows (s .dim) 0) w
@@ -143,8 +143,8 @@ module _ (c : FuseConfig) (p aux prev a : List Float) (room : ℕ) where
   action-not-fast : ActionSlowEnough c p aux prev a → (arms (checksOf c) SPEED && lt (checksOf c .«step_max») (actionStep c p aux prev a)) ≡ false
   action-not-fast w = where-so (arms (checksOf c) SPEED) _ (λ e. w)
 
-  action-not-close : ActionSlowInZone c p aux prev a → (here c p aux prev a .inside && lt (here c p aux prev a .step) (actionStep c p aux prev a)) ≡ false
-  action-not-close w = where-so (here c p aux prev a .inside) _ w
+  action-not-close : ActionSlowInZone c p aux prev a → (zoneHere c p aux prev a .inside && lt (zoneHere c p aux prev a .step) (actionStep c p aux prev a)) ≡ false
+  action-not-close w = where-so (zoneHere c p aux prev a .inside) _ w
 
   pub action-workspace-touched : ActionInBox c p aux prev a → raised WORKSPACE trips-of ≡ false
   action-workspace-touched w = action-from-rule WORKSPACE refl (action-workspace-exactly binary64 (checksOf c) p aux prev a ∙ in-box (checksOf c) a w)

@@ -35,44 +35,44 @@ abbrev pub sizeOf : (ℕ → Checked Float) → ℕ → Float → Float
 sizeOf g n inv = mul binary64 (norm binary64 (each g (replicate 8 +0) n .value) n .value) inv
 
 module _ (c : FuseConfig) (p aux rows : List Float) where
-  abbrev pub s : Checks
-  s = checksOf c
+  abbrev checked : Checks
+  checked = checksOf c
 
   -- what stands before row 0
-  abbrev pub q : List Float
-  q = startRow s p rows
+  abbrev pub beforeFirst : List Float
+  beforeFirst = startRow checked p rows
 
   -- the slow zone as the position and the camera have it
-  abbrev pub zone : Slow
-  zone = slowZone binary64 s p aux .value
+  abbrev pub zoneNow : Slow
+  zoneNow = slowZone binary64 checked p aux .value
 
   -- the step to row i, its second and its third difference
-  abbrev pub stepAt : ℕ → Float
-  stepAt i = stepTo binary64 q rows (s .dim) i .value
+  abbrev stepAt : ℕ → Float
+  stepAt i = stepTo binary64 beforeFirst rows (checked .dim) i .value
 
-  abbrev pub bendAt : ℕ → Float
-  bendAt i = sizeOf (bends binary64 (rawRow rows (s .dim) (i + 1)) (rawRow rows (s .dim) i) (rowBefore q rows (s .dim) i)) (s .dim) (s .«inv_dt2»)
+  abbrev bendAt : ℕ → Float
+  bendAt i = sizeOf (bends binary64 (rawRow rows (checked .dim) (i + 1)) (rawRow rows (checked .dim) i) (rowBefore beforeFirst rows (checked .dim) i)) (checked .dim) (checked .«inv_dt2»)
 
-  abbrev pub joltAt : ℕ → Float
-  joltAt i = sizeOf (jolts binary64 (rawRow rows (s .dim) (i + 2)) (rawRow rows (s .dim) (i + 1)) (rawRow rows (s .dim) i) (rowBefore q rows (s .dim) i)) (s .dim) (s .«inv_dt3»)
+  abbrev joltAt : ℕ → Float
+  joltAt i = sizeOf (jolts binary64 (rawRow rows (checked .dim) (i + 2)) (rawRow rows (checked .dim) (i + 1)) (rawRow rows (checked .dim) i) (rowBefore beforeFirst rows (checked .dim) i)) (checked .dim) (checked .«inv_dt3»)
 
   abbrev pub ChunkInBox : ℕ → Type 0
-  ChunkInBox h = (i : ℕ) → i < h → (j : ℕ) → j < shared s → beyond (wallsOf (s .walls)) (rawRow rows (s .dim) i) j ≡ false
+  ChunkInBox h = (i : ℕ) → i < h → (j : ℕ) → j < shared checked → beyond (wallsOf (checked .walls)) (rawRow rows (checked .dim) i) j ≡ false
 
   abbrev pub ChunkSlowEnough : ℕ → Type 0
-  ChunkSlowEnough h = (i : ℕ) → i < h → lt (s .«step_max») (stepAt i) ≡ false
+  ChunkSlowEnough h = (i : ℕ) → i < h → lt (checked .«step_max») (stepAt i) ≡ false
 
   abbrev pub ChunkSlowInZone : ℕ → Type 0
-  ChunkSlowInZone h = zone .inside ≡ true → (i : ℕ) → i < h → lt (zone .step) (stepAt i) ≡ false
+  ChunkSlowInZone h = zoneNow .inside ≡ true → (i : ℕ) → i < h → lt (zoneNow .step) (stepAt i) ≡ false
 
   abbrev pub ChunkBendsLittle : ℕ → Type 0
-  ChunkBendsLittle h = (i : ℕ) → i < h - 1 → lt (s .«a_max») (bendAt i) ≡ false
+  ChunkBendsLittle h = (i : ℕ) → i < h - 1 → lt (checked .«a_max») (bendAt i) ≡ false
 
   abbrev pub ChunkJoltsLittle : ℕ → Type 0
-  ChunkJoltsLittle h = (i : ℕ) → i < h - 2 → lt (s .«j_max») (joltAt i) ≡ false
+  ChunkJoltsLittle h = (i : ℕ) → i < h - 2 → lt (checked .«j_max») (joltAt i) ≡ false
 
   abbrev pub ChunkInReach : Type 0
-  ChunkInReach = lt (s .«reach_max») (dist binary64 (rawRow rows (s .dim) 0) p (shared s) .value) ≡ false
+  ChunkInReach = lt (checked .«reach_max») (dist binary64 (rawRow rows (checked .dim) 0) p (shared checked) .value) ≡ false
 
 -- none of a chunk's limits
 pub record ChunkWithin (c : FuseConfig) (p aux rows : List Float) (h : ℕ) : Type 0 where
@@ -85,11 +85,11 @@ pub record ChunkWithin (c : FuseConfig) (p aux rows : List Float) (h : ℕ) : Ty
 
 -- an action and its predecessor
 module _ (c : FuseConfig) (p aux prev a : List Float) where
-  abbrev pub checks : Checks
+  abbrev checks : Checks
   checks = checksOf c
 
-  abbrev pub here : Slow
-  here = slowZone binary64 checks p aux .value
+  abbrev pub zoneHere : Slow
+  zoneHere = slowZone binary64 checks p aux .value
 
   abbrev pub actionStep : Float
   actionStep = dist binary64 a prev (checks .dim) .value
@@ -101,7 +101,7 @@ module _ (c : FuseConfig) (p aux prev a : List Float) where
   ActionSlowEnough = lt (checks .«step_max») actionStep ≡ false
 
   abbrev pub ActionSlowInZone : Type 0
-  ActionSlowInZone = here .inside ≡ true → lt (here .step) actionStep ≡ false
+  ActionSlowInZone = zoneHere .inside ≡ true → lt (zoneHere .step) actionStep ≡ false
 
   abbrev pub ActionInReach : Type 0
   ActionInReach = lt (checks .«reach_max») (dist binary64 a p (shared checks) .value) ≡ false
