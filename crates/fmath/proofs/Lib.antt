@@ -8,3 +8,4 @@ pub mod Sign
 pub mod Clamping
 pub mod Extremes
 pub mod Copy
+pub mod Promises
