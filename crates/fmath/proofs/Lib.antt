@@ -9,3 +9,4 @@ pub mod Clamping
 pub mod Extremes
 pub mod Copy
 pub mod Promises
+pub mod Chosen
