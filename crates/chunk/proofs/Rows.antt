@@ -86,10 +86,6 @@ module _ (l : List Float) (h d i : ℕ) where
   unfolding rowOf
   row-is-part e = rw e
 
-  pub row-is-empty : rowIn l h d i ≡ false → rowOf l h d i ≡ []
-  unfolding rowOf
-  row-is-empty e = rw e
-
   -- entry c of row i
   pub row-entry : rowIn l h d i ≡ true → (c : ℕ) → c < d → at (rowOf l h d i) c ≡ at l (rowStart h d i + c)
   row-entry e c lt = rw (row-is-part e, getD-take, getD-drop)
