@@ -1,5 +1,5 @@
 -- The rules at the declared structs.
-use Prim.Native.Nat.{ℕ}
+use Prim.Native.Nat.{ℕ, _+_, _*_}
 use mathlib.Core.Path.{_≡_}
 use mathlib.Core.Bool.{Bool, true, false}
 use mathlib.Core.List.{List}
@@ -7,13 +7,14 @@ use lib.Dec.{eqb}
 use lib.Ieee.{Float}
 use lib.ListN.{length, replicate}
 use lib.Seq.{paste}
-use denote.Ref.{RefT, now}
+use denote.Ref.{RefT, now, ptr}
 use Rattle.fmath.specs.Finite.{+0}
 use Rattle.refusal.specs.Order.{refusal, if_then_else_}
 use Rattle.chunk.specs.declared.ChunkBuf.{ChunkBuf}
 use Rattle.chunk.specs.declared.ChunkView.{ChunkView}
 use Rattle.chunk.specs.declared.Filled.{Filled}
-use Rattle.chunk.specs.Rule.{heldSize, heldRows}
+use Rattle.chunk.specs.declared.Part.{Part}
+use Rattle.chunk.specs.Rule.{rowStart, rowWithin, rowOf, heldSize, heldRows}
 use Rattle.chunk.specs.Refusals.{lentReasons, heldReasons}
 
 -- a buffer that holds no chunk yet
@@ -44,6 +45,14 @@ isFilledOf b = b .filled
 -- the number for a held chunk
 unfoldable pub heldRefusalOf : ChunkBuf → ℕ
 heldRefusalOf b = if b .filled then refusal (heldReasons (b .«data») (b .horizon) (b .dim) (b .«exec_steps»)) else 0
+
+-- where row i lies among n numbers: from its start, d long, or an empty part
+unfoldable pub partOf : ℕ → ℕ → ℕ → ℕ → Part
+partOf n h d i = if rowWithin n h d i then record { start = rowStart h d i; end = rowStart h d i + d } else record { start = 0; end = 0 }
+
+-- r is row i of lent numbers, and in its place: a number takes 8 bytes
+abbrev pub IsRow : RefT (List Float) → RefT (List Float) → ℕ → ℕ → ℕ → Type 0
+IsRow r l h d i = (now r ≡ rowOf (now l) h d i) × (ptr r ≡ (ptr l .0, partOf (length (now l)) h d i .start * 8 + ptr l .1))
 
 -- the view of lent rows
 abbrev pub viewOf : ℕ → ℕ → ℕ → ℕ → ℕ → RefT (List Float) → ChunkView

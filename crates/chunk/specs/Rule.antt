@@ -16,9 +16,13 @@ rowIndex h i = min i (h - 1)
 abbrev pub rowStart : ℕ → ℕ → ℕ → ℕ
 rowStart h d i = rowIndex h i * d
 
--- there are rows, and that one does not run past the numbers
+-- there are rows, and that one does not run past n numbers
+abbrev pub rowWithin : ℕ → ℕ → ℕ → ℕ → Bool
+rowWithin n h d i = not (eqb h 0) && leb (rowStart h d i + d) n
+
+-- .. past the numbers of a list
 abbrev pub rowIn : List Float → ℕ → ℕ → ℕ → Bool
-rowIn l h d i = not (eqb h 0) && leb (rowStart h d i + d) (length l)
+rowIn l h d i = rowWithin (length l) h d i
 
 -- row i: the part from its start, d long, or an empty one
 unfoldable pub rowOf : List Float → ℕ → ℕ → ℕ → List Float

@@ -4,7 +4,7 @@ ghost use Prim.Native.Nat.{_<_};
 ghost use Rattle.refusal.specs.Order.{refusal};
 ghost use Rattle.chunk.specs.Rule.{rowStart, rowOf, rowSet, heldSize, heldRows};
 ghost use Rattle.chunk.specs.Refusals.{chunkReasons, lentReasons};
-ghost use Rattle.chunk.specs.Of.{newChunk, fillOf, copyOf, clearedOf, isFilledOf, heldRefusalOf, viewOf, Shows, ShowsHeld};
+ghost use Rattle.chunk.specs.Of.{newChunk, fillOf, copyOf, clearedOf, isFilledOf, heldRefusalOf, partOf, IsRow, viewOf, Shows, ShowsHeld};
 use refusal::Refusal;
 
 // The numbers of a chunk in row-major order: row i starts at i x dim.
@@ -32,6 +32,12 @@ pub struct ChunkView<'a> {
     pub dim: u16,
     pub exec_steps: u16,
     pub data: &'a [f64],
+}
+
+// The places from start on, before end.
+struct Part {
+    start: usize,
+    end: usize,
 }
 
 // The number for a chunk's sizes, in the order of `fill`, where its rows are len numbers; 0 where they are accepted.
@@ -181,35 +187,39 @@ fn row_start(horizon: u16, dim: u16, i: usize) -> usize
     fmath::fewer(i, (horizon as usize) - 1) * (dim as usize)
 }
 
-// Row i as a part of the rows, the last row at or past the horizon; empty where there are no rows or it runs past the data.
-fn row_of(data: &[f64], horizon: u16, dim: u16, i: usize) -> &[f64]
-    ensures { λ r. ⌜ now r ≡ rowOf (now («data» .entry)) horizon dim i ⌝ }
+// Where row i lies among len numbers, the last row at or past the horizon; an empty part where there are no rows or it runs past the numbers.
+fn row_part(len: usize, horizon: u16, dim: u16, i: usize) -> Part
+    ensures { λ r. ⌜ r ≡ partOf len horizon dim i ⌝ }
 {
     if horizon == 0 {
-        return &data[..0];
+        return Part { start: 0, end: 0 };
     }
     let start = row_start(horizon, dim, i);
     let end = start + (dim as usize);
-    if end <= data.len() {
-        &data[start..end]
-    } else {
-        &data[..0]
+    if end <= len {
+        return Part { start, end };
     }
+    Part { start: 0, end: 0 }
 }
 
-// The same part, to be written.
-pub fn row_mut(data: &mut [f64], horizon: u16, dim: u16, i: usize) -> &mut [f64]
-    ensures { λ r. ⌜ now r ≡ rowOf (now («data» .entry)) horizon dim i ⌝ }
+// Row i as a part of the rows, where `row_part` says.
+fn row_of(rows: &[f64], horizon: u16, dim: u16, i: usize) -> &[f64]
+    ensures { λ r. ⌜ now r ≡ rowOf (now (rows .entry)) horizon dim i ⌝ }
 {
-    if horizon == 0 {
-        return &mut data[..0];
-    }
-    let start = row_start(horizon, dim, i);
-    let end = start + (dim as usize);
-    if end <= data.len() {
-        return &mut data[start..end];
-    }
-    &mut data[..0]
+    let part = row_part(rows.len(), horizon, dim, i);
+    let start = part.start;
+    let end = part.end;
+    &rows[start..end]
+}
+
+// The same part, in its place among the numbers, to be written.
+pub fn row_mut(data: &mut [f64], horizon: u16, dim: u16, i: usize) -> &mut [f64]
+    ensures { λ r. ⌜ IsRow r («data» .entry) horizon dim i ⌝ }
+{
+    let part = row_part(data.len(), horizon, dim, i);
+    let start = part.start;
+    let end = part.end;
+    &mut data[start..end]
 }
 
 // Writes the numbers of row over that part, as many as both have; the rest stays.

@@ -8,3 +8,5 @@ pub mod Sign
 pub mod Clamping
 pub mod Extremes
 pub mod Copy
+pub mod Promises
+pub mod Chosen

@@ -1,14 +1,14 @@
 -- What `sqrt`, `norm` and `dist` answer: a number, or why there is none.
 use Prim.Native.Nat.{ℕ, zero, suc}
-use mathlib.Core.Bool.{Bool, false, not, _||_}
+use mathlib.Core.Bool.{Bool, true, false, not, _||_}
 use mathlib.Core.List.{List, [], _∷_}
 use lib.Dec.{ltb}
 use lib.ListN.{length}
-use lib.Ieee.{Float, Format}
+use lib.Ieee.{Float, Format, nan, inf, fin, lt}
 use Rattle.refusal.specs.Order.{short, notFinite, computed, _when_, refusal, refusedFor}
 use Rattle.fmath.specs.declared.Number.{Number}
 use Rattle.fmath.specs.declared.Number.the-variants.{Value, Refused}
-use Rattle.fmath.specs.Finite.{allFinite}
+use Rattle.fmath.specs.Finite.{+0, allFinite}
 use Rattle.fmath.specs.Checked.{root}
 use Rattle.fmath.specs.Norm.{norm, dist}
 
@@ -30,6 +30,12 @@ unfoldable pub someLentNotFinite : List (List Float) → Bool
 unfolding some-from
 someLentNotFinite [] = false
 someLentNotFinite (v ∷ l) = some-from (someNotFinite v) l
+
+-- there is no root of a NaN, of an infinity, and of a number below zero
+unfoldable pub noRoot : Float → Bool
+noRoot nan = true
+noRoot (inf s) = true
+noRoot (fin s m e) = lt (fin s m e) +0
 
 abbrev pub sqrtAnswer : Format → Float → Number
 sqrtAnswer f x = numberOr (refusal (computed when not (root f x .sound) ∷ [])) (root f x .value)

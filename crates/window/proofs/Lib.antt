@@ -4,3 +4,4 @@ pub mod TrailJudged
 pub mod TrailTold
 pub mod Ranges
 pub mod LastSamples
+pub mod OneAnswer

@@ -1,60 +1,33 @@
--- `chunk::row_mut` meets its contract, by its three ways out; a place in the rows is a product of two numbers of 16 bits, so it fits.
-use native.Mathlib.Nat.{pos-of-ne-zero}
+-- `chunk::row_mut` meets its contract: the part that it gives lies among the numbers, holds the row and stands in its place.
+use Prim.Native.Nat.{_+_, _*_}
+use mathlib.Core.Path.{ap}
 use native.Mathlib.Omega.{arith}
 use borrow.Author.Needs.{needs}
-use Rattle.chunk.proofs.Rows.{start-small, empty-without-rows, part-is-row, empty-past}
+use Rattle.chunk.specs.declared.Part.{Part}
+use Rattle.chunk.proofs.Rows.{part-ordered, part-within, part-holds}
 use Rattle.chunk.proofs.row_mut.Statement.{statement}
 use Rattle.chunk.proofs.row_mut.Tie as tie
 
-slice-aggregate-result : tie.Need-slice-aggregate-result
-slice-aggregate-result c = search needs
-
-returns : tie.Need-returns
-returns c = empty-without-rows _ _ _ _ (c .before .if1 .taken)
-
-row-start-requires : tie.Need-row-start-requires
-row-start-requires c κs = pos-of-ne-zero (c .if1 .left)
-
-add-end : tie.Need-add-end
-add-end c = let a = c .before .before .before .args in omega (arith, c .row-start .ensures, start-small (a .horizon) (a .dim) (a .i) (search needs) (search needs))
+row-part-requires : tie.Need-row-part-requires
+row-part-requires c κs = search needs
 
 mul-data : tie.Need-mul-data
-mul-data c = search needs
+mul-data c = omega (arith, part-ordered _ _ _ _ _ (c .row-part .ensures), part-within _ _ _ _ _ (c .row-part .ensures))
 
 sub-result : tie.Need-sub-result
-sub-result c = search needs
+sub-result c = part-ordered _ _ _ _ _ (c .row-part .ensures)
 
 part-data-start : tie.Need-part-data-start
-part-data-start c = search needs
+part-data-start c = part-ordered _ _ _ _ _ (c .row-part .ensures)
 
 part-data-end : tie.Need-part-data-end
-part-data-end c = search needs
+part-data-end c = part-within _ _ _ _ _ (c .row-part .ensures)
 
-returns-2 : tie.Need-returns-2
-returns-2 c =
-    let a = c .before .before .before .before .before .args in
-    part-is-row (a .«data» .now) (a .horizon) (a .dim) (a .i) _ (c .before .before .before .if1 .left) (c .before .before .row-start .ensures) (c .before .if2 .taken)
-
-slice-aggregate-result-2 : tie.Need-slice-aggregate-result-2
-slice-aggregate-result-2 c = search needs
-
-returns-3 : tie.Need-returns-3
-returns-3 c =
-    let a = c .before .before .before .before .before .args in
-    empty-past (a .«data» .now) (a .horizon) (a .dim) (a .i) _ (c .before .before .before .if1 .left) (c .before .before .row-start .ensures) (c .before .if2 .left)
+returns : tie.Need-returns
+returns c =
+    let l = c .before .before .before .args .«data» in
+    let e = c .before .row-part .ensures in
+    (part-holds _ _ _ _ _ e, ap (λ (p : Part). (l .ptr .0, p .start * 8 + l .ptr .1)) e)
 
 pub row-mut-spec : {M : Type 1} → statement M
-row-mut-spec =
-    tie.close
-    (tie.spec
-    slice-aggregate-result
-    returns
-    row-start-requires
-    add-end
-    mul-data
-    sub-result
-    part-data-start
-    part-data-end
-    returns-2
-    slice-aggregate-result-2
-    returns-3)
+row-mut-spec = tie.close (tie.spec row-part-requires mul-data sub-result part-data-start part-data-end returns)

@@ -25,6 +25,15 @@ at-place a b [] i h = absurd (omega arith)
 at-place a b (k ∷ l) zero h = refl
 at-place a b (k ∷ l) (suc i) h = at-place a b l i (omega arith)
 
+-- .. by whether one of the two numbers is met there
+met : (a b : ℕ) (l : List Reason) (i : ℕ) → i < length l → (eqb a (getD (numbers l) i 0) || eqb b (getD (numbers l) i 0)) ≡ true
+    → firstOf (named a or named b) (drop i l) ≡ getD (numbers l) i 0
+met a b l i h e = at-place a b l i h ∙ rw e
+
+passed : (a b : ℕ) (l : List Reason) (i : ℕ) → i < length l → (eqb a (getD (numbers l) i 0) || eqb b (getD (numbers l) i 0)) ≡ false
+    → firstOf (named a or named b) (drop i l) ≡ firstOf (named a or named b) (drop (suc i) l)
+passed a b l i h e = at-place a b l i h ∙ rw e
+
 none : (a b : ℕ) → (eqb a 0 && eqb b 0) ≡ true → 0 ≡ earlier a b
 none zero zero e = refl
 none zero (suc b) e = absurd (false≢true (rw (ne-eqb (suc b) 0 (λ z. omega arith)) at e))
@@ -46,7 +55,7 @@ array-read-n : tie.Need-array-read-n Inv-loop μ-loop
 array-read-n c = search needs
 
 returns-2 : tie.Need-returns-2 Inv-loop μ-loop
-returns-2 c = let l = c .before .before .loop in let g = c .before .before .before .before .args in sym (l .inv .1 ∙ at-place (g .a) (g .b) order (l .i) (c .before .loop-test .taken) ∙ rw (c .if2 .taken))
+returns-2 c = let l = c .before .before .loop in let g = c .before .before .before .before .args in sym (l .inv .1 ∙ met (g .a) (g .b) order (l .i) (c .before .loop-test .taken) (c .if2 .taken))
 
 add-i : tie.Need-add-i Inv-loop μ-loop
 add-i c = search needs
@@ -58,7 +67,7 @@ loop-again : tie.Need-loop-again Inv-loop μ-loop
 loop-again c =
     let l = c .before .before .loop in
     let g = c .before .before .before .before .args in
-    (omega arith, rw add-one (l .inv .1 ∙ at-place (g .a) (g .b) order (l .i) (c .before .loop-test .taken) ∙ rw (c .if2 .left)))
+    (omega arith, rw add-one (l .inv .1 ∙ passed (g .a) (g .b) order (l .i) (c .before .loop-test .taken) (c .if2 .left)))
 
 returns-3 : tie.Need-returns-3 Inv-loop μ-loop
 returns-3 c = let l = c .before .loop in sym (l .inv .1 ∙ ap (λ (i : ℕ). firstOf (named (c .before .before .before .args .a) or named (c .before .before .before .args .b)) (drop i order)) (le-antisymm (l .inv .0) (c .loop-test .left)))
