@@ -38,6 +38,10 @@ unfolding failed
 negative-failed (pos k) = le-ltb k 0 (omega arith)
 negative-failed (negsuc k) = refl
 
+pub read-is : (n : ℕ) (got : ℤ) {more : ℕ} {b : Bool} → more ≡ given got → b ≡ failed got → _≡_ {A = Filled} (record { n = n + more; more = more; failed = b }) (after n got)
+unfolding after
+read-is n got e f = rw (e, f)
+
 -- ---- by how much is given
 
 pub moved-most : (z : ℤ) (n : ℕ) → Moved n z → given z ≤ n
