@@ -1,14 +1,15 @@
--- Where the input is cut into blocks of whole records does not matter: the lines of all blocks, one after the other, are the text of all the input.
+-- Where the input is cut into blocks does not matter, as long as each but the last has whole records: their texts, one after the other, are the text of all the input.
 use mathlib.Core.Path.{_≡_, refl}
-use mathlib.Core.List.{List, _++_, append-assoc, append-nil}
+use mathlib.Core.List.{List, [], _∷_, _++_, flatten, append-assoc, append-nil}
 use Prim.Native.Nat.{ℕ, zero, suc, _+_, _*_, _/_, _%_, _≤_}
 use native.Mathlib.Nat.{add-assoc, add-zero, add-suc}
 use native.Mathlib.Omega.{arith}
+use borrow.Author.Tests.{eq-eqb}
 use lib.ListN.{length, length-append, List·getD-append}
 use lib.Seq.{getD-append-add}
 use Rattle.words.specs.Little.{little}
 use Rattle.card.specs.Record.{cardAt}
-use Rattle.card.specs.Block.{lineAt, lines, rest, text}
+use Rattle.card.specs.Block.{lineAt, lines, rest, text, texts, WholeButLast}
 
 module _ (a b : List ℕ) where
   little-left : (k at : ℕ) → at + k ≤ length a → little k (a ++ b) at ≡ little k a at
@@ -80,9 +81,26 @@ module _ (a b : List ℕ) where
         rw (add-suc, lines-right j, e, card-right (j * 96), ← add-assoc n w j, append-assoc)
 
     -- a block of w whole records, and then what is left
-    pub blocks : text n (a ++ b) ≡ lines n a w ++ text (n + w) b
+    pub cut : text n (a ++ b) ≡ lines n a w ++ text (n + w) b
     unfolding text rest
-    blocks =
+    cut =
         let q : length (a ++ b) / 96 ≡ w + length b / 96 = omega (arith, length-append a b) in
         let r : length (a ++ b) % 96 ≡ length b % 96 = omega (arith, length-append a b) in
         rw (q, r, lines-right (length b / 96), ← add-assoc n w (length b / 96), append-assoc)
+
+-- the text of a block of whole records is their lines
+whole-text : (n : ℕ) (a : List ℕ) → length a % 96 ≡ 0 → text n a ≡ lines n a (length a / 96)
+unfolding text rest
+whole-text n a h = rw (eq-eqb (length a % 96) 0 h, append-nil)
+
+-- any number of blocks, each numbered from where the one before it ended
+pub blocks : (n : ℕ) (bs : List (List ℕ)) → WholeButLast bs → texts n bs ≡ text n (flatten bs)
+unfolding texts text rest lines flatten
+blocks n [] h = refl
+blocks n (a ∷ []) h = rw (append-nil (text n a), append-nil a)
+blocks n (a ∷ b ∷ bs) h =
+    rw (
+      whole-text n a (h .0),
+      blocks (n + length a / 96) (b ∷ bs) (h .1),
+      cut a (flatten (b ∷ bs)) n (length a / 96) (omega (arith, h .0)),
+    )

@@ -1,6 +1,6 @@
 -- What it means that the lines of a block fit, and what is answered where they do and where they do not.
-use mathlib.Core.Path.{_≡_}
-use mathlib.Core.Bool.{true, false}
+use mathlib.Core.Path.{_≡_, refl}
+use mathlib.Core.Bool.{Bool, true, false}
 use mathlib.Core.List.{List}
 use Prim.Native.Nat.{ℕ, _+_, _-_, _*_, _/_, _^_, _≤_, _<_}
 use native.Mathlib.Omega.{arith}
@@ -40,3 +40,15 @@ pub unfit : (n : ℕ) (l out : List ℕ)
     → (_≡_ {A = Answered} (record { bytes = 0; next = 0 }) (answeredFor n l (length out))) × (out ≡ outFor n l out) × (0 ≤ length out)
 unfolding answeredFor outFor
 unfit n l out h = (rw h, rw h, omega arith)
+
+-- the next record has a number: it is the first one's, so many records on, and has 64 bits
+pub numbered : (n : ℕ) (l : List ℕ) (room : ℕ)
+    → (answeredFor n l room .next ≡ 0 → ⊥)
+    → (answeredFor n l room .next ≡ n + length l / 96) × (length l / 96 ≤ 18446744073709551615 - n)
+unfolding answeredFor fits
+numbered n l room = either (fits room (length l) n) refl
+  where
+    either : (b : Bool) → fits room (length l) n ≡ b → (answeredFor n l room .next ≡ 0 → ⊥)
+        → (answeredFor n l room .next ≡ n + length l / 96) × (length l / 96 ≤ 18446744073709551615 - n)
+    either true e h = (rw e, leb-true _ _ (and-right (ltb (length l / 96) (room / 97)) _ e))
+    either false e h = absurd (h (rw e))

@@ -1,6 +1,7 @@
 -- What the contracts of `card::block` cite: the lines of a block of records.
+use mathlib.Core.Path.{_≡_}
 use mathlib.Core.Bool.{Bool, _&&_}
-use mathlib.Core.List.{List, [], _++_}
+use mathlib.Core.List.{List, [], _∷_, _++_}
 use Prim.Native.Nat.{ℕ, zero, suc, _+_, _-_, _*_, _/_, _%_}
 use lib.Dec.{ltb, leb, eqb}
 use lib.ListN.{length}
@@ -31,6 +32,17 @@ rest n l = if eqb (length l % 96) 0 then [] else line (n + length l / 96) (numbe
 -- all that the bytes l are answered, from record n on
 unfoldable pub text : ℕ → List ℕ → List ℕ
 text n l = lines n l (length l / 96) ++ rest n l
+
+-- the texts of blocks, one after the other, each numbered from where the one before it ended
+unfoldable pub texts : ℕ → List (List ℕ) → List ℕ
+texts n [] = []
+texts n (b ∷ bs) = text n b ++ texts (n + length b / 96) bs
+
+-- each block but the last has whole records alone
+abbrev pub WholeButLast : List (List ℕ) → Type 0
+WholeButLast [] = Unit
+WholeButLast (b ∷ []) = Unit
+WholeButLast (b ∷ c ∷ bs) = (length b % 96 ≡ 0) × WholeButLast (c ∷ bs)
 
 -- room for a line of 97 bytes for each record and one more, and a number of 64 bits for the record after them
 unfoldable pub fits : ℕ → ℕ → ℕ → Bool

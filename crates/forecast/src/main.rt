@@ -2,16 +2,39 @@
 //
 // A block is filled by as many reads as it takes, so a record may straddle reads and never straddles blocks: only the last block of the
 // input is not full, and what `card::answer_block` finds past its whole records is the input's rest.
+//
+// No contract can speak of what a read gives or a write takes. Their answers are kept as they came, in `Filled` and `Block`, and every
+// contract says what follows from them.
+ghost use mathlib.Core.Bool.{false};
 ghost use mathlib.Core.Path.{_≡_};
-ghost use Prim.Native.Nat.{_≤_};
+ghost use Prim.Native.Nat.{_+_, _^_, _≤_, _<_};
 ghost use lib.ListN.{length};
+ghost use Rattle.forecast.specs.Run.{given, after, Read, readsOn, answered, Turned, goesOn, endOf};
+use card::Answered;
+use libc::STDERR_FILENO;
 use libc::STDIN_FILENO;
 use libc::STDOUT_FILENO;
 
-// How many bytes a block holds, and whether a read failed.
+// How many bytes a block holds, how many of them the last read gave, and whether it failed.
 struct Filled {
     n: usize,
+    more: usize,
     failed: bool,
+}
+
+// A block that was read and answered: how it was filled, what `answer_block` says of its lines, and whether they were written.
+struct Block {
+    filled: Filled,
+    answer: Answered,
+    wrote: bool,
+}
+
+// How the run ended.
+enum End {
+    InputEnded,
+    ReadFailed,
+    WriteFailed,
+    NumbersEnded,
 }
 
 // 682 records of 96 bytes.
@@ -28,59 +51,135 @@ fn output_buffer() -> [u8; 66251]
     [0; 66251]
 }
 
-// Reads until the buffer is full, the input ends or a read fails. A read that gives less than asked is not the end.
-fn fill(buf: &mut [u8]) -> Filled
-    ensures { λ r. ⌜ r .n ≤ length (now (buf .entry)) ⌝ }
+// How many bytes a read gave.
+fn given(got: isize) -> usize
+    ensures { λ r. ⌜ r ≡ given got ⌝ }
 {
-    let mut n: usize = 0;
-    while n < buf.len() {
-        let got = libc::read(STDIN_FILENO, &mut buf[n..]);
-        if got < 0 {
-            return Filled { n, failed: true };
-        }
-        let more = io::count(got, &buf[n..]);
-        if more == 0 {
-            return Filled { n, failed: false };
-        }
-        n += more;
+    if 0 < got { got as usize } else { 0 }
+}
+
+// A block that held n bytes, after a read with this answer: -1 where it failed, else how many bytes it gave.
+fn after(n: usize, got: isize) -> Filled
+    requires { ⌜ n + given got < 2 ^ 64 ⌝ }
+    ensures { λ r. ⌜ r ≡ after n got ⌝ }
+{
+    let more = given(got);
+    Filled {
+        n: n + more,
+        more,
+        failed: got < 0,
     }
-    Filled { n, failed: false }
+}
+
+// Reads once, behind the n bytes that the block holds.
+fn read(buf: &mut [u8], n: usize) -> Filled
+    requires { ⌜ n ≤ length (now buf) ⌝ }
+    ensures { λ r. ⌜ Read n (now (buf .entry)) (now (buf .exit)) r ⌝ }
+{
+    let got = libc::read(STDIN_FILENO, &mut buf[n..]);
+    after(n, got)
+}
+
+// Whether to read on: there is room, and the last read gave something. A read that gives less than asked is not the end.
+fn reads_on(f: Filled, room: usize) -> bool
+    ensures { λ r. ⌜ r ≡ readsOn f room ⌝ }
+{
+    (f.n < room) & (0 < f.more)
+}
+
+// Reads until the buffer is full, the input ends or a read fails.
+fn fill(buf: &mut [u8]) -> Filled
+    ensures { λ r. ⌜ (r .n ≤ length (now (buf .exit))) × (readsOn r (length (now (buf .exit))) ≡ false) ⌝ }
+{
+    let mut f = Filled {
+        n: 0,
+        more: 1,
+        failed: false,
+    };
+    while reads_on(f, buf.len()) {
+        f = read(buf, f.n);
+    }
+    f
 }
 
 // How many bytes of a block are answered: all or, where a read failed, its whole records, since the input has not ended.
 fn answered(f: Filled) -> usize
-    ensures { λ r. ⌜ r ≤ f .n ⌝ }
+    ensures { λ r. ⌜ r ≡ answered f ⌝ }
 {
     if f.failed { f.n - f.n % 96 } else { f.n }
 }
 
-// Reads a block, answers it and writes the lines. Gives the number of the next record, or 0 where there is no more to do.
-fn turn(input: &mut [u8], out: &mut [u8], next: u64) -> u64 {
-    let got = fill(input);
-    let n = answered(got);
-    let a = card::answer_block(&input[..n], next, out);
-    let bytes = a.bytes;
+// Reads a block, answers it and writes the lines.
+fn turn(input: &mut [u8], out: &mut [u8], first: u64) -> Block
+    ensures { λ r. ⌜ Turned first (now (input .exit)) (now (out .entry)) (now (out .exit)) r ⌝ }
+{
+    let filled = fill(input);
+    let n = answered(filled);
+    let answer = card::answer_block(&input[..n], first, out);
+    let bytes = answer.bytes;
     let wrote = io::write_all(STDOUT_FILENO, &out[..bytes]);
-    if wrote & (n == input.len()) {
-        a.next
-    } else {
-        0
+    Block {
+        filled,
+        answer,
+        wrote,
     }
 }
 
-// The count of blocks is one that no input reaches: each loop has to end.
+// Whether another block is read.
+fn goes_on(t: Block, room: usize) -> bool
+    ensures { λ r. ⌜ r ≡ goesOn t room ⌝ }
+{
+    t.wrote & (t.filled.n == room) & (t.answer.next != 0)
+}
+
+// Block after block, until one is the last.
+fn run(input: &mut [u8], out: &mut [u8]) -> Block
+    requires { ⌜ length (now input) ≡ 65472 ⌝ }
+    ensures { λ r. ⌜ goesOn r 65472 ≡ false ⌝ }
+{
+    let mut t = turn(input, out, 1);
+    while goes_on(t, input.len()) {
+        t = turn(input, out, t.answer.next);
+    }
+    t
+}
+
+fn end_of(t: Block) -> End
+    ensures { λ r. ⌜ r ≡ endOf t ⌝ }
+{
+    if !t.wrote {
+        return End::WriteFailed;
+    }
+    if t.filled.failed {
+        return End::ReadFailed;
+    }
+    if t.answer.next == 0 {
+        return End::NumbersEnded;
+    }
+    End::InputEnded
+}
+
+// Says on standard error what broke the run off.
+fn say(e: End) {
+    match e {
+        End::InputEnded => {}
+        End::ReadFailed => {
+            io::write_all(STDERR_FILENO, b"forecast: a read failed\n");
+        }
+        End::WriteFailed => {
+            io::write_all(STDERR_FILENO, b"forecast: a write failed\n");
+        }
+        End::NumbersEnded => {
+            io::write_all(STDERR_FILENO, b"forecast: the numbers of records ended\n");
+        }
+    }
+}
+
 fn main() {
     let mut input_space = input_buffer();
     let mut output_space = output_buffer();
     let input: &mut [u8] = &mut input_space;
     let out: &mut [u8] = &mut output_space;
-    let mut next: u64 = 1;
-    let mut blocks: u64 = 20_000_000_000_000_000;
-    while 0 < blocks {
-        next = turn(input, out, next);
-        if next == 0 {
-            return;
-        }
-        blocks -= 1;
-    }
+    let t = run(input, out);
+    say(end_of(t));
 }

@@ -1,14 +1,15 @@
 -- What the contracts of `sample::config` cite: the configuration that a record's first 57 words stand for.
-use mathlib.Core.Bool.{Bool}
+use mathlib.Core.Bool.{Bool, _&&_}
 use mathlib.Core.List.{List, [], _∷_}
 use Prim.Native.Nat.{ℕ, _+_, _-_}
-use lib.Dec.{ltb}
+use lib.Dec.{ltb, eqb}
 use lib.ListN.{replicate}
 use lib.Ieee.{Float, binary64}
-use Rattle.refusal.specs.Order.{if_then_else_}
+use Rattle.refusal.specs.Order.{refusal, if_then_else_}
 use Rattle.fmath.specs.Each.{over}
 use Rattle.fmath.specs.Finite.{+0}
 use Rattle.envelope.specs.declared.FuseConfig.{FuseConfig}
+use Rattle.envelope.specs.Refusals.{configJudged}
 use Rattle.envelope.specs.Derive.{derived}
 use Rattle.layout.specs.Config.{configOf, derivedFlat}
 use Rattle.sample.specs.Record.{count, num, sameFrom}
@@ -31,6 +32,6 @@ countsAt b =
 unfoldable pub configAt : List ℕ → FuseConfig
 configAt b = configOf (numbersAt b) (countsAt b) (replicate 192 +0) (replicate 192 +0)
 
--- a configuration; what is derived from it
+-- a configuration, which is accepted; what is derived from it
 unfoldable pub deriveAgrees : List ℕ → Bool
-deriveAgrees b = sameFrom (derivedFlat (derived binary64 (configAt b))) b 57
+deriveAgrees b = eqb (refusal (configJudged (configAt b))) 0 && sameFrom (derivedFlat (derived binary64 (configAt b))) b 57

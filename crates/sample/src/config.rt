@@ -85,11 +85,15 @@ pub(crate) fn config(b: &[u8]) -> FuseConfig
     layout::config::config_of(&n, &c, &center, &scale)
 }
 
+// Whether the configuration is accepted, and the record's numbers are derived from it.
 pub(crate) fn derive_agrees(b: &[u8]) -> bool
     ensures { λ r. ⌜ r ≡ deriveAgrees (now (b .entry)) ⌝ }
 {
-    let d = envelope::derive(config(b));
+    let c = config(b);
+    let number = envelope::config_refusal(c);
+    let d = envelope::derive(c);
     let mut l = [0.0; 29];
     layout::config::put_derived(d, &mut l);
-    same_from(&l, b, 57)
+    let derived = same_from(&l, b, 57);
+    (number == 0) & derived
 }

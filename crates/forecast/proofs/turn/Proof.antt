@@ -1,8 +1,9 @@
--- `forecast::turn` meets its contract: a part that is read fits the input, and the lines fit the output.
+-- `forecast::turn` meets its contract: what is answered fits what is read, and the lines fit the output.
 use mathlib.Core.Path.{sym}
 use native.Mathlib.Omega.{arith}
 use lib.Seq.{length-take-le}
 use borrow.Author.Needs.{needs}
+use Rattle.forecast.proofs.Numbers.{answered-most}
 use Rattle.forecast.proofs.turn.Statement.{statement}
 use Rattle.forecast.proofs.turn.Tie as tie
 
@@ -13,10 +14,10 @@ answered-requires : tie.Need-answered-requires
 answered-requires c κs = search needs
 
 slice-reshare-prefix-answer-block : tie.Need-slice-reshare-prefix-answer-block
-slice-reshare-prefix-answer-block c = search needs
+slice-reshare-prefix-answer-block c = let f = c .before .before .before .fill in omega (arith, c .answered .ensures, answered-most (f .result), f .ensures .0)
 
 slice-aggregate-answer-block : tie.Need-slice-aggregate-answer-block
-slice-aggregate-answer-block c = sym (length-take-le _ _ (omega (arith, c .before .answered .ensures, c .before .before .before .before .fill)))
+slice-aggregate-answer-block c = sym (length-take-le _ _ (slice-reshare-prefix-answer-block (c .before)))
 
 answer-block-requires : tie.Need-answer-block-requires
 answer-block-requires c κs = search needs
@@ -37,16 +38,10 @@ same-length-2 : tie.Need-same-length-2
 same-length-2 c = search needs
 
 returns : tie.Need-returns
-returns c = search needs
-
-same-length-3 : tie.Need-same-length-3
-same-length-3 c = search needs
-
-same-length-4 : tie.Need-same-length-4
-same-length-4 c = search needs
-
-returns-2 : tie.Need-returns-2
-returns-2 c = search needs
+returns c =
+    let a = c .before .before .before .before .answer-block .ensures in
+    let n = c .before .before .before .before .before .before .before .answered .ensures in
+    record { filled = c .before .before .before .before .before .before .before .before .before .before .fill .ensures .1; answer = rw n at (a .0); lines = rw n at (a .1) }
 
 pub turn-spec : {M : Type 1} → statement M
 turn-spec =
@@ -62,7 +57,4 @@ turn-spec =
     write-all-requires
     same-length
     same-length-2
-    returns
-    same-length-3
-    same-length-4
-    returns-2)
+    returns)

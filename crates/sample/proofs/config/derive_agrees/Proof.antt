@@ -17,6 +17,9 @@ long d = refl
 config-requires : tie.Need-config-requires
 config-requires c κs = search needs
 
+config-refusal-requires : tie.Need-config-refusal-requires
+config-refusal-requires c κs = search needs
+
 derive-requires : tie.Need-derive-requires
 derive-requires c κs = search needs
 
@@ -31,13 +34,14 @@ same-from-requires c κs = omega (arith, ap length (c .before .put-derived .ensu
 
 returns : tie.Need-returns
 unfolding deriveAgrees
-returns c = rw (c .same-from .ensures, c .before .before .put-derived .ensures, c .before .before .before .before .derive .ensures, c .before .before .before .before .before .config .ensures)
+returns c = rw (c .same-from .ensures, c .before .before .put-derived .ensures, c .before .before .before .before .derive .ensures, c .before .before .before .before .before .config-refusal .ensures, c .before .before .before .before .before .before .config .ensures)
 
 pub derive-agrees-spec : {M : Type 1} → statement M
 derive-agrees-spec =
     tie.close
     (tie.spec
     config-requires
+    config-refusal-requires
     derive-requires
     put-derived-requires
     slice-aggregate-same-from

@@ -1,0 +1,4 @@
+-- Laws that the proofs of several functions cite.
+pub mod Answers
+pub mod Numbers
+pub mod Promises

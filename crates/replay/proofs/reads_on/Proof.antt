@@ -1,0 +1,12 @@
+-- `replay::reads_on` meets its contract: the two tests.
+use mathlib.Core.Path.{refl}
+use Rattle.replay.specs.Input.{readsOn}
+use Rattle.replay.proofs.reads_on.Statement.{statement}
+use Rattle.replay.proofs.reads_on.Tie as tie
+
+returns : tie.Need-returns
+unfolding readsOn
+returns c = refl
+
+pub reads-on-spec : {M : Type 1} → statement M
+reads-on-spec = tie.close (tie.spec returns)
