@@ -1,5 +1,6 @@
 pub mod Wall
 pub mod OneAnswer
 pub mod Exported
+pub mod Counts
 pub mod Exactly
 pub mod Beliefs

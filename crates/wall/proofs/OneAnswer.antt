@@ -1,6 +1,18 @@
 -- One answer for each input: of every public function below the static library that the prover reads, two answers that meet its contract for the same
 -- arguments are the same, and so are two states of what it is lent to write. `Post` is the contract as the prover reads it.
+use Prim.Native.Nat.{ℕ}
 use mathlib.Core.Path.{_≡_, sym, _∙_}
+use mathlib.Core.Bool.{Bool}
+use mathlib.Core.List.{List}
+use lib.Ieee.{Float}
+use denote.Ref.{RefT, now}
+use Rattle.chunk.specs.declared.ChunkBuf.{ChunkBuf}
+use Rattle.chunk.specs.declared.ChunkView.{ChunkView}
+use Rattle.chunk.specs.declared.Filled.{Filled}
+use Rattle.chunk.specs.Rule.{rowOf}
+use Rattle.chunk.specs.Of.{copyOf, viewOf, Shows, ShowsHeld}
+use Rattle.window.specs.declared.Window.{Window}
+use Rattle.window.specs.Of.{pushedOf}
 use Rattle.root.proofs.sqrt.Reads as root-sqrt
 use Rattle.fmath.proofs.finite.Reads as finite
 use Rattle.fmath.proofs.above_zero.Reads as above-zero
@@ -95,10 +107,10 @@ use Rattle.layout.proofs.chunks.header_fits.Reads as header-fits
 use Rattle.layout.proofs.chunks.chunk_of.Reads as chunk-of
 use Rattle.layout.proofs.chunks.put_header.Reads as put-header
 use Rattle.layout.proofs.chunks.put_chunk.Reads as put-chunk
+use Rattle.layout.proofs.chunks.let_go.Reads as let-go
 use Rattle.layout.proofs.states.state_fits.Reads as state-fits
 use Rattle.layout.proofs.states.state_of.Reads as state-of
 use Rattle.layout.proofs.states.put_held.Reads as put-held
-use Rattle.layout.proofs.trails.trail_fits.Reads as trail-fits
 use Rattle.layout.proofs.trails.trail_of.Reads as trail-of
 use Rattle.layout.proofs.trails.put_trail.Reads as put-trail
 use Rattle.layout.proofs.scores.marks_fit.Reads as marks-fit
@@ -119,15 +131,15 @@ pub unique : {A : Type 0} {a b c : A} → a ≡ c → b ≡ c → a ≡ b
 unique p q = p ∙ sym q
 
 -- .. nor do two
-both : {A B : Type 0} {a b c : A} {d e f : B} → (a ≡ c) × (d ≡ f) → (b ≡ c) × (e ≡ f) → (a ≡ b) × (d ≡ e)
+pub both : {A B : Type 0} {a b c : A} {d e f : B} → (a ≡ c) × (d ≡ f) → (b ≡ c) × (e ≡ f) → (a ≡ b) × (d ≡ e)
 both p q = (unique (p .0) (q .0), unique (p .1) (q .1))
 
 -- what is told of an answer r and of the arguments x as the function returns is the same for any two that meet the contract with arguments a
-abbrev One : {L A R E B : Type 0} → (L → A → R → E → Type 0) → (R → E → B) → Type 0
+abbrev pub One : {L A R E B : Type 0} → (L → A → R → E → Type 0) → (R → E → B) → Type 0
 One {L} {A} {R} {E} Post told = (l : L) (a : A) (r s : R) (x y : E) → Post l a r x → Post l a s y → told r x ≡ told s y
 
 -- .. and so are the answer, and what was lent to be written
-abbrev OneWithLent : {L A R E B : Type 0} → (L → A → R → E → Type 0) → (E → B) → Type 0
+abbrev pub OneWithLent : {L A R E B : Type 0} → (L → A → R → E → Type 0) → (E → B) → Type 0
 OneWithLent {L} {A} {R} {E} Post lent = (l : L) (a : A) (r s : R) (x y : E) → Post l a r x → Post l a s y → (r ≡ s) × (lent x ≡ lent y)
 
 -- .. and so are two buffers that are lent to be written
@@ -446,6 +458,9 @@ one-put-header l a r s x y = unique
 pub one-put-chunk : BothLent put-chunk.Post (λ x. x .1 .0 .now) (λ x. x .1 .1 .0 .now)
 one-put-chunk l a r s x y = both
 
+pub one-let-go : One let-go.Post (λ r x. x .0 .now)
+one-let-go l a r s x y = unique
+
 pub one-state-fits : One state-fits.Post (λ r x. r)
 one-state-fits l a r s x y = unique
 
@@ -454,9 +469,6 @@ one-state-of l a r s x y = unique
 
 pub one-put-held : BothLent put-held.Post (λ x. x .1 .1 .1 .0 .now) (λ x. x .1 .1 .1 .1 .0 .now)
 one-put-held l a r s x y = both
-
-pub one-trail-fits : One trail-fits.Post (λ r x. r)
-one-trail-fits l a r s x y = unique
 
 pub one-trail-of : One trail-of.Post (λ r x. r)
 one-trail-of l a r s x y = unique
@@ -503,3 +515,28 @@ one-answer-block l a r s x y p q = (unique (p .0) (q .0), unique (p .1) (q .1))
 
 pub one-agrees : One agrees.Post (λ r x. r)
 one-agrees l a r s x y = unique
+
+-- ---- the six of whose contract the prover makes no plain reading: the contract as the source has it, with the answer or the lent struct as a parameter
+
+-- all that a view has, but for the place of its numbers
+abbrev Alike : ChunkView → ChunkView → Type 0
+Alike v w = (v .seq ≡ w .seq) × ((v .«t_emit» ≡ w .«t_emit») × ((v .horizon ≡ w .horizon) × ((v .dim ≡ w .dim) × ((v .«exec_steps» ≡ w .«exec_steps») × (now (v .«data») ≡ now (w .«data»))))))
+
+pub copy-from-once : (b : ChunkBuf) (v : ChunkView) (r s : Filled) → r ≡ copyOf b v → s ≡ copyOf b v → r ≡ s
+copy-from-once b v r s = unique
+
+pub view-held-once : (s t h d e : ℕ) (f : Bool) (l : List Float) (v w : ChunkView) → Shows v s t h d e f l → Shows w s t h d e f l → Alike v w
+view-held-once s t h d e f l v w p q =
+    (unique (p .0) (q .0), (unique (p .1 .0) (q .1 .0), (unique (p .1 .1 .0) (q .1 .1 .0), (unique (p .1 .1 .1 .0) (q .1 .1 .1 .0), (unique (p .1 .1 .1 .1 .0) (q .1 .1 .1 .1 .0), unique (p .1 .1 .1 .1 .1) (q .1 .1 .1 .1 .1))))))
+
+pub buffer-view-once : (b : ChunkBuf) (v w : ChunkView) → ShowsHeld v b → ShowsHeld w b → Alike v w
+buffer-view-once b v w = view-held-once (b .seq) (b .«t_emit») (b .horizon) (b .dim) (b .«exec_steps») (b .filled) (b .«data») v w
+
+pub view-once : (s t h d e : ℕ) (l : RefT (List Float)) (v w : ChunkView) → v ≡ viewOf s t h d e l → w ≡ viewOf s t h d e l → v ≡ w
+view-once s t h d e l v w = unique
+
+pub view-action-once : (v : ChunkView) (i : ℕ) (r s : RefT (List Float)) → now r ≡ rowOf (now (v .«data»)) (v .horizon) (v .dim) i → now s ≡ rowOf (now (v .«data»)) (v .horizon) (v .dim) i → now r ≡ now s
+view-action-once v i r s = unique
+
+pub push-once : (w : Window) (hit : Bool) (mask : ℕ) (u v : Window) → u ≡ pushedOf w hit mask → v ≡ pushedOf w hit mask → u ≡ v
+push-once w hit mask u v = unique
