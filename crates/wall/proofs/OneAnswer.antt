@@ -1,18 +1,6 @@
 -- One answer for each input: of every public function below the static library that the prover reads, two answers that meet its contract for the same
 -- arguments are the same, and so are two states of what it is lent to write. `Post` is the contract as the prover reads it.
-use Prim.Native.Nat.{ℕ}
 use mathlib.Core.Path.{_≡_, sym, _∙_}
-use mathlib.Core.Bool.{Bool}
-use mathlib.Core.List.{List}
-use lib.Ieee.{Float}
-use denote.Ref.{RefT, now}
-use Rattle.chunk.specs.declared.ChunkBuf.{ChunkBuf}
-use Rattle.chunk.specs.declared.ChunkView.{ChunkView}
-use Rattle.chunk.specs.declared.Filled.{Filled}
-use Rattle.chunk.specs.Rule.{rowOf}
-use Rattle.chunk.specs.Of.{copyOf, viewOf, Shows, ShowsHeld}
-use Rattle.window.specs.declared.Window.{Window}
-use Rattle.window.specs.Of.{pushedOf}
 use Rattle.root.proofs.sqrt.Reads as root-sqrt
 use Rattle.fmath.proofs.finite.Reads as finite
 use Rattle.fmath.proofs.above_zero.Reads as above-zero
@@ -515,28 +503,3 @@ one-answer-block l a r s x y p q = (unique (p .0) (q .0), unique (p .1) (q .1))
 
 pub one-agrees : One agrees.Post (λ r x. r)
 one-agrees l a r s x y = unique
-
--- ---- the six of whose contract the prover makes no plain reading: the contract as the source has it, with the answer or the lent struct as a parameter
-
--- all that a view has, but for the place of its numbers
-abbrev Alike : ChunkView → ChunkView → Type 0
-Alike v w = (v .seq ≡ w .seq) × ((v .«t_emit» ≡ w .«t_emit») × ((v .horizon ≡ w .horizon) × ((v .dim ≡ w .dim) × ((v .«exec_steps» ≡ w .«exec_steps») × (now (v .«data») ≡ now (w .«data»))))))
-
-pub copy-from-once : (b : ChunkBuf) (v : ChunkView) (r s : Filled) → r ≡ copyOf b v → s ≡ copyOf b v → r ≡ s
-copy-from-once b v r s = unique
-
-pub view-held-once : (s t h d e : ℕ) (f : Bool) (l : List Float) (v w : ChunkView) → Shows v s t h d e f l → Shows w s t h d e f l → Alike v w
-view-held-once s t h d e f l v w p q =
-    (unique (p .0) (q .0), (unique (p .1 .0) (q .1 .0), (unique (p .1 .1 .0) (q .1 .1 .0), (unique (p .1 .1 .1 .0) (q .1 .1 .1 .0), (unique (p .1 .1 .1 .1 .0) (q .1 .1 .1 .1 .0), unique (p .1 .1 .1 .1 .1) (q .1 .1 .1 .1 .1))))))
-
-pub buffer-view-once : (b : ChunkBuf) (v w : ChunkView) → ShowsHeld v b → ShowsHeld w b → Alike v w
-buffer-view-once b v w = view-held-once (b .seq) (b .«t_emit») (b .horizon) (b .dim) (b .«exec_steps») (b .filled) (b .«data») v w
-
-pub view-once : (s t h d e : ℕ) (l : RefT (List Float)) (v w : ChunkView) → v ≡ viewOf s t h d e l → w ≡ viewOf s t h d e l → v ≡ w
-view-once s t h d e l v w = unique
-
-pub view-action-once : (v : ChunkView) (i : ℕ) (r s : RefT (List Float)) → now r ≡ rowOf (now (v .«data»)) (v .horizon) (v .dim) i → now s ≡ rowOf (now (v .«data»)) (v .horizon) (v .dim) i → now r ≡ now s
-view-action-once v i r s = unique
-
-pub push-once : (w : Window) (hit : Bool) (mask : ℕ) (u v : Window) → u ≡ pushedOf w hit mask → v ≡ pushedOf w hit mask → u ≡ v
-push-once w hit mask u v = unique
