@@ -90,6 +90,10 @@ int main(void) {
     static const double first[6] = {0.125, 0.25, 0.25, 0.75, 0.75, 0.25}, step[6] = {0.125, 0.5, 0.125, 0.0, 0.0, 0.0};
     const double pos[6] = {0.0, 0.125, 0.125, 0.25, 0.25, NAN}, vel[6] = {0.0, 0.25, 8.0, 0.0, 0.0, 0.0};
     double last[2] = {0.0, 0.0};
+    if (!lictor_environment_ok()) {
+        puts("the processor does not round to nearest, or takes small numbers for 0");
+        return 1;
+    }
     configure(&g);
     for (uint32_t t = 0; t < 6; t++) {
         struct measured m = {t, {pos[t], 0.0}, {vel[t], 0.0}, {0.0}};

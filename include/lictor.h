@@ -5,6 +5,19 @@
  * pointer is not null and is aligned for a double also where the count is 0. An entry that can refuse returns the number of the refusal, 0
  * where it accepts; a refusal leaves every output as it was, save that a forecast's sets its place and, with
  * LICTOR_COMPUTED, keeps the entries before it.
+ *
+ * Threads: the library has no state of its own, allocates nothing and calls nothing but memcpy, memmove and memset, so that any
+ * number of threads may be in it at once, each with memory of its own.
+ *
+ * The floating-point environment: the processor has to round to nearest and to keep numbers below the least normal one, as
+ * it does unless a program changes it (-ffast-math can, by flushing them to zero: the length of 1e-160 is then 0). Under any other
+ * setting nothing here is promised. lictor_environment_ok tells, in a few nanoseconds; the flags of the environment are
+ * not read, and may be set.
+ *
+ * The stack: no entry needs more than LICTOR_STACK bytes of it (tests/c/stack.c).
+ *
+ * What is trusted: the prover, and the compiler behind the language's abstract machine, which no proof covers. No entry
+ * rests on an assumed contract; those of C's read and write are assumed by the programs beside this library alone.
  */
 #ifndef LICTOR_H
 #define LICTOR_H
@@ -16,7 +29,13 @@
 extern "C" {
 #endif
 
-/* ---- refusals; the lowest that applies is given, LICTOR_MISFIT before all others */
+/* ---- refusals; the lowest that applies is given, LICTOR_MISFIT before all others
+
+   Counts are passed in words of 64 bits, and each is held in a field whose width is given beside it. One that its field cannot hold is
+   refused as the table has it (65536 substeps with LICTOR_STEPS, a trail's head of 256 with LICTOR_SIZE), and with LICTOR_MISFIT
+   where the table has nothing against it. What is not read is not judged: a term past n_terms, the channels without a contact, the
+   calibration's counts without a calibration, and what the header of a buffer that holds no chunk says of one. The width of
+   an argument that is passed by itself is its C type; C cuts what is wider before the call. */
 
 #define LICTOR_ACCEPTED 0
 /* dim, pos_dim, term count, feature bit, window length, trail head or trail count is out of size */
@@ -42,8 +61,23 @@ extern "C" {
 #define LICTOR_NOT_FINITE 12
 /* a computed number isn't finite */
 #define LICTOR_COMPUTED 13
-/* the boundary's own: a code is none of its kind, or a count doesn't fit its field */
+/* the boundary's own: a code or a flag is none of its kind, or a count doesn't fit its field and no number above is for it */
 #define LICTOR_MISFIT 255
+
+/* ---- where it runs */
+
+/* What an entry needs of the stack, at most. Measured with the kit's clang 22 at -O3: 18,959 bytes on Arm and 18,904 on x86-64, both by
+   lictor_tier1_reset. */
+#define LICTOR_STACK 32768
+
+/* Use lictor_environment_ok below. Whether the processor rounds to nearest and keeps small numbers, where one is 1 and least is
+   2^-1022; they are arguments so that nothing is computed before the call. */
+uint64_t lictor_environment(double one, double least);
+
+/* 1 where the floating-point environment of this thread is the one that the entries are proved for, else 0. */
+static inline uint64_t lictor_environment_ok(void) {
+    return lictor_environment(1.0, 2.2250738585072014e-308);
+}
 
 /* ---- numbers */
 
@@ -72,8 +106,9 @@ uint64_t lictor_dist(const double *a, size_t a_count, const double *b, size_t b_
 
 /* A chunk that is held. All zeros is a buffer that holds none; setting filled to 0 lets go of the chunk. */
 struct lictor_chunk_header {
-    uint64_t seq, t_emit, horizon, dim, exec_steps;
-    uint64_t filled; /* 0 or 1 */
+    uint64_t seq, t_emit;              /* 32 bits */
+    uint64_t horizon, dim, exec_steps; /* 16 bits; LICTOR_TOO_LONG, LICTOR_TOO_WIDE and LICTOR_EXEC_EXCEEDS_HORIZON past them */
+    uint64_t filled;                   /* a flag: 0 or 1 */
 };
 
 /* Copies a chunk into a buffer; the numbers past the chunk's own stay. The old header isn't read.
@@ -107,19 +142,19 @@ uint64_t lictor_hits(uint64_t bits);
 /* ---- the trail: a ring of the last 32 positions, 8 numbers to a slot; all zeros is a new one */
 
 struct lictor_trail_marks {
-    uint64_t head, len; /* the slot that is written next, at most 31; the samples held, at most 32 */
+    uint64_t head, len; /* 8 bits, LICTOR_SIZE past them: the slot that is written next, at most 31; the samples held, at most 32 */
 };
 
-/* Records the first d coordinates of p, at most 8 and as many as there are; the slot's other numbers stay. LICTOR_MISFIT,
-   LICTOR_SIZE, LICTOR_NOT_FINITE. */
+/* Records the first d coordinates of p, at most 8 and as many as there are; the slot's other numbers stay. LICTOR_SIZE,
+   LICTOR_NOT_FINITE. */
 uint64_t lictor_trail_push(double numbers[256], struct lictor_trail_marks *marks, const double *p, size_t p_count,
                            size_t d);
 
-/* Lets go of the samples; the numbers stay. LICTOR_MISFIT, LICTOR_SIZE, LICTOR_NOT_FINITE. */
+/* Lets go of the samples; the numbers stay. LICTOR_SIZE, LICTOR_NOT_FINITE. */
 uint64_t lictor_trail_clear(double numbers[256], struct lictor_trail_marks *marks);
 
 /* The distance from the oldest to the newest of the last w samples, over the first d coordinates; 0 for too few samples or a w
-   out of range. LICTOR_MISFIT, LICTOR_SIZE, LICTOR_NOT_FINITE, LICTOR_COMPUTED. */
+   out of range. LICTOR_SIZE, LICTOR_NOT_FINITE, LICTOR_COMPUTED. */
 uint64_t lictor_trail_net(const double numbers[256], const struct lictor_trail_marks *marks, size_t d, size_t w,
                           double *net);
 
@@ -127,7 +162,7 @@ uint64_t lictor_trail_net(const double numbers[256], const struct lictor_trail_m
 uint64_t lictor_trail_path(const double numbers[256], const struct lictor_trail_marks *marks, size_t d, size_t w,
                            double *path);
 
-/* How many samples are held. LICTOR_MISFIT, LICTOR_SIZE, LICTOR_NOT_FINITE. */
+/* How many samples are held. LICTOR_SIZE, LICTOR_NOT_FINITE. */
 uint64_t lictor_trail_len(const double numbers[256], const struct lictor_trail_marks *marks, uint64_t *len);
 
 /* 1 where none is held, else 0, likewise. */
@@ -145,16 +180,20 @@ struct lictor_numbers {
 };
 
 struct lictor_counts {
-    uint64_t dim, pos_dim;                               /*  0.. 1 */
-    uint64_t kind;                                       /*  2: LICTOR_EE_POSITION .. LICTOR_OTHER */
-    uint64_t clamp;                                      /*  3: LICTOR_CLAMP_OFF or LICTOR_CLAMP_PROJECT */
-    uint64_t brake;                                      /*  4: LICTOR_PD_SECOND_ORDER .. LICTOR_ZERO_VELOCITY_HOLD */
-    uint64_t contact, contact_a0, contact_a1;            /*  5.. 7: 1 where there is a slow zone, and its channels */
-    uint64_t substeps, commit, brake_steps, react_ticks; /*  8..11 */
-    uint64_t terms[8];                                   /* 12..19: feature bits */
-    uint64_t armed, aux_count;                           /* 20..21: trip bits; how many channels the camera declares */
-    uint64_t calibrated;                                 /* 22: 1 where there is a calibration; else nothing of it is judged */
-    uint64_t mask, n_terms, horizon_ticks;               /* 23..25 */
+    uint64_t dim, pos_dim;                    /*  0.. 1: 64 bits */
+    uint64_t kind;                            /*  2: a code, LICTOR_EE_POSITION .. LICTOR_OTHER */
+    uint64_t clamp;                           /*  3: a code, LICTOR_CLAMP_OFF or LICTOR_CLAMP_PROJECT */
+    uint64_t brake;                           /*  4: a code, LICTOR_PD_SECOND_ORDER .. LICTOR_ZERO_VELOCITY_HOLD */
+    uint64_t contact;                         /*  5: a flag, 1 where there is a slow zone */
+    uint64_t contact_a0, contact_a1;          /*  6.. 7: its channels, 8 bits; past them LICTOR_CHANNELS where that applies */
+    uint64_t substeps, commit, brake_steps;   /*  8..10: 16 bits; LICTOR_STEPS past them */
+    uint64_t react_ticks;                     /* 11: 16 bits */
+    uint64_t terms[8];                        /* 12..19: feature bits, 32 bits; LICTOR_SIZE past them */
+    uint64_t armed;                           /* 20: trip bits, 32 bits */
+    uint64_t aux_count;                       /* 21: how many channels the camera declares, 64 bits */
+    uint64_t calibrated;                      /* 22: a flag, 1 where there is a calibration; else nothing of it is judged */
+    uint64_t mask, n_terms;                   /* 23..24: feature bits, 32 bits, and a count, 8 bits; LICTOR_SIZE past them */
+    uint64_t horizon_ticks;                   /* 25: 32 bits */
 };
 
 /* codes of kind */
@@ -246,7 +285,7 @@ struct lictor_scores {
 };
 
 struct lictor_marks {
-    uint64_t valid, fired; /* a bit for each feature */
+    uint64_t valid, fired; /* 32 bits: a bit for each feature */
 };
 
 /* ---- tier 1: the features of a tick, each larger the less ordinary the motion is, and the state between ticks
@@ -257,8 +296,8 @@ struct lictor_marks {
    holds 20 samples. LICTOR_EXT0 and those after it are the caller's own. */
 
 struct lictor_held_marks {
-    uint64_t have_prev;  /* 1 where a chunk came before, else 0 */
-    uint64_t held_valid; /* a bit for each held feature */
+    uint64_t have_prev;  /* a flag: 1 where a chunk came before, else 0 */
+    uint64_t held_valid; /* 32 bits: a bit for each held feature */
 };
 
 /* The state between ticks: 784 words of 8 bytes. Each entry takes its six parts, which LICTOR_TIER1_PARTS(&state) lists. */
@@ -277,7 +316,8 @@ struct lictor_tier1 {
 void lictor_tier1_new(double before[512], struct lictor_chunk_header *header, double trail[256],
                       struct lictor_trail_marks *samples, double held[6], struct lictor_held_marks *kept);
 
-/* Lets go of the chunk before, the trail and the held features, as between episodes; the chunk's and the trail's numbers stay.
+/* Lets go of the chunk before, the trail and the held features, as between episodes; the chunk's and the trail's numbers stay, and
+   so does what the header says of the chunk.
    LICTOR_MISFIT, LICTOR_SIZE, LICTOR_EMPTY to LICTOR_LEN_MISMATCH for the chunk before, LICTOR_NOT_FINITE. */
 uint64_t lictor_tier1_reset(double before[512], struct lictor_chunk_header *header, double trail[256],
                             struct lictor_trail_marks *samples, double held[6], struct lictor_held_marks *kept);

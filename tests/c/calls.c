@@ -1,6 +1,7 @@
 /* Includes the header and calls the static library as a control box does. Prints each call that answers otherwise. */
 #include "lictor.h"
 
+#include <inttypes.h>
 #include <math.h>
 #include <stdio.h>
 
@@ -66,12 +67,20 @@ static void trails(void) {
     EXPECT(lictor_trail_net(numbers, &marks, 2, 2, &x) == LICTOR_ACCEPTED && x == 5.0);
     EXPECT(lictor_trail_path(numbers, &marks, 2, 2, &x) == LICTOR_ACCEPTED && x == 5.0);
     EXPECT(lictor_trail_len(numbers, &marks, &held) == LICTOR_ACCEPTED && held == 2);
-    marks.head = 256;
-    EXPECT(lictor_trail_len(numbers, &marks, &held) == LICTOR_MISFIT && held == 2);
-    EXPECT(lictor_trail_net(numbers, &marks, 2, 2, &x) == LICTOR_MISFIT && x == 5.0);
-    marks.head = 32;
-    EXPECT(lictor_trail_is_empty(numbers, &marks, &held) == LICTOR_SIZE && held == 2);
-    EXPECT(lictor_trail_clear(numbers, &marks) == LICTOR_SIZE && marks.len == 2);
+    for (int k = 0; k < 5; k++) {
+        const uint64_t past[5] = {32, 255, 256, 257, UINT64_MAX};
+        marks.head = past[k];
+        EXPECT(lictor_trail_len(numbers, &marks, &held) == LICTOR_SIZE && held == 2);
+        EXPECT(lictor_trail_net(numbers, &marks, 2, 2, &x) == LICTOR_SIZE && x == 5.0);
+        EXPECT(lictor_trail_is_empty(numbers, &marks, &held) == LICTOR_SIZE && held == 2);
+        EXPECT(lictor_trail_push(numbers, &marks, p, 2, 2) == LICTOR_SIZE && lictor_trail_clear(numbers, &marks) == LICTOR_SIZE);
+        EXPECT(marks.head == past[k] && marks.len == 2);
+        marks.head = 31, marks.len = past[k] + 1;
+        EXPECT(lictor_trail_path(numbers, &marks, 2, 2, &x) == (past[k] + 1 > 32 ? LICTOR_SIZE : LICTOR_ACCEPTED));
+        marks.len = 2;
+    }
+    marks.len = 32;
+    EXPECT(lictor_trail_len(numbers, &marks, &held) == LICTOR_ACCEPTED && held == 32);
     marks.head = 2;
     EXPECT(lictor_trail_clear(numbers, &marks) == LICTOR_ACCEPTED && marks.head == 0 && marks.len == 0);
 }
@@ -91,13 +100,127 @@ static void configuration(void) {
     c.mask = 4096, c.n_terms = 9, c.terms[0] = UINT64_MAX, n.tau = NAN;
     EXPECT(lictor_derive(&n, &c, center, scale, &d) == LICTOR_ACCEPTED);
     c.calibrated = 1;
-    EXPECT(lictor_derive(&n, &c, center, scale, &d) == LICTOR_MISFIT);
-    c.terms[0] = 1;
     EXPECT(lictor_derive(&n, &c, center, scale, &d) == LICTOR_SIZE);
     c.calibrated = 0, c.kind = 5;
     EXPECT(lictor_derive(&n, &c, center, scale, &d) == LICTOR_MISFIT);
     c.kind = LICTOR_OTHER, n.dt = 0.0;
     EXPECT(lictor_derive(&n, &c, center, scale, &d) == LICTOR_NUMBER && d.inv_dt == 2.0);
+}
+
+/* Names the case that fails. */
+static int shown(uint64_t at, uint64_t value) {
+    printf("%" PRIu64 ": %" PRIu64 "\n", at, value);
+    return 0;
+}
+
+/* Both sides of the edge of each count that the table or its field bounds, by the count's place. */
+static void widths(void) {
+    struct lictor_numbers n = {0};
+    struct lictor_derived d;
+    const struct lictor_counts good = {
+        .dim = 1, .pos_dim = 1, .kind = 4, .contact = 1, .contact_a1 = 1, .substeps = 1, .terms = {1}, .aux_count = 2,
+        .calibrated = 1, .mask = 1, .n_terms = 1, .horizon_ticks = 1,
+    };
+    const uint64_t most = UINT64_MAX, bits = UINT64_C(1) << 32;
+    const struct {
+        uint64_t at, value, due;
+    } cases[] = {
+        {0, 8, 0}, {0, 9, 1}, {0, bits + 1, 1}, {0, most, 1},
+        {1, 8, 0}, {1, 9, 1}, {1, bits + 1, 1}, {1, most, 1},
+        {2, 4, 0}, {2, 5, 255}, {2, bits, 255}, {3, 1, 0}, {3, 2, 255}, {3, bits, 255}, {4, 4, 0}, {4, 5, 255}, {4, bits, 255},
+        {5, 0, 0}, {5, 1, 0}, {5, 2, 255}, {5, bits + 1, 255},
+        {6, 1, 4}, {6, 2, 4}, {6, 255, 4}, {6, 256, 4}, {6, most, 4}, {7, 0, 4}, {7, 2, 4}, {7, 255, 4}, {7, 256, 4}, {7, most, 4},
+        {8, 0, 3}, {8, 64, 0}, {8, 65, 3}, {8, 65535, 3}, {8, 65536, 3}, {8, 65537, 3}, {8, bits + 1, 3}, {8, most, 3},
+        {9, 64, 0}, {9, 65, 3}, {9, 65535, 3}, {9, 65536, 3}, {9, bits, 3}, {9, most, 3},
+        {10, 4096, 0}, {10, 4097, 3}, {10, 65535, 3}, {10, 65536, 3}, {10, bits, 3}, {10, most, 3},
+        {11, 65535, 0}, {11, 65536, 255}, {11, most, 255},
+        {12, 4095, 0}, {12, 4096, 1}, {12, bits - 1, 1}, {12, bits, 1}, {12, bits + 1, 1}, {12, most, 1},
+        {13, 4096, 0}, {13, bits, 0}, {13, most, 0}, {19, 4096, 0}, {19, bits, 0}, {19, most, 0},
+        {20, bits - 1, 0}, {20, bits, 255}, {20, most, 255}, {21, 1, 4}, {21, bits, 0}, {21, most, 0},
+        {22, 2, 255}, {22, bits, 255},
+        {23, 4095, 0}, {23, 4096, 1}, {23, bits - 1, 1}, {23, bits, 1}, {23, most, 1},
+        {24, 8, 0}, {24, 9, 1}, {24, 255, 1}, {24, 256, 1}, {24, 257, 1}, {24, bits + 1, 1}, {24, most, 1},
+        {25, 0, 3}, {25, bits - 1, 0}, {25, bits, 255}, {25, most, 255},
+    };
+    const struct {
+        uint64_t a0, a1, aux, due;
+    } zones[] = {
+        {254, 255, 256, 0}, {255, 254, 255, 4}, {255, 255, 256, 4}, {256, 0, 257, 255}, {0, 256, 257, 255}, {256, 0, 256, 4},
+        {0, 256, 256, 4}, {256, 256, 300, 4}, {256, 257, 300, 255}, {299, 0, 300, 255}, {300, 0, 300, 4}, {0, 300, 300, 4},
+        {256, 300, 300, 4}, {most, most, most, 4}, {most, 0, most, 4}, {most - 1, 0, most, 255}, {bits, 0, bits + 1, 255},
+    };
+    struct lictor_counts c;
+    n.dt = n.v_max = n.a_max = n.j_max = n.reach_max = 1.0;
+    n.brake_k_v = n.brake_dt = n.contact_v_max = 1.0;
+    for (int i = 0; i < 8; i++) n.norm_scale[i] = 1.0;
+    for (int i = 0; i < 192; i++) scale[i] = 1.0;
+#define DUE(due) EXPECT(lictor_derive(&n, &c, center, scale, &d) == (due))
+    for (size_t i = 0; i < sizeof cases / sizeof *cases; i++) {
+        c = good, ((uint64_t *)&c)[cases[i].at] = cases[i].value;
+        EXPECT(lictor_derive(&n, &c, center, scale, &d) == cases[i].due || shown(cases[i].at, cases[i].value));
+        /* without a calibration nothing of it is judged, and without a contact no channel */
+        if ((cases[i].at >= 12 && cases[i].at < 20) || cases[i].at > 22) {
+            c.calibrated = 0;
+            DUE(0);
+        }
+        if (cases[i].at == 6 || cases[i].at == 7) {
+            c.contact = 0;
+            DUE(0);
+        }
+        /* 255 comes before all other numbers, and of those the lowest */
+        c = good, ((uint64_t *)&c)[cases[i].at] = cases[i].value, n.dt = 0.0;
+        DUE(cases[i].due == 255 || cases[i].due == 1 ? cases[i].due : 2);
+        n.dt = 1.0;
+    }
+    for (size_t i = 0; i < sizeof zones / sizeof *zones; i++) {
+        c = good, c.contact_a0 = zones[i].a0, c.contact_a1 = zones[i].a1, c.aux_count = zones[i].aux;
+        EXPECT(lictor_derive(&n, &c, center, scale, &d) == zones[i].due || shown(zones[i].a0, zones[i].a1));
+    }
+    c = good, c.n_terms = 2, c.terms[1] = bits;
+    DUE(1);
+    c = good, c.substeps = 0, c.brake_steps = 65536;
+    DUE(3);
+    c = good, c.kind = 5, c.dim = 0;
+    DUE(255);
+#undef DUE
+}
+
+/* The same for what is held: a header, the counts of tier 1's state, and the bits of scores. */
+static void held_widths(void) {
+    static struct lictor_tier1 t;
+    const uint64_t most = UINT64_MAX, bits = UINT64_C(1) << 32;
+    const uint64_t chunk[6] = {7, 9, 2, 2, 1, 1};
+    const struct {
+        uint64_t at, value, due;
+    } cases[] = {
+        {0, bits - 1, 0}, {0, bits, 255}, {0, most, 255}, {1, bits - 1, 0}, {1, bits, 255}, {1, most, 255},
+        {2, 0, 5}, {2, 64, 0}, {2, 65, 6}, {2, 65535, 6}, {2, 65536, 6}, {2, 65537, 6}, {2, bits + 2, 6}, {2, most, 6},
+        {3, 0, 5}, {3, 8, 0}, {3, 9, 7}, {3, 65535, 7}, {3, 65536, 7}, {3, 65537, 7}, {3, bits + 2, 7}, {3, most, 7},
+        {4, 2, 0}, {4, 3, 8}, {4, 65535, 8}, {4, 65536, 8}, {4, 65537, 8}, {4, bits, 8}, {4, most, 8},
+        {5, 2, 255}, {5, bits, 255}, {5, bits + 1, 255},
+    };
+    for (size_t i = 0; i < sizeof cases / sizeof *cases; i++) {
+        uint64_t *h = (uint64_t *)&t.header;
+        lictor_tier1_new(LICTOR_TIER1_PARTS(&t));
+        for (int k = 0; k < 6; k++) h[k] = chunk[k];
+        h[cases[i].at] = cases[i].value;
+        EXPECT(lictor_tier1_reset(LICTOR_TIER1_PARTS(&t)) == cases[i].due || shown(cases[i].at, cases[i].value));
+        /* a header that holds no chunk is not judged, and stays */
+        if (cases[i].at == 5) continue;
+        h[5] = 0;
+        EXPECT(lictor_tier1_reset(LICTOR_TIER1_PARTS(&t)) == LICTOR_ACCEPTED && h[cases[i].at] == cases[i].value && h[5] == 0);
+    }
+    for (int k = 0; k < 2; k++) {
+        lictor_tier1_new(LICTOR_TIER1_PARTS(&t));
+        t.kept.have_prev = 1 + k;
+        EXPECT(lictor_tier1_reset(LICTOR_TIER1_PARTS(&t)) == (k ? LICTOR_MISFIT : LICTOR_ACCEPTED));
+        t.kept.have_prev = 0, t.kept.held_valid = bits - 1 + k;
+        EXPECT(lictor_tier1_reset(LICTOR_TIER1_PARTS(&t)) == (k ? LICTOR_MISFIT : LICTOR_ACCEPTED));
+        t.kept.held_valid = 0, t.samples.head = 31 + 225 * k;
+        EXPECT(lictor_tier1_reset(LICTOR_TIER1_PARTS(&t)) == (k ? LICTOR_SIZE : LICTOR_ACCEPTED));
+        t.samples.head = 0, t.samples.len = 32 + 224 * k;
+        EXPECT(lictor_tier1_reset(LICTOR_TIER1_PARTS(&t)) == (k ? LICTOR_SIZE : LICTOR_ACCEPTED));
+    }
 }
 
 /* document 01: from (0,0), row (6,8), step 5, SPEED alone armed: SPEED, projected to (3 - 3 x 2^-36, 4 - 4 x 2^-36); row
@@ -153,6 +276,11 @@ static void features(void) {
     EXPECT(TICK(1, 1, 1, 1) == LICTOR_ACCEPTED && m.valid == 63 + 256 && s.f[LICTOR_TCE] == 0.0 && s.f[LICTOR_REACH] == 1.0);
     EXPECT(TICK(1, 1, 1, 2) == LICTOR_ACCEPTED && s.f[LICTOR_TCE] == 1.0 && t.held[LICTOR_REACH] == 2.0 && t.before[3] == 5.0);
     EXPECT(TICK(1, 1, 2, 0) == LICTOR_LEN_MISMATCH && s.f[LICTOR_TCE] == 1.0 && t.before[3] == 5.0);
+    t.header.filled = 0, t.header.horizon = 65536, t.header.seq = UINT64_MAX;
+    EXPECT(TICK(0, 9, 2, 0) == LICTOR_ACCEPTED && t.header.horizon == 65536 && t.header.seq == UINT64_MAX);
+    t.header.filled = 1, t.header.seq = 3;
+    EXPECT(TICK(0, 9, 2, 0) == LICTOR_TOO_LONG && t.header.horizon == 65536);
+    t.header.horizon = 4;
     for (int i = 0; i < 20; i++) EXPECT(lictor_trail_push(t.trail, &t.samples, still, 1, 1) == LICTOR_ACCEPTED);
     EXPECT(TICK(0, 9, 2, 0) == LICTOR_ACCEPTED && m.valid == 63 + 64 + 128 + 256 && s.f[LICTOR_TCE] == 1.0);
     EXPECT(s.f[LICTOR_PATH_INEFF] == 1.0 && s.f[LICTOR_STALL] == 1.0 && t.header.t_emit == 1);
@@ -213,8 +341,12 @@ static void gate(void) {
     EXPECT(lictor_trip(center, scale, 2.0, 3, 2, terms, &s, &m, &trips) == LICTOR_ACCEPTED && trips == 0);
     EXPECT(lictor_trip(center, scale, 1.0, 3, 2, terms, &s, &m, &trips) == LICTOR_ACCEPTED && trips == 1);
     EXPECT(lictor_aggregate(center, scale, 2.0, 3, 0, terms, &s, &m) == LICTOR_ACCEPTED && s.s == -INFINITY);
-    m.fired = UINT64_MAX;
+    m.fired = UINT32_MAX;
+    EXPECT(lictor_trip(center, scale, INFINITY, 3, 2, terms, &s, &m, &trips) == LICTOR_NUMBER && trips == 1);
+    m.fired = UINT64_C(1) << 32;
     EXPECT(lictor_trip(center, scale, INFINITY, 3, 2, terms, &s, &m, &trips) == LICTOR_MISFIT && trips == 1);
+    m.fired = 0, m.valid = UINT64_C(1) << 32;
+    EXPECT(lictor_aggregate(center, scale, 2.0, 3, 2, terms, &s, &m) == LICTOR_MISFIT && s.s == -INFINITY);
     EXPECT(lictor_time_bin(13, 200, &bin) == LICTOR_ACCEPTED && bin == 1);
     EXPECT(lictor_time_bin(13, 0, &bin) == LICTOR_STEPS && bin == 1);
 }
@@ -225,6 +357,8 @@ int main(void) {
     windows();
     trails();
     configuration();
+    widths();
+    held_widths();
     checks();
     features();
     brakes();

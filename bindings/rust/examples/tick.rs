@@ -109,6 +109,7 @@ fn straight(first: f64, step: f64) -> [f64; 8] {
 }
 
 fn main() {
+    assert!(lictor::environment_ok(), "the processor does not round to nearest, or takes small numbers for 0");
     let mut guard = Guard::new();
     let mut last = [0.0; 2];
     let plans = [

@@ -1,6 +1,7 @@
 //! The functions of include/lictor.h. A slice goes as its pointer and its length.
 
 extern "C" {
+    pub fn lictor_environment(one: f64, least: f64) -> u64;
     pub fn lictor_min(a: f64, b: f64) -> f64;
     pub fn lictor_max(a: f64, b: f64) -> f64;
     pub fn lictor_clamp(x: f64, lo: f64, hi: f64) -> f64;

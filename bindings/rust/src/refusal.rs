@@ -25,7 +25,8 @@ impl Refusal {
     pub const SHORT: u8 = 11;
     pub const NOT_FINITE: u8 = 12;
     pub const COMPUTED: u8 = 13;
-    /// The boundary's own: a code that is none of its kind, or a count that does not fit its field.
+    /// The boundary's own: a code or a flag that is none of its kind, or a count that does not fit its field and that no number
+    /// above is for. No call of this crate gives it: its types hold what fits.
     pub const MISFIT: u8 = 255;
 
     /// What the number stands for.
@@ -44,7 +45,7 @@ impl Refusal {
             Self::SHORT => "a slice is too short",
             Self::NOT_FINITE => "an input number is not finite",
             Self::COMPUTED => "a computed number is not finite",
-            Self::MISFIT => "a code is none of its kind, or a count does not fit its field",
+            Self::MISFIT => "a code or a flag is none of its kind, or a count does not fit its field",
             _ => "an unknown refusal",
         }
     }

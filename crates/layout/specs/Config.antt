@@ -1,6 +1,7 @@
 -- The configuration in flat arrays: 44 numbers, 26 counts and codes, and the calibration's two tables of 192.
 use Prim.Native.Nat.{ℕ, zero, suc}
-use mathlib.Core.Bool.{Bool, _||_}
+use mathlib.Core.Bool.{Bool, _&&_, _||_}
+use Rattle.refusal.specs.Order.{if_then_else_}
 use mathlib.Core.List.{List, [], _∷_, _++_}
 use lib.Dec.{leb, eqb}
 use lib.Ieee.{Float}
@@ -64,9 +65,13 @@ brakeOf n c = record {
   «react_ticks» = in16 (count c 11);
 }
 
+-- a channel beside the other one: where either does not fit, both become the field's largest, and so equal
+abbrev pub channelOf : ℕ → ℕ → ℕ
+channelOf own other = if leb other 255 then in8 own else 255
+
 -- numbers 9 and 10, counts 5 to 7
 unfoldable pub zoneOf : List Float → List ℕ → Contact
-zoneOf n c = contactOf (count c 5) (at n 9) (at n 10) (in8 (count c 6)) (in8 (count c 7))
+zoneOf n c = contactOf (count c 5) (at n 9) (at n 10) (channelOf (count c 6) (count c 7)) (channelOf (count c 7) (count c 6))
 
 -- numbers 11 to 26
 unfoldable pub normOf : List Float → Norm
@@ -112,22 +117,27 @@ settingsOf n c = record {
 abbrev pub configOf : List Float → List ℕ → List Float → List Float → FuseConfig
 configOf n c center scale = whole (settingsOf n c) center scale
 
--- each code is one of its kind and each count fits its field; a contact's are read where there is one, the calibration's where its flag is set
+-- ---- what fits, field by field of document 01's table
+-- Fields as wide as the array: dim, pos_dim and aux_count (counts 0, 1 and 21).
+-- Cut, since row 1 or 3 refuses all that does not fit: substeps, commit and brake_steps (8 to 10), the counted terms (12 to 19), mask and n_terms (23, 24).
+-- Judged here: codes and flags (2 to 5 and 22), the channels of a contact (6 and 7), react_ticks (11), armed (20) and, with a calibration, horizon_ticks (25).
+
+-- a contact's channels fit, or row 4 refuses them: they are equal, or one is at or above aux_count
 unfoldable pub zoneFits : List ℕ → Bool
-zoneFits c = every (leb (count c 6) 255 ∷ leb (count c 7) 255 ∷ [])
+zoneFits c =
+    (leb (count c 6) 255 && leb (count c 7) 255) || eqb (count c 6) (count c 7) || leb (count c 21) (count c 6) || leb (count c 21) (count c 7)
 
-unfoldable pub gateFits : List ℕ → Bool
-gateFits c =
-    every
-    (long (count c 12) ∷ long (count c 13) ∷ long (count c 14) ∷ long (count c 15) ∷ long (count c 16) ∷ long (count c 17)
-    ∷ long (count c 18) ∷ long (count c 19) ∷ long (count c 23) ∷ leb (count c 24) 255 ∷ long (count c 25) ∷ [])
+-- each code and each flag is one of its kind
+unfoldable pub codesFit : List ℕ → Bool
+codesFit c = every (leb (count c 2) 4 ∷ leb (count c 3) 1 ∷ leb (count c 4) 4 ∷ leb (count c 5) 1 ∷ leb (count c 22) 1 ∷ [])
 
+-- react_ticks and armed fit their fields
+unfoldable pub fieldsFit : List ℕ → Bool
+fieldsFit c = every (short (count c 11) ∷ long (count c 20) ∷ [])
+
+-- all of it; the channels are read where there is a contact, horizon_ticks where there is a calibration
 unfoldable pub countsFit : List ℕ → Bool
-countsFit c =
-    every
-    (leb (count c 2) 4 ∷ leb (count c 3) 1 ∷ leb (count c 4) 4 ∷ leb (count c 5) 1 ∷ short (count c 8) ∷ short (count c 9)
-    ∷ short (count c 10) ∷ short (count c 11) ∷ long (count c 20) ∷ leb (count c 22) 1
-    ∷ (eqb (count c 5) 0 || zoneFits c) ∷ (eqb (count c 22) 0 || gateFits c) ∷ [])
+countsFit c = every (codesFit c ∷ fieldsFit c ∷ (eqb (count c 5) 0 || zoneFits c) ∷ (eqb (count c 22) 0 || long (count c 25)) ∷ [])
 
 -- ---- what is derived, laid out in 29 numbers
 unfoldable pub derivedFlat : Derived → List Float

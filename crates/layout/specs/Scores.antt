@@ -7,7 +7,7 @@ use Rattle.fmath.specs.Each.{at, every}
 use Rattle.conformal.specs.declared.Scores.{Scores}
 use Rattle.layout.specs.Places.{count, part, in32, long}
 
--- each count fits its field
+-- each count fits its field; the table has no row for them
 unfoldable pub marksFit : List ℕ → Bool
 marksFit c = every (long (count c 0) ∷ long (count c 1) ∷ [])
 

@@ -9,11 +9,11 @@ use Rattle.window.specs.Rule.{bit}
 use Rattle.tier1.specs.declared.Tier1Rt.{Tier1Rt}
 use Rattle.layout.specs.Places.{count, long, in32}
 use Rattle.layout.specs.Chunk.{headerFits, chunkOf}
-use Rattle.layout.specs.Trail.{trailFits, trailOf}
+use Rattle.layout.specs.Trail.{trailOf}
 
--- each count fits its field
-unfoldable pub stateFits : List ℕ → List ℕ → List ℕ → Bool
-stateFits h t c = every (headerFits h ∷ trailFits t ∷ leb (count c 0) 1 ∷ long (count c 1) ∷ [])
+-- the chunk's counts fit, have_prev is a flag and held_valid fits; row 1 refuses the trail's counts that do not
+unfoldable pub stateFits : List ℕ → List ℕ → Bool
+stateFits h c = every (headerFits h ∷ leb (count c 0) 1 ∷ long (count c 1) ∷ [])
 
 -- the state that the arrays stand for
 unfoldable pub stateOf : List Float → List ℕ → List Float → List ℕ → List Float → List ℕ → Tier1Rt

@@ -1,20 +1,15 @@
 // A chunk that is held: its 512 numbers; 6 counts, seq, t_emit, horizon, dim, exec_steps and filled.
 ghost use mathlib.Core.Path.{_≡_};
-ghost use Rattle.layout.specs.Chunk.{headerFits, chunkOf, headerFrom, headerFlat};
+ghost use Rattle.layout.specs.Chunk.{headerFits, chunkOf, headerFrom, headerFlat, unheld};
 use crate::places::to_u16;
 use crate::places::to_u32;
 use chunk::ChunkBuf;
 
-// Each count fits its field.
+// The flag is one, and of a chunk that is held the sequence number and the time fit their fields.
 pub fn header_fits(h: &[u64; 6]) -> bool
     ensures { λ r. ⌜ r ≡ headerFits (now (h .entry)) ⌝ }
 {
-    (h[0] <= 4294967295)
-        & (h[1] <= 4294967295)
-        & (h[2] <= 65535)
-        & (h[3] <= 65535)
-        & (h[4] <= 65535)
-        & (h[5] <= 1)
+    (h[5] <= 1) & ((h[5] == 0) | ((h[0] <= 4294967295) & (h[1] <= 4294967295)))
 }
 
 // The buffer that the arrays stand for.
@@ -66,4 +61,11 @@ pub fn put_chunk(b: ChunkBuf, l: &mut [f64; 512], h: &mut [u64; 6])
     let data = b.data;
     *l = data;
     put_header(b.seq, b.t_emit, b.horizon, b.dim, b.exec_steps, b.filled, h);
+}
+
+// Lets go of the chunk; what is said of it stays.
+pub fn let_go(h: &mut [u64; 6])
+    ensures { λ _. ⌜ now (h .exit) ≡ unheld (now (h .entry)) ⌝ }
+{
+    *h = [h[0], h[1], h[2], h[3], h[4], 0];
 }

@@ -3,7 +3,7 @@ ghost use mathlib.Core.Path.{_≡_};
 ghost use Prim.Native.Nat.{_+_, _≤_};
 ghost use Rattle.envelope.specs.Whole.{whole};
 ghost use Rattle.layout.specs.Places.{part};
-ghost use Rattle.layout.specs.Config.{kindOf, clampOf, brakeKindOf, contactOf, limitsOf, brakeOf, zoneOf, normOf, wallsOf, gateOf, settingsOf, configOf, zoneFits, gateFits, countsFit, derivedFlat};
+ghost use Rattle.layout.specs.Config.{kindOf, clampOf, brakeKindOf, contactOf, channelOf, limitsOf, brakeOf, zoneOf, normOf, wallsOf, gateOf, settingsOf, configOf, zoneFits, codesFit, fieldsFit, countsFit, derivedFlat};
 use crate::places::to_u8;
 use crate::places::to_u16;
 use crate::places::to_u32;
@@ -104,11 +104,18 @@ fn brake_of(n: &[f64; 44], c: &[u64; 26]) -> BrakeModel
     }
 }
 
+// A channel beside the zone's other one: where either does not fit its field, both become the field's largest and are refused as equal.
+fn channel(own: u64, other: u64) -> u8
+    ensures { λ r. ⌜ r ≡ channelOf own other ⌝ }
+{
+    if other <= 255 { to_u8(own) } else { 255 }
+}
+
 fn zone_of(n: &[f64; 44], c: &[u64; 26]) -> Contact
     ensures { λ r. ⌜ r ≡ zoneOf (now (n .entry)) (now (c .entry)) ⌝ }
 {
-    let a0 = to_u8(c[6]);
-    let a1 = to_u8(c[7]);
+    let a0 = channel(c[6], c[7]);
+    let a1 = channel(c[7], c[6]);
     contact_of(c[5], n[9], n[10], a0, a1)
 }
 
@@ -250,46 +257,35 @@ pub fn config_of(
 
 // ---- what fits
 
+// The channels fit their fields, or are refused by the table: they are equal, or one is at or above the declared count.
 fn zone_fits(c: &[u64; 26]) -> bool
     ensures { λ r. ⌜ r ≡ zoneFits (now (c .entry)) ⌝ }
 {
-    (c[6] <= 255) & (c[7] <= 255)
+    ((c[6] <= 255) & (c[7] <= 255)) | (c[6] == c[7]) | (c[21] <= c[6]) | (c[21] <= c[7])
 }
 
-fn gate_fits(c: &[u64; 26]) -> bool
-    ensures { λ r. ⌜ r ≡ gateFits (now (c .entry)) ⌝ }
+// Each code and each flag is one of its kind.
+fn codes_fit(c: &[u64; 26]) -> bool
+    ensures { λ r. ⌜ r ≡ codesFit (now (c .entry)) ⌝ }
 {
-    (c[12] <= 4294967295)
-        & (c[13] <= 4294967295)
-        & (c[14] <= 4294967295)
-        & (c[15] <= 4294967295)
-        & (c[16] <= 4294967295)
-        & (c[17] <= 4294967295)
-        & (c[18] <= 4294967295)
-        & (c[19] <= 4294967295)
-        & (c[23] <= 4294967295)
-        & (c[24] <= 255)
-        & (c[25] <= 4294967295)
+    (c[2] <= 4) & (c[3] <= 1) & (c[4] <= 4) & (c[5] <= 1) & (c[22] <= 1)
 }
 
-// Each code is one of its kind and each count fits its field, as far as they are read.
+// The ticks to react and the trip bits fit their fields.
+fn fields_fit(c: &[u64; 26]) -> bool
+    ensures { λ r. ⌜ r ≡ fieldsFit (now (c .entry)) ⌝ }
+{
+    (c[11] <= 65535) & (c[20] <= 4294967295)
+}
+
+// All that the table has no row for fits, as far as it is read.
 pub fn counts_fit(c: &[u64; 26]) -> bool
     ensures { λ r. ⌜ r ≡ countsFit (now (c .entry)) ⌝ }
 {
+    let codes = codes_fit(c);
+    let fields = fields_fit(c);
     let zone = zone_fits(c);
-    let gate = gate_fits(c);
-    (c[2] <= 4)
-        & (c[3] <= 1)
-        & (c[4] <= 4)
-        & (c[5] <= 1)
-        & (c[8] <= 65535)
-        & (c[9] <= 65535)
-        & (c[10] <= 65535)
-        & (c[11] <= 65535)
-        & (c[20] <= 4294967295)
-        & (c[22] <= 1)
-        & ((c[5] == 0) | zone)
-        & ((c[22] == 0) | gate)
+    codes & fields & ((c[5] == 0) | zone) & ((c[22] == 0) | (c[25] <= 4294967295))
 }
 
 // Lays what is derived out in the array.

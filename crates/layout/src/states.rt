@@ -5,17 +5,15 @@ ghost use Rattle.layout.specs.State.{stateFits, stateOf, heldMarks};
 use crate::chunks::chunk_of;
 use crate::chunks::header_fits;
 use crate::places::to_u32;
-use crate::trails::trail_fits;
 use crate::trails::trail_of;
 use tier1::Tier1Rt;
 
-// Each count fits its field.
-pub fn state_fits(h: &[u64; 6], t: &[u64; 2], c: &[u64; 2]) -> bool
-    ensures { λ r. ⌜ r ≡ stateFits (now (h .entry)) (now (t .entry)) (now (c .entry)) ⌝ }
+// The chunk's counts fit, have_prev is a flag, and the bits of the held features fit their field.
+pub fn state_fits(h: &[u64; 6], c: &[u64; 2]) -> bool
+    ensures { λ r. ⌜ r ≡ stateFits (now (h .entry)) (now (c .entry)) ⌝ }
 {
     let chunk = header_fits(h);
-    let trail = trail_fits(t);
-    chunk & trail & (c[0] <= 1) & (c[1] <= 4294967295)
+    chunk & (c[0] <= 1) & (c[1] <= 4294967295)
 }
 
 // The state that the arrays stand for.

@@ -1,15 +1,8 @@
-// A trail: its 256 numbers; 2 counts, head and len.
+// A trail: its 256 numbers; 2 counts, head and len, which the table refuses long before they fill their fields.
 ghost use mathlib.Core.Path.{_≡_};
-ghost use Rattle.layout.specs.Trail.{trailFits, trailOf, trailMarks};
+ghost use Rattle.layout.specs.Trail.{trailOf, trailMarks};
 use crate::places::to_u8;
 use window::Trail;
-
-// Each count fits its field.
-pub fn trail_fits(c: &[u64; 2]) -> bool
-    ensures { λ r. ⌜ r ≡ trailFits (now (c .entry)) ⌝ }
-{
-    (c[0] <= 255) & (c[1] <= 255)
-}
 
 // The trail that the arrays stand for.
 pub fn trail_of(l: &[f64; 256], c: &[u64; 2]) -> Trail

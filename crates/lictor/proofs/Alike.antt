@@ -36,7 +36,7 @@ use Rattle.tier1.specs.Of.{featuresOf, resetOf}
 use Rattle.brake.specs.declared.BrakeOut.{BrakeOut}
 use Rattle.brake.specs.declared.Sent.{Sent}
 use Rattle.brake.specs.Answer.{forecastAnswer, forecastSlacks, brakeAnswer, brakeOutput, holdAnswer, holdOutput}
-use Rattle.lictor.specs.Answer.{fitting, NumberGiven, FilledGiven, MaskGiven, RecordedGiven, TrailNumberGiven, CountGiven, EmptinessGiven, DerivedGiven, CheckPut, CheckGiven, FeaturedGiven, StateLaid, ClearedGiven, ForecastPut, ForecastGiven, sentNumber, SentGiven, ScoredGiven, VerdictGiven, BinGiven}
+use Rattle.lictor.specs.Answer.{fitting, NumberGiven, FilledGiven, MaskGiven, RecordedGiven, CountGiven, EmptinessGiven, DerivedGiven, CheckPut, CheckGiven, FeaturedGiven, StateLaid, ClearedGiven, ForecastPut, ForecastGiven, sentNumber, SentGiven, ScoredGiven, VerdictGiven, BinGiven}
 
 pub number-alike : {a b : Number} {r : ℕ} {old new : Float} → a ≡ b → NumberGiven a r old new → NumberGiven b r old new
 number-alike e g = rw e at g
@@ -47,17 +47,14 @@ filled-alike e g = rw e at g
 pub mask-alike : {a b : Masked} {r old new : ℕ} → a ≡ b → MaskGiven a r old new → MaskGiven b r old new
 mask-alike e g = rw e at g
 
-pub recorded-alike : {f g : Bool} {a b : Recorded} {r : ℕ} {l₀ l : List Float} {m₀ m : List ℕ} → f ≡ g → a ≡ b → RecordedGiven f a r l₀ l m₀ m → RecordedGiven g b r l₀ l m₀ m
-recorded-alike p q g = rw (p, q) at g
+pub recorded-alike : {a b : Recorded} {r : ℕ} {l₀ l : List Float} {m₀ m : List ℕ} → a ≡ b → RecordedGiven a r l₀ l m₀ m → RecordedGiven b r l₀ l m₀ m
+recorded-alike e g = rw e at g
 
-pub trail-number-alike : {f g : Bool} {a b : Number} {r : ℕ} {old new : Float} → f ≡ g → a ≡ b → TrailNumberGiven f a r old new → TrailNumberGiven g b r old new
-trail-number-alike p q g = rw (p, q) at g
+pub count-alike : {a b : Count} {r old new : ℕ} → a ≡ b → CountGiven a r old new → CountGiven b r old new
+count-alike e g = rw e at g
 
-pub count-alike : {f g : Bool} {a b : Count} {r old new : ℕ} → f ≡ g → a ≡ b → CountGiven f a r old new → CountGiven g b r old new
-count-alike p q g = rw (p, q) at g
-
-pub emptiness-alike : {f g : Bool} {a b : Emptiness} {r old new : ℕ} → f ≡ g → a ≡ b → EmptinessGiven f a r old new → EmptinessGiven g b r old new
-emptiness-alike p q g = rw (p, q) at g
+pub emptiness-alike : {a b : Emptiness} {r old new : ℕ} → a ≡ b → EmptinessGiven a r old new → EmptinessGiven b r old new
+emptiness-alike e g = rw e at g
 
 pub derived-alike : {m n : ℕ} {d e : Derived} {r : ℕ} {old new : List Float} → m ≡ n → d ≡ e → DerivedGiven m d r old new → DerivedGiven n e r old new
 derived-alike p q g = rw (p, q) at g
@@ -65,8 +62,8 @@ derived-alike p q g = rw (p, q) at g
 -- the features of a tick, of settings, a state and scores that are taken apart
 pub featured-alike : (t u p ext : List Float) (there : Bool) (k : Head) (rows : List Float) {e f g i j l : Bool} {c y : Settings} {rt st : Tier1Rt} {sc tc : Scores} {r : ℕ} {d₀ d : List Float} {h₀ h : List ℕ} {f₀ f₁ : List Float} {c₀ c₁ : List ℕ} {s₀ s : List Float} {m₀ m : List ℕ}
     → e ≡ i → f ≡ j → g ≡ l → c ≡ y → rt ≡ st → sc ≡ tc
-    → FeaturedGiven (e && f && g) (featuresOf (whole c t u) p ext there k rows rt sc) r d₀ d h₀ h f₀ f₁ c₀ c₁ s₀ s m₀ m
-    → FeaturedGiven (i && j && l) (featuresOf (whole y t u) p ext there k rows st tc) r d₀ d h₀ h f₀ f₁ c₀ c₁ s₀ s m₀ m
+    → FeaturedGiven (e && f && g) there (featuresOf (whole c t u) p ext there k rows rt sc) r d₀ d h₀ h f₀ f₁ c₀ c₁ s₀ s m₀ m
+    → FeaturedGiven (i && j && l) there (featuresOf (whole y t u) p ext there k rows st tc) r d₀ d h₀ h f₀ f₁ c₀ c₁ s₀ s m₀ m
 featured-alike t u p ext there k rows e1 e2 e3 e4 e5 e6 g = rw (e1, e2, e3, e4, e5, e6) at g
 
 pub cleared-alike : {f g : Bool} {a b : Cleared} {r : ℕ} {d₀ d : List Float} {h₀ h : List ℕ} {p₀ p : List Float} {t₀ t : List ℕ} {f₀ f₁ : List Float} {c₀ c : List ℕ}

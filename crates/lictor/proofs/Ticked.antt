@@ -46,7 +46,7 @@ fitted false n e = absurd (omega arith)
 module _ (c : FuseConfig) (p ext : List Float) (k : Head) (rows : List Float) (rt : Tier1Rt) (sc : Scores) where
   pub refused-places : (there : Bool) {g : Bool} {a : TickOut} {n : ℕ} {d : List Float} {h : List ℕ} {f : List Float} {m : List ℕ} {s : List Float} {q : List ℕ}
       → a ≡ outOf (featuresOf c p ext there k rows rt sc) → n ≡ fitting g (a .refusal .number) → (n ≡ 0 → ⊥)
-      → FeaturedGiven g (featuresOf c p ext there k rows rt sc) n d d h h f f m m s s q q
+      → FeaturedGiven g there (featuresOf c p ext there k rows rt sc) n d d h h f f m m s s q q
   refused-places there {g} ea en z =
       let w : _ ≡ fitting g (featuresOf c p ext there k rows rt sc .refusal .number) = rw ea at en in
       let v = ne-eqb _ _ (λ y. z (w ∙ y)) in
@@ -56,18 +56,18 @@ module _ (c : FuseConfig) (p ext : List Float) (k : Head) (rows : List Float) (r
   rows-at true f e = rw (le-leb (length rows) 512 (f refl), ← e)
   rows-at false f e = sym e
 
-  header-at : (t : Bool) → (if t then headerSaid k true else headerFlat (rt .prev)) ≡ headerFlat (if t then heldOf (rt .prev) (k .seq) (k .«t_emit») (k .horizon) (k .dim) (k .«exec_steps») rows else rt .prev)
-  header-at true = refl
-  header-at false = refl
+  header-at : (t : Bool) (h : List ℕ) → (if t then headerSaid k true else h) ≡ (if t then headerFlat (if t then heldOf (rt .prev) (k .seq) (k .«t_emit») (k .horizon) (k .dim) (k .«exec_steps») rows else rt .prev) else h)
+  header-at true h = refl
+  header-at false h = refl
 
   pub passed-places : (there : Bool) {g : Bool} {a : TickOut} {n : ℕ} {d₀ d : List Float} {h₀ h : List ℕ} {f₀ f : List Float} {m₀ m : List ℕ} {s₀ s : List Float} {q₀ q : List ℕ}
       → a ≡ outOf (featuresOf c p ext there k rows rt sc) → n ≡ fitting g (a .refusal .number) → n ≡ 0
       → rt .prev .«data» ≡ d₀
-      → (d ≡ (if there then rowsOver d₀ rows else d₀)) × (h ≡ (if there then headerSaid k true else headerFlat (rt .prev)))
+      → (d ≡ (if there then rowsOver d₀ rows else d₀)) × (h ≡ (if there then headerSaid k true else h₀))
       → (f ≡ a .held) × (m ≡ heldMarks (there || rt .«have_prev») (a .«held_valid»))
       → (s ≡ scoresFlat (scoresNext a sc)) × (q ≡ marksFlat (scoresNext a sc))
-      → FeaturedGiven g (featuresOf c p ext there k rows rt sc) n d₀ d h₀ h f₀ f m₀ m s₀ s q₀ q
-  passed-places there {g} {a} {n} ea en ez ed eb eh es =
+      → FeaturedGiven g there (featuresOf c p ext there k rows rt sc) n d₀ d h₀ h f₀ f m₀ m s₀ s q₀ q
+  passed-places there {g} {a} {n} {d₀} {d} {h₀} ea en ez ed eb eh es =
       let w : n ≡ fitting g (featuresOf c p ext there k rows rt sc .refusal .number) = rw ea at en in
       let y = fitted g (featuresOf c p ext there k rows rt sc .refusal .number) (sym w ∙ ez) in
       let v = eq-eqb _ _ (sym w ∙ ez) in
@@ -75,7 +75,7 @@ module _ (c : FuseConfig) (p ext : List Float) (k : Head) (rows : List Float) (r
       record {
         number = w;
         rows = rw v (eb .0 ∙ rows-at there (rows-fit c p ext there k rows rt sc y) ed ∙ sym (ap (λ (z : Featured). z .rt .prev .«data») x));
-        header = rw v (eb .1 ∙ header-at there ∙ sym (ap (λ (z : Featured). headerFlat (z .rt .prev)) x));
+        header = rw v (eb .1 ∙ header-at there h₀ ∙ sym (ap (λ (z : Featured). if there then headerFlat (z .rt .prev) else h₀) x));
         held = rw v (eh .0 ∙ ap (λ (z : TickOut). z .held) ea);
         kept = rw v (eh .1 ∙ ap (λ (z : TickOut). heldMarks (there || rt .«have_prev») (z .«held_valid»)) ea ∙ sym (ap (λ (z : Featured). heldMarks (z .rt .«have_prev») (z .rt .«held_valid»)) x));
         scores = rw v (es .0 ∙ ap (λ (z : TickOut). scoresFlat (scoresNext z sc)) ea ∙ sym (ap (λ (z : Featured). scoresFlat (z .scores)) x));

@@ -32,13 +32,13 @@ use Rattle.brake.specs.declared.BrakeOut.{BrakeOut}
 use Rattle.brake.specs.declared.BrakeOut.the-variants as F
 use Rattle.brake.specs.declared.Sent.{Sent}
 use Rattle.brake.specs.declared.Sent.the-variants as S
-use Rattle.layout.specs.Chunk.{headerFlat}
+use Rattle.layout.specs.Chunk.{headerFlat, unheld}
 use Rattle.layout.specs.Trail.{trailMarks}
 use Rattle.layout.specs.State.{heldMarks}
 use Rattle.layout.specs.Scores.{scoresFlat, marksFlat}
 use Rattle.layout.specs.Config.{derivedFlat}
 
--- the boundary's own number comes first: 255 where a code is none of its kind or a count does not fit its field
+-- the boundary's own number comes first: 255 where a code or a flag is none of its kind, or a count does not fit its field and the table does not refuse it
 abbrev pub fitting : Bool → ℕ → ℕ
 fitting fits n = if fits then n else 255
 
@@ -84,15 +84,10 @@ pub record MaskGiven (a : Masked) (r old new : ℕ) : Type 0 where
 
 -- .. and a trail, in 256 numbers and 2 counts
 
-pub record RecordedGiven (fits : Bool) (a : Recorded) (r : ℕ) (l₀ l : List Float) (m₀ m : List ℕ) : Type 0 where
-  pub number : r ≡ fitting fits (a .number)
-  pub numbers : l ≡ written (fitting fits (a .number)) (a .trail .buf) l₀
-  pub marks : m ≡ written (fitting fits (a .number)) (trailMarks (a .trail)) m₀
-
--- a number of a trail whose counts may not fit
-pub record TrailNumberGiven (fits : Bool) (a : Number) (r : ℕ) (old new : Float) : Type 0 where
-  pub number : r ≡ fitting fits (numberOf a)
-  pub value : new ≡ (if fits then valueOf a old else old)
+pub record RecordedGiven (a : Recorded) (r : ℕ) (l₀ l : List Float) (m₀ m : List ℕ) : Type 0 where
+  pub number : r ≡ a .number
+  pub numbers : l ≡ written (a .number) (a .trail .buf) l₀
+  pub marks : m ≡ written (a .number) (trailMarks (a .trail)) m₀
 
 -- a count of a trail's samples
 unfoldable pub countNumber : Count → ℕ
@@ -103,9 +98,9 @@ unfoldable pub countValue : Count → ℕ → ℕ
 countValue (C.Samples n) old = n
 countValue (C.Refused r) old = old
 
-pub record CountGiven (fits : Bool) (a : Count) (r old new : ℕ) : Type 0 where
-  pub number : r ≡ fitting fits (countNumber a)
-  pub len : new ≡ (if fits then countValue a old else old)
+pub record CountGiven (a : Count) (r old new : ℕ) : Type 0 where
+  pub number : r ≡ countNumber a
+  pub len : new ≡ countValue a old
 
 -- 1 where a trail is empty, else 0
 unfoldable pub emptinessNumber : Emptiness → ℕ
@@ -116,9 +111,9 @@ unfoldable pub emptinessValue : Emptiness → ℕ → ℕ
 emptinessValue (E.Empty b) old = bit b
 emptinessValue (E.Refused r) old = old
 
-pub record EmptinessGiven (fits : Bool) (a : Emptiness) (r old new : ℕ) : Type 0 where
-  pub number : r ≡ fitting fits (emptinessNumber a)
-  pub empty : new ≡ (if fits then emptinessValue a old else old)
+pub record EmptinessGiven (a : Emptiness) (r old new : ℕ) : Type 0 where
+  pub number : r ≡ emptinessNumber a
+  pub empty : new ≡ emptinessValue a old
 
 -- ---- module 4: what is derived, in 29 numbers
 
@@ -153,12 +148,12 @@ pub record CheckGiven (fits : Bool) (a : Check) (l : List Float) (r : ℕ) (m₀
   pub speed : x ≡ (if fits then checkSpeed a x₀ else x₀)
   pub output : o ≡ (if fits then l else o₀)
 
--- ---- module 6: the chunk before, the held features with their 2 counts, and the scores; the trail is only read
+-- ---- module 6: the chunk before, whose header stays where no chunk came, the held features with their 2 counts, and the scores; the trail is only read
 
-pub record FeaturedGiven (fits : Bool) (a : Featured) (r : ℕ) (d₀ d : List Float) (h₀ h : List ℕ) (f₀ f : List Float) (c₀ c : List ℕ) (s₀ s : List Float) (m₀ m : List ℕ) : Type 0 where
+pub record FeaturedGiven (fits came : Bool) (a : Featured) (r : ℕ) (d₀ d : List Float) (h₀ h : List ℕ) (f₀ f : List Float) (c₀ c : List ℕ) (s₀ s : List Float) (m₀ m : List ℕ) : Type 0 where
   pub number : r ≡ fitting fits (a .refusal .number)
   pub rows : d ≡ written (fitting fits (a .refusal .number)) (a .rt .prev .«data») d₀
-  pub header : h ≡ written (fitting fits (a .refusal .number)) (headerFlat (a .rt .prev)) h₀
+  pub header : h ≡ written (fitting fits (a .refusal .number)) (if came then headerFlat (a .rt .prev) else h₀) h₀
   pub held : f ≡ written (fitting fits (a .refusal .number)) (a .rt .held) f₀
   pub kept : c ≡ written (fitting fits (a .refusal .number)) (heldMarks (a .rt .«have_prev») (a .rt .«held_valid»)) c₀
   pub scores : s ≡ written (fitting fits (a .refusal .number)) (scoresFlat (a .scores)) s₀
@@ -173,11 +168,11 @@ pub record StateLaid (rt : Tier1Rt) (d : List Float) (h : List ℕ) (p : List Fl
   pub held : f ≡ rt .held
   pub kept : c ≡ heldMarks (rt .«have_prev») (rt .«held_valid»)
 
--- .. and one that is reset, the trail with it
+-- .. and one that is reset, the trail with it; of the chunk before all but whether it is held stays
 pub record ClearedGiven (fits : Bool) (a : Cleared) (r : ℕ) (d₀ d : List Float) (h₀ h : List ℕ) (p₀ p : List Float) (t₀ t : List ℕ) (f₀ f : List Float) (c₀ c : List ℕ) : Type 0 where
   pub number : r ≡ fitting fits (a .refusal .number)
   pub rows : d ≡ written (fitting fits (a .refusal .number)) (a .rt .prev .«data») d₀
-  pub header : h ≡ written (fitting fits (a .refusal .number)) (headerFlat (a .rt .prev)) h₀
+  pub header : h ≡ written (fitting fits (a .refusal .number)) (unheld h₀) h₀
   pub trail : p ≡ written (fitting fits (a .refusal .number)) (a .rt .trail .buf) p₀
   pub samples : t ≡ written (fitting fits (a .refusal .number)) (trailMarks (a .rt .trail)) t₀
   pub held : f ≡ written (fitting fits (a .refusal .number)) (a .rt .held) f₀

@@ -1,6 +1,6 @@
 // Answers, put where C reads them: the number is returned, and a refusal leaves every place as it was, but for the place that a forecast names.
 ghost use mathlib.Core.Path.{_≡_};
-ghost use Rattle.lictor.specs.Answer.{fitting, NumberGiven, FilledGiven, MaskGiven, RecordedGiven, TrailNumberGiven, CountGiven, EmptinessGiven, DerivedGiven, CheckPut, ClearedGiven, ForecastPut, sentNumber, ScoredGiven, VerdictGiven, BinGiven};
+ghost use Rattle.lictor.specs.Answer.{fitting, NumberGiven, FilledGiven, MaskGiven, RecordedGiven, CountGiven, EmptinessGiven, DerivedGiven, CheckPut, ClearedGiven, ForecastPut, sentNumber, ScoredGiven, VerdictGiven, BinGiven};
 use brake::BrakeOut;
 use brake::Sent;
 use chunk::Filled;
@@ -16,7 +16,7 @@ use window::Emptiness;
 use window::Masked;
 use window::Recorded;
 
-// The number that is given: 255 where a code is none of its kind or a count does not fit its field.
+// The number that is given: 255 where a code or a flag is none of its kind, or a count does not fit its field and the table does not refuse it.
 pub(crate) fn fitting(fits: bool, number: u8) -> u64
     ensures { λ r. ⌜ r ≡ fitting fits number ⌝ }
 {
@@ -57,36 +57,19 @@ pub(crate) fn put_mask(a: Masked, mask: &mut u64) -> u64
     }
 }
 
-pub(crate) fn put_recorded(
-    fits: bool,
-    a: Recorded,
-    numbers: &mut [f64; 256],
-    marks: &mut [u64; 2],
-) -> u64
-    ensures { λ r. ⌜ RecordedGiven fits a r (now (numbers .entry)) (now (numbers .exit)) (now (marks .entry)) (now (marks .exit)) ⌝ }
+pub(crate) fn put_recorded(a: Recorded, numbers: &mut [f64; 256], marks: &mut [u64; 2]) -> u64
+    ensures { λ r. ⌜ RecordedGiven a r (now (numbers .entry)) (now (numbers .exit)) (now (marks .entry)) (now (marks .exit)) ⌝ }
 {
-    let number = fitting(fits, a.number);
-    if number == 0 {
+    let refused = a.number as u64;
+    if refused == 0 {
         layout::trails::put_trail(a.trail, numbers, marks);
     }
-    number
+    refused
 }
 
-pub(crate) fn put_trail_number(fits: bool, a: Number, value: &mut f64) -> u64
-    ensures { λ r. ⌜ TrailNumberGiven fits a r (now (value .entry)) (now (value .exit)) ⌝ }
+pub(crate) fn put_count(a: Count, len: &mut u64) -> u64
+    ensures { λ r. ⌜ CountGiven a r (now (len .entry)) (now (len .exit)) ⌝ }
 {
-    if !fits {
-        return 255;
-    }
-    put_number(a, value)
-}
-
-pub(crate) fn put_count(fits: bool, a: Count, len: &mut u64) -> u64
-    ensures { λ r. ⌜ CountGiven fits a r (now (len .entry)) (now (len .exit)) ⌝ }
-{
-    if !fits {
-        return 255;
-    }
     match a {
         Count::Refused(r) => r.number as u64,
         Count::Samples(n) => {
@@ -96,12 +79,9 @@ pub(crate) fn put_count(fits: bool, a: Count, len: &mut u64) -> u64
     }
 }
 
-pub(crate) fn put_emptiness(fits: bool, a: Emptiness, empty: &mut u64) -> u64
-    ensures { λ r. ⌜ EmptinessGiven fits a r (now (empty .entry)) (now (empty .exit)) ⌝ }
+pub(crate) fn put_emptiness(a: Emptiness, empty: &mut u64) -> u64
+    ensures { λ r. ⌜ EmptinessGiven a r (now (empty .entry)) (now (empty .exit)) ⌝ }
 {
-    if !fits {
-        return 255;
-    }
     match a {
         Emptiness::Refused(r) => r.number as u64,
         Emptiness::Empty(b) => {
@@ -154,7 +134,9 @@ pub(crate) fn put_cleared(
     if number == 0 {
         let rt = a.rt;
         let features = rt.held;
-        layout::chunks::put_chunk(rt.prev, rows, header);
+        let data = rt.prev.data;
+        *rows = data;
+        layout::chunks::let_go(header);
         layout::trails::put_trail(rt.trail, trail, samples);
         layout::states::put_held(features, rt.have_prev, rt.held_valid, held, kept);
     }

@@ -15,20 +15,35 @@ ghost use Rattle.window.specs.Of.{pushOf, clearOf};
 ghost use Rattle.envelope.specs.Derive.{derived};
 ghost use Rattle.envelope.specs.Refusals.{configJudged};
 ghost use Rattle.conformal.specs.Answer.{standardised, aggregated, tripped, timeBinOf};
-ghost use Rattle.layout.specs.Trail.{trailFits, trailOf};
+ghost use Rattle.layout.specs.Trail.{trailOf};
 ghost use Rattle.layout.specs.Scores.{marksFit, scoresOf};
 ghost use Rattle.layout.specs.Config.{configOf, countsFit};
-ghost use Rattle.lictor.specs.Answer.{fitting, NumberGiven, FilledGiven, MaskGiven, RecordedGiven, TrailNumberGiven, CountGiven, EmptinessGiven, DerivedGiven, ScoredGiven, VerdictGiven, BinGiven};
+ghost use Rattle.lictor.specs.Answer.{fitting, NumberGiven, FilledGiven, MaskGiven, RecordedGiven, CountGiven, EmptinessGiven, DerivedGiven, ScoredGiven, VerdictGiven, BinGiven};
 ghost use Rattle.lictor.specs.Asked.{bare, calibrationAsked};
+ghost use Rattle.lictor.specs.Environment.{environment};
 use chunk::ChunkBuf;
 use conformal::Calibration;
 use conformal::GateSpec;
 use window::Window;
 
 mod answer;
-mod braking;
-mod checks;
-mod scoring;
+pub mod braking;
+pub mod checks;
+pub mod scoring;
+
+// ---- where it runs
+
+// Whether the processor computes as the format says, of 1 and the least normal number. They are arguments so that nothing of it can be
+// computed before the call.
+#[no_mangle]
+pub extern "C" fn lictor_environment(one: f64, least: f64) -> u64
+    ensures { λ r. ⌜ r ≡ environment binary64 one least ⌝ }
+{
+    let up = one + one / 9007199254740992.0;
+    let down = one - one / 18014398509481984.0;
+    let half = least / 2.0;
+    ((up == one) & (down == one) & (0.0 < half)) as u64
+}
 
 // ---- module 1
 
@@ -169,22 +184,20 @@ pub extern "C" fn lictor_trail_push(
     p: &[f64],
     d: usize,
 ) -> u64
-    ensures { λ r. ⌜ RecordedGiven (trailFits (now (marks .entry))) (pushOf (trailOf (now (numbers .entry)) (now (marks .entry))) (now (p .entry)) d) r (now (numbers .entry)) (now (numbers .exit)) (now (marks .entry)) (now (marks .exit)) ⌝ }
+    ensures { λ r. ⌜ RecordedGiven (pushOf (trailOf (now (numbers .entry)) (now (marks .entry))) (now (p .entry)) d) r (now (numbers .entry)) (now (numbers .exit)) (now (marks .entry)) (now (marks .exit)) ⌝ }
 {
-    let fits = layout::trails::trail_fits(marks);
     let t = layout::trails::trail_of(numbers, marks);
     let pushed = t.push(p, d);
-    answer::put_recorded(fits, pushed, numbers, marks)
+    answer::put_recorded(pushed, numbers, marks)
 }
 
 #[no_mangle]
 pub extern "C" fn lictor_trail_clear(numbers: &mut [f64; 256], marks: &mut [u64; 2]) -> u64
-    ensures { λ r. ⌜ RecordedGiven (trailFits (now (marks .entry))) (clearOf (trailOf (now (numbers .entry)) (now (marks .entry)))) r (now (numbers .entry)) (now (numbers .exit)) (now (marks .entry)) (now (marks .exit)) ⌝ }
+    ensures { λ r. ⌜ RecordedGiven (clearOf (trailOf (now (numbers .entry)) (now (marks .entry)))) r (now (numbers .entry)) (now (numbers .exit)) (now (marks .entry)) (now (marks .exit)) ⌝ }
 {
-    let fits = layout::trails::trail_fits(marks);
     let t = layout::trails::trail_of(numbers, marks);
     let cleared = t.clear();
-    answer::put_recorded(fits, cleared, numbers, marks)
+    answer::put_recorded(cleared, numbers, marks)
 }
 
 #[no_mangle]
@@ -195,12 +208,11 @@ pub extern "C" fn lictor_trail_net(
     w: usize,
     net: &mut f64,
 ) -> u64
-    ensures { λ r. ⌜ TrailNumberGiven (trailFits (now (marks .entry))) (netOf binary64 (trailOf (now (numbers .entry)) (now (marks .entry))) d w) r (now (net .entry)) (now (net .exit)) ⌝ }
+    ensures { λ r. ⌜ NumberGiven (netOf binary64 (trailOf (now (numbers .entry)) (now (marks .entry))) d w) r (now (net .entry)) (now (net .exit)) ⌝ }
 {
-    let fits = layout::trails::trail_fits(marks);
     let t = layout::trails::trail_of(numbers, marks);
     let found = t.net(d, w);
-    answer::put_trail_number(fits, found, net)
+    answer::put_number(found, net)
 }
 
 #[no_mangle]
@@ -211,22 +223,20 @@ pub extern "C" fn lictor_trail_path(
     w: usize,
     path: &mut f64,
 ) -> u64
-    ensures { λ r. ⌜ TrailNumberGiven (trailFits (now (marks .entry))) (pathOf binary64 (trailOf (now (numbers .entry)) (now (marks .entry))) d w) r (now (path .entry)) (now (path .exit)) ⌝ }
+    ensures { λ r. ⌜ NumberGiven (pathOf binary64 (trailOf (now (numbers .entry)) (now (marks .entry))) d w) r (now (path .entry)) (now (path .exit)) ⌝ }
 {
-    let fits = layout::trails::trail_fits(marks);
     let t = layout::trails::trail_of(numbers, marks);
     let found = t.path(d, w);
-    answer::put_trail_number(fits, found, path)
+    answer::put_number(found, path)
 }
 
 #[no_mangle]
 pub extern "C" fn lictor_trail_len(numbers: &[f64; 256], marks: &[u64; 2], len: &mut u64) -> u64
-    ensures { λ r. ⌜ CountGiven (trailFits (now (marks .entry))) (countOf (trailOf (now (numbers .entry)) (now (marks .entry)))) r (now (len .entry)) (now (len .exit)) ⌝ }
+    ensures { λ r. ⌜ CountGiven (countOf (trailOf (now (numbers .entry)) (now (marks .entry)))) r (now (len .entry)) (now (len .exit)) ⌝ }
 {
-    let fits = layout::trails::trail_fits(marks);
     let t = layout::trails::trail_of(numbers, marks);
     let held = t.len();
-    answer::put_count(fits, held, len)
+    answer::put_count(held, len)
 }
 
 #[no_mangle]
@@ -235,12 +245,11 @@ pub extern "C" fn lictor_trail_is_empty(
     marks: &[u64; 2],
     empty: &mut u64,
 ) -> u64
-    ensures { λ r. ⌜ EmptinessGiven (trailFits (now (marks .entry))) (emptinessOf (trailOf (now (numbers .entry)) (now (marks .entry)))) r (now (empty .entry)) (now (empty .exit)) ⌝ }
+    ensures { λ r. ⌜ EmptinessGiven (emptinessOf (trailOf (now (numbers .entry)) (now (marks .entry)))) r (now (empty .entry)) (now (empty .exit)) ⌝ }
 {
-    let fits = layout::trails::trail_fits(marks);
     let t = layout::trails::trail_of(numbers, marks);
     let said = t.is_empty();
-    answer::put_emptiness(fits, said, empty)
+    answer::put_emptiness(said, empty)
 }
 
 // ---- module 4

@@ -22,17 +22,9 @@ fn put_rows(rows: &[f64], before: &mut [f64; 512])
     }
 }
 
-// Puts the chunk before after a tick: the new one, where one came; else it is the old one.
-fn put_before(
-    came: bool,
-    k: Head,
-    rows: &[f64],
-    old: Head,
-    filled: bool,
-    before: &mut [f64; 512],
-    header: &mut [u64; 6],
-)
-    ensures { λ _. ⌜ (now (before .exit) ≡ (if came then rowsOver (now (before .entry)) (now (rows .entry)) else now (before .entry))) × (now (header .exit) ≡ (if came then headerSaid k true else headerSaid old filled)) ⌝ }
+// Puts the chunk before after a tick: the new one, where one came; else it stays.
+fn put_before(came: bool, k: Head, rows: &[f64], before: &mut [f64; 512], header: &mut [u64; 6])
+    ensures { λ _. ⌜ (now (before .exit) ≡ (if came then rowsOver (now (before .entry)) (now (rows .entry)) else now (before .entry))) × (now (header .exit) ≡ (if came then headerSaid k true else now (header .entry))) ⌝ }
 {
     if came {
         put_rows(rows, before);
@@ -43,16 +35,6 @@ fn put_before(
             k.dim,
             k.exec_steps,
             true,
-            header,
-        );
-    } else {
-        layout::chunks::put_header(
-            old.seq,
-            old.t_emit,
-            old.horizon,
-            old.dim,
-            old.exec_steps,
-            filled,
             header,
         );
     }
@@ -82,10 +64,10 @@ pub extern "C" fn lictor_features<'a>(
     scores: &mut [f64; 25],
     marks: &mut [u64; 2],
 ) -> u64
-    ensures { λ r. ⌜ FeaturedGiven (countsFit (now (counts .entry)) && stateFits (now (header .entry)) (now (samples .entry)) (now (kept .entry)) && marksFit (now (marks .entry))) (featuresOf (configOf (now (numbers .entry)) (now (counts .entry)) (now (center .entry)) (now (scale .entry))) (now (pos .entry)) (now (ext .entry)) (not (eqb there 0)) (headAsked seq «t_emit» horizon dim «exec_steps») (now (rows .entry)) (stateOf (now (before .entry)) (now (header .entry)) (now (trail .entry)) (now (samples .entry)) (now (held .entry)) (now (kept .entry))) (scoresOf (now (scores .entry)) (now (marks .entry)))) r (now (before .entry)) (now (before .exit)) (now (header .entry)) (now (header .exit)) (now (held .entry)) (now (held .exit)) (now (kept .entry)) (now (kept .exit)) (now (scores .entry)) (now (scores .exit)) (now (marks .entry)) (now (marks .exit)) ⌝ }
+    ensures { λ r. ⌜ FeaturedGiven (countsFit (now (counts .entry)) && stateFits (now (header .entry)) (now (kept .entry)) && marksFit (now (marks .entry))) (not (eqb there 0)) (featuresOf (configOf (now (numbers .entry)) (now (counts .entry)) (now (center .entry)) (now (scale .entry))) (now (pos .entry)) (now (ext .entry)) (not (eqb there 0)) (headAsked seq «t_emit» horizon dim «exec_steps») (now (rows .entry)) (stateOf (now (before .entry)) (now (header .entry)) (now (trail .entry)) (now (samples .entry)) (now (held .entry)) (now (kept .entry))) (scoresOf (now (scores .entry)) (now (marks .entry)))) r (now (before .entry)) (now (before .exit)) (now (header .entry)) (now (header .exit)) (now (held .entry)) (now (held .exit)) (now (kept .entry)) (now (kept .exit)) (now (scores .entry)) (now (scores .exit)) (now (marks .entry)) (now (marks .exit)) ⌝ }
 {
     let config_fits = layout::config::counts_fit(counts);
-    let state_fits = layout::states::state_fits(header, samples, kept);
+    let state_fits = layout::states::state_fits(header, kept);
     let scores_fit = layout::scores::marks_fit(marks);
     let c = layout::config::settings_of(numbers, counts);
     let rt = layout::states::state_of(before, header, trail, samples, held, kept);
@@ -104,14 +86,7 @@ pub extern "C" fn lictor_features<'a>(
     if number != 0 {
         return number;
     }
-    let old = Head {
-        seq: rt.prev.seq,
-        t_emit: rt.prev.t_emit,
-        horizon: rt.prev.horizon,
-        dim: rt.prev.dim,
-        exec_steps: rt.prev.exec_steps,
-    };
-    put_before(came, k, rows, old, rt.prev.filled, before, header);
+    put_before(came, k, rows, before, header);
     let features = a.held;
     layout::states::put_held(features, came | rt.have_prev, a.held_valid, held, kept);
     let f = a.f;
@@ -154,9 +129,9 @@ pub extern "C" fn lictor_tier1_reset(
     held: &mut [f64; 6],
     kept: &mut [u64; 2],
 ) -> u64
-    ensures { λ r. ⌜ ClearedGiven (stateFits (now (header .entry)) (now (samples .entry)) (now (kept .entry))) (resetOf (stateOf (now (before .entry)) (now (header .entry)) (now (trail .entry)) (now (samples .entry)) (now (held .entry)) (now (kept .entry)))) r (now (before .entry)) (now (before .exit)) (now (header .entry)) (now (header .exit)) (now (trail .entry)) (now (trail .exit)) (now (samples .entry)) (now (samples .exit)) (now (held .entry)) (now (held .exit)) (now (kept .entry)) (now (kept .exit)) ⌝ }
+    ensures { λ r. ⌜ ClearedGiven (stateFits (now (header .entry)) (now (kept .entry))) (resetOf (stateOf (now (before .entry)) (now (header .entry)) (now (trail .entry)) (now (samples .entry)) (now (held .entry)) (now (kept .entry)))) r (now (before .entry)) (now (before .exit)) (now (header .entry)) (now (header .exit)) (now (trail .entry)) (now (trail .exit)) (now (samples .entry)) (now (samples .exit)) (now (held .entry)) (now (held .exit)) (now (kept .entry)) (now (kept .exit)) ⌝ }
 {
-    let fits = layout::states::state_fits(header, samples, kept);
+    let fits = layout::states::state_fits(header, kept);
     let rt = layout::states::state_of(before, header, trail, samples, held, kept);
     let a = rt.reset();
     crate::answer::put_cleared(fits, a, before, header, trail, samples, held, kept)

@@ -1,6 +1,7 @@
 pub mod Wall
 pub mod OneAnswer
 pub mod Exported
+pub mod Counts
 pub mod Exactly
 pub mod Beliefs
 pub mod Refused

@@ -95,10 +95,10 @@ use Rattle.layout.proofs.chunks.header_fits.Reads as header-fits
 use Rattle.layout.proofs.chunks.chunk_of.Reads as chunk-of
 use Rattle.layout.proofs.chunks.put_header.Reads as put-header
 use Rattle.layout.proofs.chunks.put_chunk.Reads as put-chunk
+use Rattle.layout.proofs.chunks.let_go.Reads as let-go
 use Rattle.layout.proofs.states.state_fits.Reads as state-fits
 use Rattle.layout.proofs.states.state_of.Reads as state-of
 use Rattle.layout.proofs.states.put_held.Reads as put-held
-use Rattle.layout.proofs.trails.trail_fits.Reads as trail-fits
 use Rattle.layout.proofs.trails.trail_of.Reads as trail-of
 use Rattle.layout.proofs.trails.put_trail.Reads as put-trail
 use Rattle.layout.proofs.scores.marks_fit.Reads as marks-fit
@@ -119,15 +119,15 @@ pub unique : {A : Type 0} {a b c : A} → a ≡ c → b ≡ c → a ≡ b
 unique p q = p ∙ sym q
 
 -- .. nor do two
-both : {A B : Type 0} {a b c : A} {d e f : B} → (a ≡ c) × (d ≡ f) → (b ≡ c) × (e ≡ f) → (a ≡ b) × (d ≡ e)
+pub both : {A B : Type 0} {a b c : A} {d e f : B} → (a ≡ c) × (d ≡ f) → (b ≡ c) × (e ≡ f) → (a ≡ b) × (d ≡ e)
 both p q = (unique (p .0) (q .0), unique (p .1) (q .1))
 
 -- what is told of an answer r and of the arguments x as the function returns is the same for any two that meet the contract with arguments a
-abbrev One : {L A R E B : Type 0} → (L → A → R → E → Type 0) → (R → E → B) → Type 0
+abbrev pub One : {L A R E B : Type 0} → (L → A → R → E → Type 0) → (R → E → B) → Type 0
 One {L} {A} {R} {E} Post told = (l : L) (a : A) (r s : R) (x y : E) → Post l a r x → Post l a s y → told r x ≡ told s y
 
 -- .. and so are the answer, and what was lent to be written
-abbrev OneWithLent : {L A R E B : Type 0} → (L → A → R → E → Type 0) → (E → B) → Type 0
+abbrev pub OneWithLent : {L A R E B : Type 0} → (L → A → R → E → Type 0) → (E → B) → Type 0
 OneWithLent {L} {A} {R} {E} Post lent = (l : L) (a : A) (r s : R) (x y : E) → Post l a r x → Post l a s y → (r ≡ s) × (lent x ≡ lent y)
 
 -- .. and so are two buffers that are lent to be written
@@ -446,6 +446,9 @@ one-put-header l a r s x y = unique
 pub one-put-chunk : BothLent put-chunk.Post (λ x. x .1 .0 .now) (λ x. x .1 .1 .0 .now)
 one-put-chunk l a r s x y = both
 
+pub one-let-go : One let-go.Post (λ r x. x .0 .now)
+one-let-go l a r s x y = unique
+
 pub one-state-fits : One state-fits.Post (λ r x. r)
 one-state-fits l a r s x y = unique
 
@@ -454,9 +457,6 @@ one-state-of l a r s x y = unique
 
 pub one-put-held : BothLent put-held.Post (λ x. x .1 .1 .1 .0 .now) (λ x. x .1 .1 .1 .1 .0 .now)
 one-put-held l a r s x y = both
-
-pub one-trail-fits : One trail-fits.Post (λ r x. r)
-one-trail-fits l a r s x y = unique
 
 pub one-trail-of : One trail-of.Post (λ r x. r)
 one-trail-of l a r s x y = unique

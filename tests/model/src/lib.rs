@@ -3,6 +3,7 @@
 // the rules speak of coordinates by their number
 #![allow(clippy::needless_range_loop)]
 
+pub mod boundary;
 pub mod brake;
 pub mod checked;
 pub mod chunk;

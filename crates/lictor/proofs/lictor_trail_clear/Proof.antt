@@ -4,9 +4,6 @@ use borrow.Author.Needs.{needs}
 use Rattle.lictor.proofs.lictor_trail_clear.Statement.{statement}
 use Rattle.lictor.proofs.lictor_trail_clear.Tie as tie
 
-trail-fits-requires : tie.Need-trail-fits-requires
-trail-fits-requires c κs = search needs
-
 trail-of-requires : tie.Need-trail-of-requires
 trail-of-requires c κs = search needs
 
@@ -17,9 +14,9 @@ put-recorded-requires : tie.Need-put-recorded-requires
 put-recorded-requires c κs = search needs
 
 returns : tie.Need-returns
-returns c = recorded-alike (c .before .before .before .before .before .before .before .trail-fits .ensures) (clear-alike (c .before .before .before .clear .ensures) (c .before .before .before .before .trail-of .ensures)) (c .put-recorded .ensures)
+returns c = recorded-alike (clear-alike (c .before .before .before .clear .ensures) (c .before .before .before .before .trail-of .ensures)) (c .put-recorded .ensures)
 
 pub lictor-trail-clear-spec : {M : Type 1} → statement M
 lictor-trail-clear-spec =
     tie.close
-    (tie.spec trail-fits-requires trail-of-requires clear-requires put-recorded-requires returns)
+    (tie.spec trail-of-requires clear-requires put-recorded-requires returns)

@@ -4,9 +4,6 @@ use borrow.Author.Needs.{needs}
 use Rattle.lictor.proofs.lictor_trail_is_empty.Statement.{statement}
 use Rattle.lictor.proofs.lictor_trail_is_empty.Tie as tie
 
-trail-fits-requires : tie.Need-trail-fits-requires
-trail-fits-requires c κs = search needs
-
 trail-of-requires : tie.Need-trail-of-requires
 trail-of-requires c κs = search needs
 
@@ -17,9 +14,9 @@ put-emptiness-requires : tie.Need-put-emptiness-requires
 put-emptiness-requires c κs = search needs
 
 returns : tie.Need-returns
-returns c = emptiness-alike (c .before .before .before .before .trail-fits .ensures) (is-empty-alike (c .before .before .is-empty .ensures) (c .before .before .before .trail-of .ensures)) (c .put-emptiness .ensures)
+returns c = emptiness-alike (is-empty-alike (c .before .before .is-empty .ensures) (c .before .before .before .trail-of .ensures)) (c .put-emptiness .ensures)
 
 pub lictor-trail-is-empty-spec : {M : Type 1} → statement M
 lictor-trail-is-empty-spec =
     tie.close
-    (tie.spec trail-fits-requires trail-of-requires is-empty-requires put-emptiness-requires returns)
+    (tie.spec trail-of-requires is-empty-requires put-emptiness-requires returns)

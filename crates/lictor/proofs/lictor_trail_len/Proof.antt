@@ -4,9 +4,6 @@ use borrow.Author.Needs.{needs}
 use Rattle.lictor.proofs.lictor_trail_len.Statement.{statement}
 use Rattle.lictor.proofs.lictor_trail_len.Tie as tie
 
-trail-fits-requires : tie.Need-trail-fits-requires
-trail-fits-requires c κs = search needs
-
 trail-of-requires : tie.Need-trail-of-requires
 trail-of-requires c κs = search needs
 
@@ -17,9 +14,9 @@ put-count-requires : tie.Need-put-count-requires
 put-count-requires c κs = search needs
 
 returns : tie.Need-returns
-returns c = count-alike (c .before .before .before .before .trail-fits .ensures) (len-alike (c .before .before .len .ensures) (c .before .before .before .trail-of .ensures)) (c .put-count .ensures)
+returns c = count-alike (len-alike (c .before .before .len .ensures) (c .before .before .before .trail-of .ensures)) (c .put-count .ensures)
 
 pub lictor-trail-len-spec : {M : Type 1} → statement M
 lictor-trail-len-spec =
     tie.close
-    (tie.spec trail-fits-requires trail-of-requires len-requires put-count-requires returns)
+    (tie.spec trail-of-requires len-requires put-count-requires returns)

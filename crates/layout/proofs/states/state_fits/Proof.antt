@@ -1,4 +1,4 @@
--- `layout::states::state_fits` meets its contract: the chunk's counts, the trail's and its own.
+-- `layout::states::state_fits` meets its contract: the chunk's counts and its own.
 use Rattle.fmath.specs.Each.{every, every-from}
 use Rattle.layout.specs.State.{stateFits}
 use borrow.Author.Needs.{needs}
@@ -8,9 +8,6 @@ use Rattle.layout.proofs.states.state_fits.Tie as tie
 header-fits-requires : tie.Need-header-fits-requires
 header-fits-requires c κs = search needs
 
-trail-fits-requires : tie.Need-trail-fits-requires
-trail-fits-requires c κs = search needs
-
 element-copy-out-result : tie.Need-element-copy-out-result
 element-copy-out-result c = search needs
 
@@ -19,14 +16,9 @@ element-copy-out-result-2 c = search needs
 
 returns : tie.Need-returns
 unfolding stateFits every every-from
-returns c = rw (c .before .before .before .header-fits .ensures, c .before .before .trail-fits .ensures)
+returns c = rw (c .before .before .header-fits .ensures)
 
 pub state-fits-spec : {M : Type 1} → statement M
 state-fits-spec =
     tie.close
-    (tie.spec
-    header-fits-requires
-    trail-fits-requires
-    element-copy-out-result
-    element-copy-out-result-2
-    returns)
+    (tie.spec header-fits-requires element-copy-out-result element-copy-out-result-2 returns)

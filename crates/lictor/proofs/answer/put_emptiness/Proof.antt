@@ -1,12 +1,8 @@
 -- `lictor::answer::put_emptiness` meets its contract: by the cases of the answer.
-use borrow.Author.Tests.{not-true, not-false}
 use Rattle.lictor.specs.Answer.{emptinessNumber, emptinessValue}
 use borrow.Author.Needs.{needs}
 use Rattle.lictor.proofs.answer.put_emptiness.Statement.{statement}
 use Rattle.lictor.proofs.answer.put_emptiness.Tie as tie
-
-returns : tie.Need-returns
-returns c = let e = not-true (c .before .args .fits) (c .if1 .taken) in record { number = rw e; empty = rw e }
 
 enum-known-a : tie.Need-enum-known-a
 enum-known-a c = search needs
@@ -20,15 +16,13 @@ enum-known-a-2 c = search needs
 cast-empty : tie.Need-cast-empty
 cast-empty c = search needs
 
+returns : tie.Need-returns
+unfolding emptinessNumber emptinessValue
+returns c = let e = c .before .before .a .given .1 in record { number = rw e; empty = rw e }
+
 returns-2 : tie.Need-returns-2
 unfolding emptinessNumber emptinessValue
-returns-2 c = let e = not-false (c .before .before .before .before .before .args .fits) (c .before .before .before .before .if1 .left) in record { number = rw (e, c .before .before .a .given .1); empty = rw (e, c .before .before .a .given .1) }
-
-returns-3 : tie.Need-returns-3
-unfolding emptinessNumber emptinessValue
-returns-3 c = let e = not-false (c .before .before .before .before .args .fits) (c .before .before .before .if1 .left) in record { number = rw (e, c .before .a2 .given .1); empty = rw (e, c .before .a2 .given .1) }
+returns-2 c = let e = c .before .a2 .given .1 in record { number = rw e; empty = rw e }
 
 pub put-emptiness-spec : {M : Type 1} → statement M
-put-emptiness-spec =
-    tie.close
-    (tie.spec returns enum-known-a cast-result enum-known-a-2 cast-empty returns-2 returns-3)
+put-emptiness-spec = tie.close (tie.spec enum-known-a cast-result enum-known-a-2 cast-empty returns returns-2)

@@ -9,16 +9,11 @@ put-rows-requires c κs = search needs
 put-header-requires : tie.Need-put-header-requires
 put-header-requires c κs = search needs
 
-put-header-requires-2 : tie.Need-put-header-requires-2
-put-header-requires-2 c κs = search needs
-
 returns : tie.Need-returns
 returns c = let t = c .before .before .before .before .if1 .taken in (rw t (c .before .before .put-rows .ensures), rw t (c .put-header .ensures))
 
 returns-2 : tie.Need-returns-2
-returns-2 c = let t = c .before .before .if1 .left in (rw t, rw t (c .put-header2 .ensures))
+returns-2 c = let t = c .if1 .left in (rw t, rw t)
 
 pub put-before-spec : {M : Type 1} → statement M
-put-before-spec =
-    tie.close
-    (tie.spec put-rows-requires put-header-requires put-header-requires-2 returns returns-2)
+put-before-spec = tie.close (tie.spec put-rows-requires put-header-requires returns returns-2)

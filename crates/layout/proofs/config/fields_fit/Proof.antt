@@ -1,0 +1,25 @@
+-- `layout::config::fields_fit` meets its contract: by evaluation.
+use mathlib.Core.Path.{refl}
+use Rattle.fmath.specs.Each.{every, every-from}
+use Rattle.layout.specs.Config.{fieldsFit}
+use borrow.Author.Needs.{needs}
+use Rattle.layout.proofs.config.fields_fit.Statement.{statement}
+use Rattle.layout.proofs.config.fields_fit.Tie as tie
+
+element-copy-out-result : tie.Need-element-copy-out-result
+element-copy-out-result c = search needs
+
+element-copy-out-result-2 : tie.Need-element-copy-out-result-2
+element-copy-out-result-2 c = search needs
+
+returns : tie.Need-returns
+unfolding fieldsFit every every-from
+returns c = refl
+
+pub fields-fit-spec : {M : Type 1} → statement M
+fields-fit-spec =
+    tie.close
+    (tie.spec
+    element-copy-out-result
+    element-copy-out-result-2
+    returns)

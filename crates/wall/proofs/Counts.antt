@@ -1,0 +1,166 @@
+-- The number that C is given for a count is the table's for the count as it came. A count that its field cannot hold is cut to the field's largest, and each
+-- condition of the table says of that what it says of the count; where the table accepts the count itself, the boundary has given 255.
+use Prim.Native.Nat.{ℕ, zero, suc, _+_, _*_, _≤_, _<_, min}
+use mathlib.Core.Path.{_≡_, refl, sym, _∙_}
+use mathlib.Core.Bool.{Bool, true, false, not, _&&_, _||_}
+use mathlib.Core.List.{List, [], _∷_}
+use native.Mathlib.Omega.{arith}
+use native.Mathlib.Nat.{min-eq-left, min-eq-right, mul-le-mul-left}
+use borrow.Author.Tests.{ltb-true, ltb-false, leb-true, leb-false, eqb-true, eqb-false, lt-ltb, le-ltb, le-leb, lt-leb, eq-eqb, ne-eqb}
+use lib.Dec.{leb, ltb, eqb, eqb·suc-zero}
+use lib.Ieee.{Float}
+use Rattle.refusal.specs.Order.{refusal, if_then_else_}
+use Rattle.fmath.specs.Each.{at, all, every, every-from}
+use Rattle.fmath.proofs.Each.{and-left, and-right}
+use Rattle.chunk.specs.Refusals.{heldReasons}
+use Rattle.chunk.specs.Of.{clearedOf}
+use Rattle.window.specs.Rule.{bit}
+use Rattle.window.specs.Answer.{outOfSize}
+use Rattle.conformal.specs.Refusals.{named, sizesOk}
+use Rattle.envelope.specs.Refusals.{countsOk, channelsOk}
+use Rattle.layout.specs.Places.{count, in8, in16, in32}
+use Rattle.layout.specs.Chunk.{chunkOf, headerFlat, unheld}
+use Rattle.layout.specs.Trail.{trailOf}
+use Rattle.layout.specs.Config.{brakeOf, gateOf, contactOf, channelOf, zoneOf, zoneFits}
+
+-- ---- a test against a number that the field holds is the same of a count x and of the cut one
+
+at-most-by : (x m k : ℕ) (b : Bool) → k < m → leb x k ≡ b → leb (min x m) k ≡ b
+at-most-by x m k true h e = let q = leb-true x k e in le-leb (min x m) k (omega (arith, q, h))
+at-most-by x m k false h e = let q = leb-false x k e in lt-leb (min x m) k (omega (arith, q, h))
+
+at-most : (x m k : ℕ) → k < m → leb (min x m) k ≡ leb x k
+at-most x m k h = at-most-by x m k (leb x k) h refl
+
+at-least-by : (x m k : ℕ) (b : Bool) → k ≤ m → leb k x ≡ b → leb k (min x m) ≡ b
+at-least-by x m k true h e = let q = leb-true k x e in le-leb k (min x m) (omega (arith, q, h))
+at-least-by x m k false h e = let q = leb-false k x e in lt-leb k (min x m) (omega (arith, q, h))
+
+at-least : (x m k : ℕ) → k ≤ m → leb k (min x m) ≡ leb k x
+at-least x m k h = at-least-by x m k (leb k x) h refl
+
+under-by : (x m k : ℕ) (b : Bool) → k ≤ m → ltb x k ≡ b → ltb (min x m) k ≡ b
+under-by x m k true h e = let q = ltb-true x k e in lt-ltb (min x m) k (omega (arith, q, h))
+under-by x m k false h e = let q = ltb-false x k e in le-ltb (min x m) k (omega (arith, q, h))
+
+under : (x m k : ℕ) → k ≤ m → ltb (min x m) k ≡ ltb x k
+under x m k h = under-by x m k (ltb x k) h refl
+
+none-by : (x m : ℕ) (b : Bool) → 0 < m → eqb x 0 ≡ b → eqb (min x m) 0 ≡ b
+none-by x m true h e = let q = eqb-true x 0 e in eq-eqb (min x m) 0 (omega (arith, q, h))
+none-by x m false h e = ne-eqb (min x m) 0 (λ p. eqb-false x 0 e (omega (arith, p, h)))
+
+none : (x m : ℕ) → 0 < m → eqb (min x m) 0 ≡ eqb x 0
+none x m h = none-by x m (eqb x 0) h refl
+
+-- ---- row 1: a trail's counts, and a calibration's
+
+pub trail-counts : (l : List Float) (c : List ℕ) → outOfSize (trailOf l c) ≡ (ltb 31 (count c 0) || ltb 32 (count c 1))
+unfolding trailOf
+trail-counts l c = rw (at-least (count c 0) 255 32 (omega arith), at-least (count c 1) 255 33 (omega arith))
+
+pub gate-counts : (c : List ℕ) → sizesOk (gateOf c) (in32 (count c 23)) ≡ every (leb (count c 24) 8 ∷ named (count c 23) ∷ all (λ (i : ℕ). leb (count c 24) i || named (count c (12 + i))) 8 ∷ [])
+unfolding sizesOk gateOf all
+gate-counts c =
+    rw (
+      at-most (count c 24) 255 8 (omega arith),
+      under (count c 23) 4294967295 4096 (omega arith),
+      at-most (count c 24) 255 0 (omega arith),
+      at-most (count c 24) 255 1 (omega arith),
+      at-most (count c 24) 255 2 (omega arith),
+      at-most (count c 24) 255 3 (omega arith),
+      at-most (count c 24) 255 4 (omega arith),
+      at-most (count c 24) 255 5 (omega arith),
+      at-most (count c 24) 255 6 (omega arith),
+      at-most (count c 24) 255 7 (omega arith),
+      under (count c 12) 4294967295 4096 (omega arith),
+      under (count c 13) 4294967295 4096 (omega arith),
+      under (count c 14) 4294967295 4096 (omega arith),
+      under (count c 15) 4294967295 4096 (omega arith),
+      under (count c 16) 4294967295 4096 (omega arith),
+      under (count c 17) 4294967295 4096 (omega arith),
+      under (count c 18) 4294967295 4096 (omega arith),
+      under (count c 19) 4294967295 4096 (omega arith),
+    )
+
+-- ---- row 3: substeps s, committed steps m and braking steps b
+
+where-so : (x : Bool) {y z : Bool} → (x ≡ true → y ≡ z) → (x && y) ≡ (x && z)
+where-so true f = f refl
+where-so false f = refl
+
+braked : (s m b : ℕ) (x : Bool) → 1 ≤ s → leb b 65535 ≡ x → leb ((m + min b 65535) * s) 4096 ≡ leb ((m + b) * s) 4096
+braked s m b true h e = rw (min-eq-left (leb-true b 65535 e))
+braked s m b false h e =
+    let q = leb-false b 65535 e in
+    let p = mul-le-mul-left (m + min b 65535) h in
+    let r = mul-le-mul-left (m + b) h in
+    lt-leb ((m + min b 65535) * s) 4096 (omega (arith, p, q)) ∙ sym (lt-leb ((m + b) * s) 4096 (omega (arith, r, q)))
+
+steps-in : (s m b : ℕ) → (leb 1 s && leb s 64 && leb m 64) ≡ true → leb ((in16 m + in16 b) * in16 s) 4096 ≡ leb ((m + b) * s) 4096
+steps-in s m b t =
+    let u = and-left (leb 1 s && leb s 64) (leb m 64) t in
+    let few = leb-true s 64 (and-right (leb 1 s) (leb s 64) u) in
+    let some = leb-true 1 s (and-left (leb 1 s) (leb s 64) u) in
+    let rows = leb-true m 64 (and-right (leb 1 s && leb s 64) (leb m 64) t) in
+    rw (min-eq-left {n = s} {m = 65535} (omega (arith, few)), min-eq-left {n = m} {m = 65535} (omega (arith, rows))) (braked s m b (leb b 65535) some refl)
+
+pub step-counts : (n : List Float) (c : List ℕ) → countsOk (brakeOf n c) ≡ every (leb 1 (count c 8) ∷ leb (count c 8) 64 ∷ leb (count c 9) 64 ∷ leb ((count c 9 + count c 10) * count c 8) 4096 ∷ [])
+unfolding countsOk brakeOf every every-from
+step-counts n c =
+    rw
+    (at-least (count c 8) 65535 1 (omega arith), at-most (count c 8) 65535 64 (omega arith), at-most (count c 9) 65535 64 (omega arith))
+    (where-so (leb 1 (count c 8) && leb (count c 8) 64 && leb (count c 9) 64) (steps-in (count c 8) (count c 9) (count c 10)))
+
+-- ---- row 4: the channels i and j of a contact, of so many that are declared
+
+and-false : (b : Bool) → (b && false) ≡ false
+and-false true = refl
+and-false false = refl
+
+refused : (i j aux : ℕ) (x y z : Bool) → eqb i j ≡ x → leb aux i ≡ y → leb aux j ≡ z → (x || y || z) ≡ true → (not (eqb i j) && ltb i aux && ltb j aux) ≡ false
+refused i j aux true y z e f g h = rw e
+refused i j aux false true z e f g h = rw (e, le-ltb i aux (leb-true aux i f))
+refused i j aux false false true e f g h = rw (e, le-ltb j aux (leb-true aux j g), and-false)
+refused i j aux false false false e f g h = rw (e, lt-ltb i aux (leb-false aux i f), lt-ltb j aux (leb-false aux j g)) (sym h)
+
+paired : (i j aux : ℕ) (p q : Bool) → leb i 255 ≡ p → leb j 255 ≡ q → ((p && q) || eqb i j || leb aux i || leb aux j) ≡ true
+    → (not (eqb (if q then in8 i else 255) (if p then in8 j else 255)) && ltb (if q then in8 i else 255) aux && ltb (if p then in8 j else 255) aux) ≡ (not (eqb i j) && ltb i aux && ltb j aux)
+paired i j aux true true e f h = rw (min-eq-left (leb-true i 255 e), min-eq-left (leb-true j 255 f))
+paired i j aux true false e f h = let w = leb-false j 255 f in rw (min-eq-right {n = 255} {m = j} (omega (arith, w))) (sym (refused i j aux _ _ _ refl refl refl h))
+paired i j aux false true e f h = let w = leb-false i 255 e in rw (min-eq-right {n = 255} {m = i} (omega (arith, w))) (sym (refused i j aux _ _ _ refl refl refl h))
+paired i j aux false false e f h = sym (refused i j aux _ _ _ refl refl refl h)
+
+channels-of : (k i j aux : ℕ) (r s : Float) → (eqb k 0 || ((leb i 255 && leb j 255) || eqb i j || leb aux i || leb aux j)) ≡ true → channelsOk (contactOf k r s (channelOf i j) (channelOf j i)) aux ≡ channelsOk (contactOf k r s i j) aux
+unfolding contactOf
+channels-of zero i j aux r s h = refl
+channels-of (suc k) i j aux r s h = paired i j aux (leb i 255) (leb j 255) refl refl (rw (eqb·suc-zero k) at h)
+
+pub channel-counts : (n : List Float) (c : List ℕ) → (eqb (count c 5) 0 || zoneFits c) ≡ true → channelsOk (zoneOf n c) (count c 21) ≡ channelsOk (contactOf (count c 5) (at n 9) (at n 10) (count c 6) (count c 7)) (count c 21)
+unfolding zoneOf zoneFits
+channel-counts n c h = channels-of (count c 5) (count c 6) (count c 7) (count c 21) (at n 9) (at n 10) h
+
+-- ---- rows 5 to 9, and 12: a held chunk of h rows of d numbers, of which e are executed
+
+header-by : (l : List Float) (h d e : ℕ) (x y z : Bool) → (eqb h 0 || eqb d 0) ≡ x → ltb 64 h ≡ y → ltb 8 d ≡ z → refusal (heldReasons l (in16 h) (in16 d) (in16 e)) ≡ refusal (heldReasons l h d e)
+header-by l h d e true y z p q r = rw (none h 65535 (omega arith), none d 65535 (omega arith), p)
+header-by l h d e false true z p q r = rw (none h 65535 (omega arith), none d 65535 (omega arith), p, at-least h 65535 65 (omega arith), q)
+header-by l h d e false false true p q r = rw (none h 65535 (omega arith), none d 65535 (omega arith), p, at-least h 65535 65 (omega arith), q, at-least d 65535 9 (omega arith), r)
+header-by l h d e false false false p q r =
+    let few = ltb-false 64 h q in
+    let thin = ltb-false 8 d r in
+    rw (min-eq-left {n = h} {m = 65535} (omega (arith, few)), min-eq-left {n = d} {m = 65535} (omega (arith, thin)), at-least e 65535 (suc h) (omega (arith, few)))
+
+pub header-counts : (l : List Float) (h d e : ℕ) → refusal (heldReasons l (in16 h) (in16 d) (in16 e)) ≡ refusal (heldReasons l h d e)
+header-counts l h d e = header-by l h d e (eqb h 0 || eqb d 0) (ltb 64 h) (ltb 8 d) refl refl refl
+
+-- ---- a header that is left as it came is the one of the entry's answer, where its counts fit: after a tick without a chunk, and after a reset
+
+pub header-kept : (l : List Float) (s t h d e : ℕ) (f : Bool) → s ≤ 4294967295 → t ≤ 4294967295 → h ≤ 65535 → d ≤ 65535 → e ≤ 65535 → headerFlat (chunkOf l (s ∷ t ∷ h ∷ d ∷ e ∷ bit f ∷ [])) ≡ s ∷ t ∷ h ∷ d ∷ e ∷ bit f ∷ []
+unfolding chunkOf
+header-kept l s t h d e true a b p q r = rw (min-eq-left a, min-eq-left b, min-eq-left p, min-eq-left q, min-eq-left r)
+header-kept l s t h d e false a b p q r = rw (min-eq-left a, min-eq-left b, min-eq-left p, min-eq-left q, min-eq-left r)
+
+pub header-let-go : (l : List Float) (s t h d e f : ℕ) → s ≤ 4294967295 → t ≤ 4294967295 → h ≤ 65535 → d ≤ 65535 → e ≤ 65535 → headerFlat (clearedOf (chunkOf l (s ∷ t ∷ h ∷ d ∷ e ∷ f ∷ []))) ≡ unheld (s ∷ t ∷ h ∷ d ∷ e ∷ f ∷ [])
+unfolding chunkOf
+header-let-go l s t h d e f a b p q r = rw (min-eq-left a, min-eq-left b, min-eq-left p, min-eq-left q, min-eq-left r)

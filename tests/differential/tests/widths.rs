@@ -1,0 +1,97 @@
+//! The counts that C passes in words of 64 bits, at and past the edges of the table and of their fields, through the exported
+//! functions themselves: the number is the model's, and a refusal leaves every place as it was.
+
+use differential::rng::Rng;
+use model::boundary;
+
+extern "C" {
+    fn lictor_derive(
+        numbers: &[f64; 44],
+        counts: &[u64; 26],
+        center: &[f64; 192],
+        scale: &[f64; 192],
+        derived: &mut [f64; 29],
+    ) -> u64;
+    fn lictor_tier1_reset(
+        before: &mut [f64; 512],
+        header: &mut [u64; 6],
+        trail: &mut [f64; 256],
+        samples: &mut [u64; 2],
+        held: &mut [f64; 6],
+        kept: &mut [u64; 2],
+    ) -> u64;
+}
+
+const EDGES: [u64; 8] = [0, 8, 11, 31, 64, 255, 4096, 65535];
+const WIDE: [u64; 6] = [1 << 16, 1 << 32, (1 << 32) - 1, (1 << 32) + 1, u64::MAX - 1, u64::MAX];
+
+/// Mostly a count that is accepted at its place, else one at or next to an edge.
+fn count(rng: &mut Rng, good: u64) -> u64 {
+    match rng.below(8) {
+        0 => rng.pick(&EDGES) + rng.below(3) as u64,
+        1 => rng.pick(&WIDE),
+        2 => rng.pick(&EDGES).saturating_sub(1),
+        _ => good,
+    }
+}
+
+/// How often each number was given.
+fn seen(numbers: &[u8], due: &[u8]) {
+    for d in due {
+        let n = numbers.iter().filter(|x| *x == d).count();
+        assert!(n > 100, "{d} is given {n} times");
+    }
+}
+
+#[test]
+fn counts_of_any_width_are_refused_as_the_table_has_them() {
+    assert!(lictor::environment_ok());
+    let mut numbers = [1.0; 44];
+    numbers[27..35].fill(-9.0);
+    numbers[35..43].fill(9.0);
+    let good = [1, 1, 0, 1, 0, 1, 0, 1, 1, 1, 1, 1, 1, 1, 1, 1, 1, 1, 1, 1, 63, 2, 1, 4095, 8, 200];
+    let mut rng = Rng::new(15);
+    let mut given = Vec::new();
+    for _ in 0..200_000 {
+        let kept = rng.below(3);
+        let c: [u64; 26] =
+            std::array::from_fn(|i| if rng.one_in(1 + 4 * kept) { count(&mut rng, good[i]) } else { good[i] });
+        let mut derived = [7.0; 29];
+        // SAFETY: the arrays are as long as include/lictor.h says, and each stands by itself.
+        let number = unsafe { lictor_derive(&numbers, &c, &[0.0; 192], &[1.0; 192], &mut derived) };
+        assert_eq!(number, boundary::counts(&c) as u64, "{c:?}");
+        assert_eq!(number != 0, derived == [7.0; 29], "{c:?}");
+        given.push(number as u8);
+    }
+    seen(&given, &[0, 1, 3, 4, 255]);
+}
+
+#[test]
+fn held_counts_of_any_width_are_refused_as_the_table_has_them() {
+    let good = [7, 9, 2, 2, 1, 1, 3, 3, 1, 63];
+    let mut rng = Rng::new(16);
+    let mut given = Vec::new();
+    for _ in 0..200_000 {
+        let every = 1 + rng.below(6);
+        let c: [u64; 10] = std::array::from_fn(|i| if rng.one_in(every) { count(&mut rng, good[i]) } else { good[i] });
+        let mut h: [u64; 6] = c[..6].try_into().unwrap();
+        if rng.one_in(4) {
+            h[5] = 0;
+        }
+        let (t, k) = ([c[6], c[7]], [c[8], c[9]]);
+        let (mut header, mut samples, mut kept, mut held) = (h, t, k, [3.0; 6]);
+        // SAFETY: the arrays are as long as include/lictor.h says, and each stands by itself.
+        let number = unsafe {
+            lictor_tier1_reset(&mut [0.0; 512], &mut header, &mut [0.0; 256], &mut samples, &mut held, &mut kept)
+        };
+        assert_eq!(number, boundary::state(&h, &t, &k) as u64, "{h:?} {t:?} {k:?}");
+        if number == 0 {
+            h[5] = 0;
+            assert_eq!((header, samples, kept, held), (h, [0, 0], [0, 0], [0.0; 6]));
+        } else {
+            assert_eq!((header, samples, kept, held), (h, t, k, [3.0; 6]));
+        }
+        given.push(number as u8);
+    }
+    seen(&given, &[0, 1, 5, 6, 7, 8, 255]);
+}
