@@ -104,9 +104,9 @@ module _ (x : Call) (g : Gains) (is : SecondOrder x g) (only : OnlyThirteen x) w
   wrote n e =
       let enough : n ≤ length (x .lent) = le-trans (rw (← e) (reach-le (fine f) (f .count))) room in
       record {
-        room = enough;
+        enough-room = enough;
         kth = λ k b. ap (λ (l : List Float). at l k) entries-are ∙ written-in-order f (x .lent) k (rw e b) (omega arith) ∙ slack-is k;
-        rest = λ k b. ap (λ (l : List Float). at l k) entries-are ∙ others-kept f (x .lent) k (rw e b);
+        past-kept = λ k b. ap (λ (l : List Float). at l k) entries-are ∙ others-kept f (x .lent) k (rw e b);
         length-kept = wrote-length;
       }
 

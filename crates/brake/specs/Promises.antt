@@ -90,9 +90,9 @@ pub record FirstFailing (x : Call) (g : Gains) (k : ℕ) : Type 0 where
 
 -- the first n lent entries are the slacks after 1, .., n substeps, and all others are kept
 pub record Wrote (x : Call) (g : Gains) (n : ℕ) : Type 0 where
-  pub room : n ≤ length (x .lent)
+  pub enough-room : n ≤ length (x .lent)
   pub kth : (k : ℕ) → k < n → at (entries x) k ≡ slackAfter x g (suc k)
-  pub rest : (k : ℕ) → n ≤ k → at (entries x) k ≡ at (x .lent) k
+  pub past-kept : (k : ℕ) → n ≤ k → at (entries x) k ≡ at (x .lent) k
   pub length-kept : length (entries x) ≡ length (x .lent)
 
 -- it reports N and writes N slacks; the margin is the least of them, or infinity if there is none; it is feasible exactly when none is negative

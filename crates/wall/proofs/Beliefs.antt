@@ -88,7 +88,7 @@ module _ (c : FuseConfig) (four : refusal (configJudged c) ≡ 4) where
   hold-4 p room = ap sentAt (is-4 (rowLent c (someNotFinite p) room))
 
   all-4 : OneChannelIs4 c
-  all-4 = record { configuration = four; chunk = chunk-4; action = action-4; forecast = forecast-4; brake = brake-4; hold = hold-4 }
+  all-4 = record { configuration-is-4 = four; chunk-is-4 = chunk-4; action-is-4 = action-4; forecast-is-4 = forecast-4; brake-is-4 = brake-4; hold-is-4 = hold-4 }
 
 pub one-channel-is-refused : OneChannelIsRefused
 one-channel-is-refused c radius speed i is sizes numbers counts = all-4 c (rw (sizes, numbers, counts, is, eq-eqb i i refl))
@@ -96,12 +96,12 @@ one-channel-is-refused c radius speed i is sizes numbers counts = all-4 c (rw (s
 -- ---- a limit that is touched
 
 pub touching-trips-nothing : TouchingTripsNothing
-touching-trips-nothing = record { chunk = chunk-touched; action = action-touched }
+touching-trips-nothing = record { chunk-raises-nothing = chunk-touched; action-raises-nothing = action-touched }
 
 -- ---- where the arm stands now
 
 pub start-is-not-inspected : StartIsNotInspected
 start-is-not-inspected = record {
-  only = λ x g is n margin stop a. feasible-exactly x g is a .0 refl;
-  where-none = λ x g is n margin feasible stop a. feasible-exactly x g is a .1;
+  feasible-only-inside = λ x g is n margin stop a. feasible-exactly x g is a .0 refl;
+  inside-is-feasible = λ x g is n margin feasible stop a. feasible-exactly x g is a .1;
 }

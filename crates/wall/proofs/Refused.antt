@@ -132,16 +132,16 @@ forecast-kept c p v rows h d e from l = slacks-kept (forecastRefusal c p v rows 
 
 pub refusal-changes-nothing : RefusalChangesNothing
 refusal-changes-nothing = record {
-  fill = fill-kept;
-  push = push-kept;
-  clear = clear-kept;
-  standardise = standardise-kept;
-  aggregate = aggregate-kept;
-  check-chunk = chunk-kept;
-  check-action = action-kept;
-  features = features-kept;
-  reset = reset-kept;
-  brake-feasible = forecast-kept;
-  brake-action = brake-kept;
-  hold-action = hold-kept;
+  after-fill = fill-kept;
+  after-push = push-kept;
+  after-clear = clear-kept;
+  after-standardise = standardise-kept;
+  after-aggregate = aggregate-kept;
+  after-check-chunk = chunk-kept;
+  after-check-action = action-kept;
+  after-features = features-kept;
+  after-reset = reset-kept;
+  after-brake-feasible = forecast-kept;
+  after-brake-action = brake-kept;
+  after-hold-action = hold-kept;
 }

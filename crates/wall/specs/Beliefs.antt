@@ -31,23 +31,23 @@ pub record EmptyBoxSlowsNothing : Type 0 where
 
 -- "Two arms may share camera channels": where 1, 2 and 3 do not apply, one channel for both coordinates of a zone is refused with 4 by whatever entry takes the configuration
 pub record OneChannelIs4 (c : FuseConfig) : Type 0 where
-  pub configuration : refusal (configJudged c) ≡ 4
-  pub chunk : (p aux rows : List Float) (h d e room : ℕ) → chunkAnswer c p aux rows h d e room ≡ check.Refused (refusedFor 4)
-  pub action : (p aux prev a : List Float) (room : ℕ) → actionAnswer c p aux prev a room ≡ check.Refused (refusedFor 4)
-  pub forecast : (p v rows : List Float) (h d e from room : ℕ) → forecastAnswer c p v rows h d e from room ≡ forecast.Refused (refusedFor 4)
-  pub brake : (p v : List Float) (room : ℕ) → brakeAnswer c p v room ≡ sent.Refused (refusedFor 4)
-  pub hold : (p : List Float) (room : ℕ) → holdAnswer c p room ≡ sent.Refused (refusedFor 4)
+  pub configuration-is-4 : refusal (configJudged c) ≡ 4
+  pub chunk-is-4 : (p aux rows : List Float) (h d e room : ℕ) → chunkAnswer c p aux rows h d e room ≡ check.Refused (refusedFor 4)
+  pub action-is-4 : (p aux prev a : List Float) (room : ℕ) → actionAnswer c p aux prev a room ≡ check.Refused (refusedFor 4)
+  pub forecast-is-4 : (p v rows : List Float) (h d e from room : ℕ) → forecastAnswer c p v rows h d e from room ≡ forecast.Refused (refusedFor 4)
+  pub brake-is-4 : (p v : List Float) (room : ℕ) → brakeAnswer c p v room ≡ sent.Refused (refusedFor 4)
+  pub hold-is-4 : (p : List Float) (room : ℕ) → holdAnswer c p room ≡ sent.Refused (refusedFor 4)
 
 abbrev pub OneChannelIsRefused : Type 0
 OneChannelIsRefused = (c : FuseConfig) (radius speed : Float) (i : ℕ) → c .contact ≡ Zone radius speed i i → sizesFit c ≡ true → numbersOk c ≡ true → stepsFit c ≡ true → OneChannelIs4 c
 
 -- "Touching a limit trips it": where no limit is strictly exceeded nothing is raised, however many are touched
 pub record TouchingTripsNothing : Type 0 where
-  pub chunk : (c : FuseConfig) (p aux rows : List Float) (h d e room : ℕ) → ChunkWithin c p aux rows h → tripsIn (chunkAnswer c p aux rows h d e room) ≡ 0
-  pub action : (c : FuseConfig) (p aux prev a : List Float) (room : ℕ) → ActionWithin c p aux prev a → tripsIn (actionAnswer c p aux prev a room) ≡ 0
+  pub chunk-raises-nothing : (c : FuseConfig) (p aux rows : List Float) (h d e room : ℕ) → ChunkWithin c p aux rows h → tripsIn (chunkAnswer c p aux rows h d e room) ≡ 0
+  pub action-raises-nothing : (c : FuseConfig) (p aux prev a : List Float) (room : ℕ) → ActionWithin c p aux prev a → tripsIn (actionAnswer c p aux prev a room) ≡ 0
 
 -- "The stopping forecast inspects where the arm stands now": an accepted one is feasible exactly when no slack after k substeps is negative, with k at least 1
 pub record StartIsNotInspected : Type 0 where
-  pub only : (x : Call) (g : Gains) → SecondOrder x g → (n : ℕ) (margin stop : Float) → answer x ≡ forecast.Accepted n margin true stop → (k : ℕ) → k < N x → lt (slackAfter x g (suc k)) +0 ≡ false
-  pub where-none : (x : Call) (g : Gains) → SecondOrder x g → (n : ℕ) (margin : Float) (feasible : Bool) (stop : Float) → answer x ≡ forecast.Accepted n margin feasible stop
+  pub feasible-only-inside : (x : Call) (g : Gains) → SecondOrder x g → (n : ℕ) (margin stop : Float) → answer x ≡ forecast.Accepted n margin true stop → (k : ℕ) → k < N x → lt (slackAfter x g (suc k)) +0 ≡ false
+  pub inside-is-feasible : (x : Call) (g : Gains) → SecondOrder x g → (n : ℕ) (margin : Float) (feasible : Bool) (stop : Float) → answer x ≡ forecast.Accepted n margin feasible stop
       → ((k : ℕ) → k < N x → lt (slackAfter x g (suc k)) +0 ≡ false) → feasible ≡ true

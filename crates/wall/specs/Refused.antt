@@ -26,17 +26,17 @@ abbrev pub Refuses : ℕ → Type 0
 Refuses n = n ≡ 0 → ⊥
 
 pub record RefusalChangesNothing : Type 0 where
-  pub fill : (b : ChunkBuf) (seq t h d e : ℕ) (l : List Float) → Refuses (fillOf b seq t h d e l .number) → fillOf b seq t h d e l .buf ≡ b
-  pub push : (t : Trail) (p : List Float) (d : ℕ) → Refuses (pushOf t p d .number) → pushOf t p d .trail ≡ t
-  pub clear : (t : Trail) → Refuses (clearOf t .number) → clearOf t .trail ≡ t
-  pub standardise : (cal : Calibration) (bin : ℕ) (sc : Scores) → Refuses (standardised binary64 cal bin sc .refusal .number) → standardised binary64 cal bin sc .scores ≡ sc
-  pub aggregate : (cal : Calibration) (sc : Scores) → Refuses (aggregated cal sc .refusal .number) → aggregated cal sc .scores ≡ sc
-  pub check-chunk : (c : FuseConfig) (p aux rows : List Float) (h d e : ℕ) (l : List Float) → Refuses (checkNumber (chunkAnswer c p aux rows h d e (length l))) → chunkOut c p aux rows h d e l ≡ l
-  pub check-action : (c : FuseConfig) (p aux prev a l : List Float) → Refuses (checkNumber (actionAnswer c p aux prev a (length l))) → actionOut c p aux prev a l ≡ l
-  pub features : (c : FuseConfig) (p ext : List Float) (there : Bool) (k : Head) (rows : List Float) (rt : Tier1Rt) (sc : Scores) → Refuses (featuresOf c p ext there k rows rt sc .refusal .number)
+  pub after-fill : (b : ChunkBuf) (seq t h d e : ℕ) (l : List Float) → Refuses (fillOf b seq t h d e l .number) → fillOf b seq t h d e l .buf ≡ b
+  pub after-push : (t : Trail) (p : List Float) (d : ℕ) → Refuses (pushOf t p d .number) → pushOf t p d .trail ≡ t
+  pub after-clear : (t : Trail) → Refuses (clearOf t .number) → clearOf t .trail ≡ t
+  pub after-standardise : (cal : Calibration) (bin : ℕ) (sc : Scores) → Refuses (standardised binary64 cal bin sc .refusal .number) → standardised binary64 cal bin sc .scores ≡ sc
+  pub after-aggregate : (cal : Calibration) (sc : Scores) → Refuses (aggregated cal sc .refusal .number) → aggregated cal sc .scores ≡ sc
+  pub after-check-chunk : (c : FuseConfig) (p aux rows : List Float) (h d e : ℕ) (l : List Float) → Refuses (checkNumber (chunkAnswer c p aux rows h d e (length l))) → chunkOut c p aux rows h d e l ≡ l
+  pub after-check-action : (c : FuseConfig) (p aux prev a l : List Float) → Refuses (checkNumber (actionAnswer c p aux prev a (length l))) → actionOut c p aux prev a l ≡ l
+  pub after-features : (c : FuseConfig) (p ext : List Float) (there : Bool) (k : Head) (rows : List Float) (rt : Tier1Rt) (sc : Scores) → Refuses (featuresOf c p ext there k rows rt sc .refusal .number)
       → (featuresOf c p ext there k rows rt sc .rt ≡ rt) × (featuresOf c p ext there k rows rt sc .scores ≡ sc)
-  pub reset : (rt : Tier1Rt) → Refuses (resetOf rt .refusal .number) → resetOf rt .rt ≡ rt
-  pub brake-feasible : (c : FuseConfig) (p v rows : List Float) (h d e from : ℕ) (l : List Float) → Refuses (forecastNumber (forecastAnswer c p v rows h d e from (length l)))
+  pub after-reset : (rt : Tier1Rt) → Refuses (resetOf rt .refusal .number) → resetOf rt .rt ≡ rt
+  pub after-brake-feasible : (c : FuseConfig) (p v rows : List Float) (h d e from : ℕ) (l : List Float) → Refuses (forecastNumber (forecastAnswer c p v rows h d e from (length l)))
       → (forecastNumber (forecastAnswer c p v rows h d e from (length l)) ≡ 13 → ⊥) → forecastSlacks c p v rows h d e from l ≡ l
-  pub brake-action : (c : FuseConfig) (p v l : List Float) → Refuses (sentNumber (brakeAnswer c p v (length l))) → brakeOutput c p v l ≡ l
-  pub hold-action : (c : FuseConfig) (p l : List Float) → Refuses (sentNumber (holdAnswer c p (length l))) → holdOutput c p l ≡ l
+  pub after-brake-action : (c : FuseConfig) (p v l : List Float) → Refuses (sentNumber (brakeAnswer c p v (length l))) → brakeOutput c p v l ≡ l
+  pub after-hold-action : (c : FuseConfig) (p l : List Float) → Refuses (sentNumber (holdAnswer c p (length l))) → holdOutput c p l ≡ l
