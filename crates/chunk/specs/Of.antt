@@ -9,10 +9,12 @@ use lib.ListN.{length, replicate}
 use lib.Seq.{paste}
 use denote.Ref.{RefT, now, ptr}
 use Rattle.fmath.specs.Finite.{+0}
-use Rattle.refusal.specs.Order.{refusal, if_then_else_}
+use Rattle.refusal.specs.Order.{refusal, refusedFor, if_then_else_}
 use Rattle.chunk.specs.declared.ChunkBuf.{ChunkBuf}
 use Rattle.chunk.specs.declared.ChunkView.{ChunkView}
 use Rattle.chunk.specs.declared.Filled.{Filled}
+use Rattle.chunk.specs.declared.Holding.{Holding}
+use Rattle.chunk.specs.declared.Holding.the-variants.{Held, Refused}
 use Rattle.chunk.specs.declared.Part.{Part}
 use Rattle.chunk.specs.Rule.{rowStart, rowWithin, rowOf, heldSize, heldRows}
 use Rattle.chunk.specs.Refusals.{lentReasons, heldReasons}
@@ -38,13 +40,17 @@ copyOf b v = fillOf b (v .seq) (v .«t_emit») (v .horizon) (v .dim) (v .«exec_
 abbrev pub clearedOf : ChunkBuf → ChunkBuf
 clearedOf b = record { «data» = b .«data»; seq = b .seq; «t_emit» = b .«t_emit»; horizon = b .horizon; dim = b .dim; «exec_steps» = b .«exec_steps»; filled = false }
 
--- whether a chunk is held
-abbrev pub isFilledOf : ChunkBuf → Bool
-isFilledOf b = b .filled
-
 -- the number for a held chunk
 unfoldable pub heldRefusalOf : ChunkBuf → ℕ
 heldRefusalOf b = if b .filled then refusal (heldReasons (b .«data») (b .horizon) (b .dim) (b .«exec_steps»)) else 0
+
+-- a held chunk that is refused gives its number and stays
+unfoldable pub clearOf : ChunkBuf → Filled
+clearOf b = if eqb (heldRefusalOf b) 0 then record { number = 0; buf = clearedOf b } else record { number = heldRefusalOf b; buf = b }
+
+-- whether a chunk is held, where it is not refused
+unfoldable pub holdingOf : ChunkBuf → Holding
+holdingOf b = if eqb (heldRefusalOf b) 0 then Held (b .filled) else Refused (refusedFor (heldRefusalOf b))
 
 -- where row i lies among n numbers: from its start, d long, or an empty part
 unfoldable pub partOf : ℕ → ℕ → ℕ → ℕ → Part

@@ -4,7 +4,7 @@ ghost use Prim.Native.Nat.{_<_};
 ghost use Rattle.refusal.specs.Order.{refusal};
 ghost use Rattle.chunk.specs.Rule.{rowStart, rowOf, rowSet, heldSize, heldRows};
 ghost use Rattle.chunk.specs.Refusals.{chunkReasons, lentReasons};
-ghost use Rattle.chunk.specs.Of.{newChunk, fillOf, copyOf, clearedOf, isFilledOf, heldRefusalOf, partOf, IsRow, viewOf, Shows, ShowsHeld};
+ghost use Rattle.chunk.specs.Of.{newChunk, fillOf, copyOf, clearedOf, heldRefusalOf, clearOf, holdingOf, partOf, IsRow, viewOf, Shows, ShowsHeld};
 use refusal::Refusal;
 
 // The numbers of a chunk in row-major order: row i starts at i x dim.
@@ -22,6 +22,12 @@ pub struct ChunkBuf {
 pub struct Filled {
     pub number: u8,
     pub buf: ChunkBuf,
+}
+
+// Whether a chunk is held, or why that is not answered.
+pub enum Holding {
+    Held(bool),
+    Refused(Refusal),
 }
 
 // A chunk whose rows stay the caller's.
@@ -128,19 +134,35 @@ impl ChunkBuf {
         self.fill(v.seq, v.t_emit, v.horizon, v.dim, v.exec_steps, v.data)
     }
 
-    // The chunk is held no more; its numbers stay.
-    pub fn clear(mut self) -> ChunkBuf
+    // The buffer with no chunk held, all else kept, for a caller that has judged it.
+    pub fn emptied(mut self) -> ChunkBuf
         ensures { λ r. ⌜ r ≡ clearedOf self ⌝ }
     {
         self.filled = false;
         self
     }
 
-    // Whether a chunk is held.
-    pub fn is_filled(self) -> bool
-        ensures { λ r. ⌜ r ≡ isFilledOf self ⌝ }
+    // Lets go of the held chunk, all else kept. One that is refused stays.
+    pub fn clear(self) -> Filled
+        ensures { λ r. ⌜ r ≡ clearOf self ⌝ }
     {
-        self.filled
+        let number = self.held_refusal();
+        if number != 0 {
+            return Filled { number, buf: self };
+        }
+        let buf = self.emptied();
+        Filled { number: 0, buf }
+    }
+
+    // Whether a chunk is held; one that is refused is not answered about.
+    pub fn is_filled(self) -> Holding
+        ensures { λ r. ⌜ r ≡ holdingOf self ⌝ }
+    {
+        let number = self.held_refusal();
+        if number != 0 {
+            return Holding::Refused(Refusal::of(number));
+        }
+        Holding::Held(self.filled)
     }
 
     // The number for the held chunk: 0 where none is held, else as for a lent one.

@@ -665,7 +665,7 @@ impl Tier1Rt {
             return Cleared { refusal, rt: self };
         }
         let old = self.prev;
-        let prev = old.clear();
+        let prev = old.emptied();
         let t = self.trail;
         let buf = t.buf;
         let trail = Trail {

@@ -1,7 +1,7 @@
 -- "Given exactly when": an entry's answer has a number if and only if that number's reason applies to the call and none before it in the order of
 -- judging does, and it is accepted if and only if no reason applies. For each entry the reasons and their conditions stand in the theorem.
 use Prim.Native.Nat.{ℕ, zero, suc}
-use mathlib.Core.Path.{_≡_, refl, sym, ap}
+use mathlib.Core.Path.{_≡_, refl, sym, ap, _∙_}
 use mathlib.Core.Bool.{Bool, true, false, not, _||_}
 use mathlib.Core.List.{List, [], _∷_, _++_}
 use native.Mathlib.Omega.{arith}
@@ -17,7 +17,9 @@ use Rattle.fmath.specs.Answer.{someNotFinite, numberOr, sqrtAnswer, normAnswer,
 use Rattle.chunk.specs.Refusals.{chunkReasons, lentReasons, heldReasons}
 use Rattle.chunk.specs.declared.ChunkBuf.{ChunkBuf}
 use Rattle.chunk.specs.declared.Filled.{Filled}
-use Rattle.chunk.specs.Of.{fillOf, heldRefusalOf}
+use Rattle.chunk.specs.declared.Holding.{Holding}
+use Rattle.chunk.specs.declared.Holding.the-variants.{Held, Refused as NotTold}
+use Rattle.chunk.specs.Of.{fillOf, heldRefusalOf, clearOf as chunkClearOf, holdingOf}
 use Rattle.window.specs.declared.Trail.{Trail}
 use Rattle.window.specs.declared.Recorded.{Recorded}
 use Rattle.window.specs.Rule.{maskRefusal, net, path}
@@ -76,9 +78,9 @@ dist-exactly f a b n = exactly _ (number-told _ _)
 pub chunk-refusal-exactly : (h d e n : ℕ) → Exactly (refusal (chunkReasons h d e n)) (among (chunkReasons h d e n))
 chunk-refusal-exactly h d e n = exactly _ refl
 
-pub held-refusal-exactly : (b : ChunkBuf) → Exactly (heldRefusalOf b) (prevJudged b)
+held-number : (b : ChunkBuf) → heldRefusalOf b ≡ given (prevJudged b)
 unfolding heldRefusalOf
-held-refusal-exactly b = exactly _ (go (b .filled))
+held-number b = go (b .filled)
   where
     held : List Judged
     held = heldReasons (b .«data») (b .horizon) (b .dim) (b .«exec_steps»)
@@ -86,6 +88,22 @@ held-refusal-exactly b = exactly _ (go (b .filled))
     go : (filled : Bool) → (if filled then refusal held else 0) ≡ given (if filled then among held else none)
     go true = refl
     go false = refl
+
+pub held-refusal-exactly : (b : ChunkBuf) → Exactly (heldRefusalOf b) (prevJudged b)
+held-refusal-exactly b = exactly _ (held-number b)
+
+pub chunk-clear-exactly : (b : ChunkBuf) → Exactly (chunkClearOf b .number) (prevJudged b)
+unfolding chunkClearOf
+chunk-clear-exactly b = exactly _ (chosen (λ (r : Filled). r .number) (heldRefusalOf b) _ _ refl refl ∙ held-number b)
+
+-- the number of an answer to whether a chunk is held
+abbrev holdingNumber : Holding → ℕ
+holdingNumber (Held b) = 0
+holdingNumber (NotTold r) = r .number
+
+pub is-filled-exactly : (b : ChunkBuf) → Exactly (holdingNumber (holdingOf b)) (prevJudged b)
+unfolding holdingOf
+is-filled-exactly b = exactly _ (chosen holdingNumber (heldRefusalOf b) _ _ refl refl ∙ held-number b)
 
 pub fill-exactly : (b : ChunkBuf) (s t h d e : ℕ) (l : List Float) → Exactly (fillOf b s t h d e l .number) (among (lentReasons l h d e))
 unfolding fillOf

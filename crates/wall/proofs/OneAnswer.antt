@@ -22,10 +22,10 @@ use Rattle.fmath.proofs.dist.Reads as dist
 use Rattle.chunk.proofs.chunk_refusal.Reads as chunk-refusal
 use Rattle.chunk.proofs.ChunkBuf.new.Reads as chunk-buf-new
 use Rattle.chunk.proofs.ChunkBuf.fill.Reads as chunk-buf-fill
+use Rattle.chunk.proofs.ChunkBuf.emptied.Reads as chunk-buf-emptied
 use Rattle.chunk.proofs.ChunkBuf.clear.Reads as chunk-buf-clear
 use Rattle.chunk.proofs.ChunkBuf.is_filled.Reads as chunk-buf-is-filled
 use Rattle.chunk.proofs.ChunkBuf.held_refusal.Reads as chunk-buf-held-refusal
-use Rattle.chunk.proofs.row_mut.Reads as row-mut
 use Rattle.chunk.proofs.set_row.Reads as set-row
 use Rattle.chunk.proofs.held_rows.Reads as held-rows
 use Rattle.chunk.proofs.action.Reads as action
@@ -203,6 +203,9 @@ one-chunk-buf-new l a r s x y = unique
 pub one-chunk-buf-fill : One chunk-buf-fill.Post (λ r x. r)
 one-chunk-buf-fill l a r s x y = unique
 
+pub one-chunk-buf-emptied : One chunk-buf-emptied.Post (λ r x. r)
+one-chunk-buf-emptied l a r s x y = unique
+
 pub one-chunk-buf-clear : One chunk-buf-clear.Post (λ r x. r)
 one-chunk-buf-clear l a r s x y = unique
 
@@ -211,9 +214,6 @@ one-chunk-buf-is-filled l a r s x y = unique
 
 pub one-chunk-buf-held-refusal : One chunk-buf-held-refusal.Post (λ r x. r)
 one-chunk-buf-held-refusal l a r s x y = unique
-
-pub one-row-mut : One row-mut.Post (λ r x. r .now)
-one-row-mut l a r s x y = unique
 
 pub one-set-row : One set-row.Post (λ r x. x .0 .now)
 one-set-row l a r s x y = unique

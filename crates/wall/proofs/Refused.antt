@@ -11,7 +11,7 @@ use Rattle.refusal.specs.Order.{given, refusal, refusedFor, if_then_else_}
 use Rattle.chunk.specs.Refusals.{lentReasons}
 use Rattle.chunk.specs.declared.ChunkBuf.{ChunkBuf}
 use Rattle.chunk.specs.declared.Filled.{Filled}
-use Rattle.chunk.specs.Of.{fillOf}
+use Rattle.chunk.specs.Of.{fillOf, heldRefusalOf, clearOf as chunkClearOf}
 use Rattle.window.specs.declared.Trail.{Trail}
 use Rattle.window.specs.declared.Recorded.{Recorded}
 use Rattle.window.specs.Answer.{trailReasons, pushReasons}
@@ -42,6 +42,10 @@ chosen-kept told part false new old z is = refl
 fill-kept : (b : ChunkBuf) (seq t h d e : ℕ) (l : List Float) → Refuses (fillOf b seq t h d e l .number) → fillOf b seq t h d e l .buf ≡ b
 unfolding fillOf
 fill-kept b seq t h d e l = chosen-kept (λ (x : Filled). x .number) (λ (x : Filled). x .buf) (eqb (refusal (lentReasons l h d e)) 0) _ _ refl
+
+chunk-clear-kept : (b : ChunkBuf) → Refuses (chunkClearOf b .number) → chunkClearOf b .buf ≡ b
+unfolding chunkClearOf
+chunk-clear-kept b = chosen-kept (λ (x : Filled). x .number) (λ (x : Filled). x .buf) (eqb (heldRefusalOf b) 0) _ _ refl
 
 push-kept : (t : Trail) (p : List Float) (d : ℕ) → Refuses (pushOf t p d .number) → pushOf t p d .trail ≡ t
 unfolding pushOf
@@ -133,6 +137,7 @@ forecast-kept c p v rows h d e from l = slacks-kept (forecastRefusal c p v rows 
 pub refusal-changes-nothing : RefusalChangesNothing
 refusal-changes-nothing = record {
   after-fill = fill-kept;
+  after-chunk-clear = chunk-clear-kept;
   after-push = push-kept;
   after-clear = clear-kept;
   after-standardise = standardise-kept;

@@ -7,7 +7,7 @@ use mathlib.Core.List.{List}
 use lib.ListN.{length}
 use lib.Ieee.{Float, binary64}
 use Rattle.chunk.specs.declared.ChunkBuf.{ChunkBuf}
-use Rattle.chunk.specs.Of.{fillOf}
+use Rattle.chunk.specs.Of.{fillOf, clearOf as chunkClearOf}
 use Rattle.window.specs.declared.Trail.{Trail}
 use Rattle.window.specs.Of.{pushOf, clearOf}
 use Rattle.conformal.specs.declared.Calibration.{Calibration}
@@ -27,6 +27,7 @@ Refuses n = n ≡ 0 → ⊥
 
 pub record RefusalChangesNothing : Type 0 where
   pub after-fill : (b : ChunkBuf) (seq t h d e : ℕ) (l : List Float) → Refuses (fillOf b seq t h d e l .number) → fillOf b seq t h d e l .buf ≡ b
+  pub after-chunk-clear : (b : ChunkBuf) → Refuses (chunkClearOf b .number) → chunkClearOf b .buf ≡ b
   pub after-push : (t : Trail) (p : List Float) (d : ℕ) → Refuses (pushOf t p d .number) → pushOf t p d .trail ≡ t
   pub after-clear : (t : Trail) → Refuses (clearOf t .number) → clearOf t .trail ≡ t
   pub after-standardise : (cal : Calibration) (bin : ℕ) (sc : Scores) → Refuses (standardised binary64 cal bin sc .refusal .number) → standardised binary64 cal bin sc .scores ≡ sc

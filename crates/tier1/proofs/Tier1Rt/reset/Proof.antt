@@ -14,13 +14,13 @@ of-requires c κs = search needs
 returns : tie.Need-returns
 returns c = cleared-refused (c .before .before .before .args .self) (c .before .before .state-refusal .ensures) (c .before .of .ensures) (c .if1 .taken)
 
-clear-requires : tie.Need-clear-requires
-clear-requires c κs = search needs
+emptied-requires : tie.Need-emptied-requires
+emptied-requires c κs = search needs
 
 returns-2 : tie.Need-returns-2
 unfolding ofBits
-returns-2 c = rw (c .before .before .clear .ensures) (cleared-passed (c .before .before .before .before .before .before .before .args .self) (c .before .before .before .before .before .before .state-refusal .ensures) (c .before .before .before .before .before .of .ensures) (c .before .before .before .before .if1 .left))
+returns-2 c = rw (c .before .before .emptied .ensures) (cleared-passed (c .before .before .before .before .before .before .before .args .self) (c .before .before .before .before .before .before .state-refusal .ensures) (c .before .before .before .before .before .of .ensures) (c .before .before .before .before .if1 .left))
 
 pub reset-spec : {M : Type 1} → statement M
 reset-spec =
-    tie.close (tie.spec state-refusal-requires of-requires returns clear-requires returns-2)
+    tie.close (tie.spec state-refusal-requires of-requires returns emptied-requires returns-2)
