@@ -33,8 +33,9 @@ extern "C" {
 
    Counts are passed in words of 64 bits, and each is held in a field whose width is given beside it. One that its field cannot hold is
    refused as the table has it (65536 substeps with LICTOR_STEPS, a trail's head of 256 with LICTOR_SIZE), and with LICTOR_MISFIT
-   where the table has nothing against it. What is not read is not judged: a term past n_terms, the channels without a contact, the
-   calibration's counts without a calibration, and what the header of a buffer that holds no chunk says of one. The width of
+   where the table has nothing against it. What is not there is not judged: a term past n_terms, the channels without a contact, the
+   calibration's counts without a calibration, and what the header of a buffer that holds no chunk says of one. (What is there and not
+   read is judged, as react_ticks is for the second-order brake.) The width of
    an argument that is passed by itself is its C type; C cuts what is wider before the call. */
 
 #define LICTOR_ACCEPTED 0

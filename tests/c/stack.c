@@ -118,7 +118,7 @@ int main(void) {
         {"lictor_brake_feasible", forecast}, {"lictor_brake_action", brake}, {"lictor_hold_action", hold},
         {"lictor_derive", derive}, {"lictor_fill", fill},
     };
-    size_t most = 0;
+    size_t most = 0, needs[sizeof calls / sizeof *calls] = {0};
     const char *largest = "";
     n.dt = n.v_max = n.a_max = n.j_max = n.reach_max = n.brake_k_v = n.brake_dt = n.brake_k_p = 1.0;
     for (int i = 0; i < 8; i++) n.norm_scale[i] = 1.0, n.box_lo[i] = -1.0, n.box_hi[i] = 1.0;
@@ -126,12 +126,20 @@ int main(void) {
     for (int i = 0; i < 512; i++) rows[i] = 0.001 * (i % 11);
     c.dim = c.pos_dim = 8, c.clamp = LICTOR_CLAMP_PROJECT, c.substeps = 32, c.commit = 64, c.brake_steps = 64;
     c.armed = 63, c.calibrated = 1, c.mask = 4095, c.n_terms = 8, c.horizon_ticks = 200;
+    /* every brake and every kind of action, with a slow zone and without */
+    for (unsigned setting = 0; setting < 50; setting++) {
+        c.brake = setting / 2 % 5, c.kind = setting / 10, c.contact = setting % 2;
+        n.contact_radius = n.contact_v_max = 1.0, c.contact_a0 = 0, c.contact_a1 = 1, c.aux_count = 8;
+        for (size_t i = 0; i < sizeof calls / sizeof *calls; i++) {
+            /* once before, so that what the loader does at a first call is not counted */
+            used(calls[i].call);
+            size_t need = used(calls[i].call);
+            if (need > needs[i]) needs[i] = need;
+        }
+    }
     for (size_t i = 0; i < sizeof calls / sizeof *calls; i++) {
-        /* once before, so that what the loader does at a first call is not counted */
-        used(calls[i].call);
-        size_t need = used(calls[i].call);
-        printf("%s: %zu bytes\n", calls[i].name, need);
-        if (need > most) most = need, largest = calls[i].name;
+        printf("%s: %zu bytes\n", calls[i].name, needs[i]);
+        if (needs[i] > most) most = needs[i], largest = calls[i].name;
     }
     printf("stack: %s needs %zu bytes of the %d that the header says\n", largest, most, LICTOR_STACK);
     return most > LICTOR_STACK;

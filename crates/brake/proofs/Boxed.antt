@@ -1,7 +1,7 @@
 -- Each coordinate that a position kind's brake or hold writes lies in its box: the row is the position, which is finite, moved inside walls that an accepted
 -- configuration has finite and in order.
 use Prim.Native.Nat.{ℕ, zero, suc, min, _≤_, _<_}
-use mathlib.Core.Path.{_≡_, refl, sym, ap, _∙_, subst}
+use mathlib.Core.Path.{_≡_, refl}
 use mathlib.Core.Bool.{Bool, true, false, not, _||_, false≢true}
 use mathlib.Core.Logic.{inl, inr}
 use mathlib.Core.List.{List, [], _∷_, _++_}
@@ -19,15 +19,14 @@ use Rattle.fmath.specs.Each.{at, over}
 use Rattle.fmath.specs.Finite.{+0, finite, allFinite}
 use Rattle.fmath.specs.Row.{padded}
 use Rattle.fmath.proofs.Each.{all-at, neither, over-at, over-keeps}
-use Rattle.fmath.proofs.Ordered.{Real, finite-real}
+use Rattle.fmath.proofs.Ordered.{finite-real}
 use Rattle.envelope.specs.Refusals.{configJudged}
 use Rattle.envelope.specs.declared.ActionKind.{ActionKind}
 use Rattle.envelope.specs.declared.ActionKind.the-variants.{EePosition, EeDelta, JointPosition, JointVelocity, Other}
 use Rattle.envelope.specs.declared.FuseConfig.{FuseConfig}
 use Rattle.envelope.proofs.Accepted.{accepted, dim-most, low-wall-finite, high-wall-finite, walls-ordered}
 use Rattle.workspace.proofs.Inside.{inward-inside}
-use Rattle.brake.specs.declared.Sent.{Sent}
-use Rattle.brake.specs.declared.Sent.the-variants.{Done, Refused}
+use Rattle.brake.specs.declared.Sent.the-variants.{Done}
 use Rattle.brake.specs.Rule.{eight, wallsAt, setpoint}
 use Rattle.brake.specs.Answer.{rowLent, sentAt, brakeSent, brakeRefusal, brakeAnswer, brakeOutput, holdRefusal, holdAnswer, holdOutput}
 use Rattle.brake.specs.Promises.{InBox, isPosition, BrakesInside, HoldsInside}

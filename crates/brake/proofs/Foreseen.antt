@@ -7,7 +7,7 @@ use native.Mathlib.Omega.{arith}
 use borrow.Author.Tests.{ne-eqb}
 use lib.ListN.{length}
 use lib.Ieee.{Float, binary64}
-use Rattle.refusal.specs.Order.{computed, refusal}
+use Rattle.refusal.specs.Order.{refusal}
 use Rattle.fmath.specs.Each.{at, all}
 use Rattle.chunk.specs.Refusals.{chunkReasons}
 use Rattle.envelope.specs.Refusals.{configJudged}

@@ -27,9 +27,9 @@ use Rattle.rollout.proofs.Reach.{reach-le, first-or-all}
 use Rattle.rollout.proofs.Promises.{Whole, whole-reached, written-in-order, others-kept, first-failing-place, empty-margin, margin-attained, margin-least, feasible-none-negative, none-negative-feasible, entry-is-slack, entries-real, braking, shorter-begins-longer, feasible-inside}
 use Rattle.brake.specs.declared.BrakeOut.{BrakeOut}
 use Rattle.brake.specs.declared.BrakeOut.the-variants.{Accepted, Refused}
-use Rattle.brake.specs.Rule.{live}
 use Rattle.brake.specs.Answer.{plan, lentJudged}
-use Rattle.brake.specs.Promises.{Call, answer, entries, OnlyThirteen, SecondOrder, N, task, plantAfter, slackAfter, finiteIn, stopFinite, AllFinite, FirstFailing, Wrote, Forecasts, RefusedAt, Demand3, braked, Begins, StaysInside}
+use Rattle.brake.specs.Promises.{Call, answer, entries, OnlyThirteen, SecondOrder, N, task, slackAfter, finiteIn, stopFinite, AllFinite, FirstFailing, Wrote, Forecasts, RefusedAt, Demand3, braked, Begins, StaysInside, Promised}
+use Rattle.brake.proofs.Boxed.{brake-inside, hold-inside}
 use Rattle.brake.proofs.ByKind.{count-is}
 use Rattle.brake.proofs.Judged.{never, planned, refused}
 use Rattle.brake.proofs.Foreseen.{slacks-are, accepted-answer, refused-answer, refused-at-the-end, second-order-plan, count-is-N}
@@ -215,7 +215,7 @@ module _ (x : Call) (g : Gains) (is : SecondOrder x g) (only : OnlyThirteen x) w
       go (failed j c) = let e : j ≡ k = omega (arith, place j (refuses j c)) in subst (FirstFailing x g) e c
       go (stopped w s) = absurd (let z : ⊥ = omega (arith, place (N x) (refuses-the-stop w s)) in z)
 
-  pub demand-3 : Demand3 x g
+  demand-3 : Demand3 x g
   demand-3 = record {
     forecasts = finishes;
     only-finite = only-finite;
@@ -231,8 +231,7 @@ module _ (x : Call) (g : Gains) (is : SecondOrder x g) (b : ControlSteps) (l : L
   abbrev y : Call
   y = braked x b l
 
-  -- of two accepted forecasts that differ only in braking steps, the one with no more of them writes the beginning of what the other writes
-  pub shorter-begins : {m n : ℕ} {margin margin′ : Float} {feasible feasible′ : Bool} {stop stop′ : Float}
+  shorter-begins : {m n : ℕ} {margin margin′ : Float} {feasible feasible′ : Bool} {stop stop′ : Float}
       → answer x ≡ Accepted m margin feasible stop → answer y ≡ Accepted n margin′ feasible′ stop′ → x .config .brake .«brake_steps» .0 ≤ b .0 → Begins (N x) x y
   shorter-begins {m} {n} {margin} {margin′} {feasible} {feasible′} {stop} {stop′} a a′ less =
       let only = accepted-free x a in
@@ -254,7 +253,7 @@ module _ (x : Call) (g : Gains) (is : SecondOrder x g) (b : ControlSteps) (l : L
 -- ---- a feasible forecast stays inside
 
 module _ (x : Call) (g : Gains) (is : SecondOrder x g) where
-  pub feasible-stays-inside : {n : ℕ} {margin stop : Float} → answer x ≡ Accepted n margin true stop → StaysInside x g
+  feasible-stays-inside : {n : ℕ} {margin stop : Float} → answer x ≡ Accepted n margin true stop → StaysInside x g
   feasible-stays-inside {n} {margin} {stop} a k b j c =
       let only = accepted-free x a in
       let h = only-finite x g is only n margin true stop a in
@@ -275,3 +274,15 @@ module _ (x : Call) (g : Gains) (is : SecondOrder x g) where
         λ y k b. ap (λ (z : Float). lt z +0) (sym (w .wrote .kth k b)) ∙ w .feasible-only (same ∙ y) k b,
         λ h. sym same ∙ w .feasible-where (λ k b. ap (λ (z : Float). lt z +0) (w .wrote .kth k b) ∙ h k b),
       )
+
+-- ---- all of it
+
+pub promised : Promised
+promised = record {
+  demand-3-holds = demand-3;
+  shorter-begins-longer = λ x g is b l m n margin margin′ feasible feasible′ stop stop′. shorter-begins x g is b l;
+  feasible-exactly-where = λ x g is n margin feasible stop. feasible-exactly x g is;
+  feasible-is-inside = λ x g is n margin stop. feasible-stays-inside x g is;
+  brakes-inside = λ c is p v l. brake-inside c is p l v;
+  holds-inside = hold-inside;
+}

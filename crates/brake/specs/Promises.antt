@@ -185,3 +185,28 @@ HoldsInside c p l = holdAnswer c p (length l) ≡ Done → (j : ℕ) → j < c .
 -- after each substep that counts, each live axis lies in its box
 abbrev pub StaysInside : Call → Gains → Type 0
 StaysInside x g = (k : ℕ) → k < N x → (j : ℕ) → j < live (x .config) → InBox (x .config) j (at (plantAfter x g (suc k) .p) j)
+
+-- ---- all of it
+
+-- of two accepted forecasts that differ only in braking steps, the one with no more of them writes the beginning of what the other writes
+abbrev pub ShorterBegins : Type 0
+ShorterBegins =
+    (x : Call) (g : Gains) → SecondOrder x g → (b : ControlSteps) (l : List Float) (m n : ℕ) (margin margin′ : Float) (feasible feasible′ : Bool) (stop stop′ : Float)
+    → answer x ≡ Accepted m margin feasible stop → answer (braked x b l) ≡ Accepted n margin′ feasible′ stop′ → x .config .brake .«brake_steps» .0 ≤ b .0 → Begins (N x) x (braked x b l)
+
+-- no slack after one substep or more is negative
+abbrev pub NoneNegative : Call → Gains → Type 0
+NoneNegative x g = (k : ℕ) → k < N x → lt (slackAfter x g (suc k)) +0 ≡ false
+
+abbrev pub FeasibleExactly : Type 0
+FeasibleExactly =
+    (x : Call) (g : Gains) → SecondOrder x g → (n : ℕ) (margin : Float) (feasible : Bool) (stop : Float) → answer x ≡ Accepted n margin feasible stop
+    → (feasible ≡ true → NoneNegative x g) × (NoneNegative x g → feasible ≡ true)
+
+pub record Promised : Type 0 where
+  pub demand-3-holds : (x : Call) (g : Gains) → SecondOrder x g → OnlyThirteen x → Demand3 x g
+  pub shorter-begins-longer : ShorterBegins
+  pub feasible-exactly-where : FeasibleExactly
+  pub feasible-is-inside : (x : Call) (g : Gains) → SecondOrder x g → (n : ℕ) (margin stop : Float) → answer x ≡ Accepted n margin true stop → StaysInside x g
+  pub brakes-inside : (c : FuseConfig) → isPosition (c .kind) ≡ true → (p v l : List Float) → BrakesInside c p v l
+  pub holds-inside : (c : FuseConfig) → isPosition (c .kind) ≡ true → (p l : List Float) → HoldsInside c p l

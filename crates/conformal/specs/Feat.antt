@@ -1,4 +1,4 @@
--- The numbers of the twelve features, which are their bits.
+-- The numbers of the features that the rules name, which are their bits.
 use Prim.Native.Nat.{ℕ}
 
 abbrev pub TCE : ℕ
@@ -21,9 +21,6 @@ SPEED-PEAK = 5
 
 abbrev pub PATH-INEFF : ℕ
 PATH-INEFF = 6
-
-abbrev pub STALL : ℕ
-STALL = 7
 
 -- the first of the four external ones
 abbrev pub EXT0 : ℕ

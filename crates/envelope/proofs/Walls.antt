@@ -1,14 +1,12 @@
 -- A derived wall is a number of the format: a sum or a difference, a zero, or, where there is none, no number.
 use Prim.Native.Nat.{ℕ, _≤_}
-use mathlib.Core.Path.{_≡_}
 use mathlib.Core.Bool.{Bool, true, false}
-use mathlib.Core.List.{List}
 use native.Mathlib.Nat.{lt-of-not-le}
 use native.Mathlib.Decide.{decLe}
 use native.Mathlib.Omega.{arith}
 use lib.Dec.{T, ltb}
 use lib.ListN.{length, List·getD-eq-default}
-use lib.Ieee.{Float, Format, nan, fits, add, sub}
+use lib.Ieee.{Float, Format, nan, fits}
 use lib.Ieee.Fits.{nan-fits, add-fits, sub-fits}
 use Rattle.fmath.specs.Each.{at, table}
 use Rattle.fmath.specs.Finite.{+0}

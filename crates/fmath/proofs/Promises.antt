@@ -1,13 +1,12 @@
 -- What `sqrt` promises: 13 exactly below zero, at an infinity and at a NaN, and else a root. By cases on the number: the root of one above zero is
 -- written with its digits and an exponent, so it is finite, and neither of the two zeros is below zero.
 use Prim.Native.Nat.{ℕ, zero, suc, _+_, _*_, _<_}
-use mathlib.Core.Path.{_≡_, refl, sym, ap, _∙_, subst}
+use mathlib.Core.Path.{_≡_, refl, sym, ap, _∙_}
 use mathlib.Core.Bool.{Bool, true, false, not}
 use mathlib.Core.List.{[], _∷_}
 use native.Mathlib.Nat.{mul-pos}
 use native.Mathlib.Omega.{arith}
 use borrow.Author.Tests.{lt-ltb, le-ltb}
-use lib.Dec.{T}
 use lib.IntN.{ℤ, pos, negsuc}
 use lib.Ieee.{Float, Format, nan, inf, fin, prec, odd, lt, up, down}
 use lib.Ieee.Fits.{up-pos}

@@ -1,6 +1,6 @@
 -- What the contracts come to: a failed read brings no line with 14, and every block that another follows has whole records, so that by `card`'s
 -- `Promises.blocks` the lines of a run are the text of all that was answered.
-use mathlib.Core.Path.{_≡_, ap, _∙_}
+use mathlib.Core.Path.{_≡_}
 use mathlib.Core.Bool.{true}
 use mathlib.Core.List.{List, []}
 use Prim.Native.Nat.{ℕ, _%_, _≤_}

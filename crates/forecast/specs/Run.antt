@@ -6,7 +6,6 @@ use Prim.Native.Nat.{ℕ, _+_, _-_, _%_, _≤_}
 use lib.Dec.{ltb, eqb}
 use lib.IntN.{ℤ, pos, negsuc}
 use lib.ListN.{length, take}
-use Rattle.card.specs.declared.block.Answered.{Answered}
 use Rattle.card.specs.Block.{answeredFor, outFor}
 use Rattle.forecast.specs.declared.Filled.{Filled}
 use Rattle.forecast.specs.declared.Block.{Block}

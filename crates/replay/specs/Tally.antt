@@ -7,6 +7,8 @@ use lib.ListN.{length}
 use Rattle.words.specs.Little.{little}
 use Rattle.sample.specs.declared.Entry.{Entry}
 use Rattle.sample.specs.Agrees.{agrees}
+use Rattle.replay.specs.declared.End.{End}
+use Rattle.replay.specs.declared.End.the-variants.{Done, ReadFailed, WriteFailed}
 use Rattle.replay.specs.declared.Filled.{Filled}
 use Rattle.replay.specs.declared.Tally.{Tally}
 use Rattle.replay.specs.declared.Verdict.{Verdict}
@@ -73,3 +75,7 @@ verdictOf t = cond (eqb (t .first) 0) Agree (Differ (t .first))
 
 unfoldable pub inputOf : Tally → Input
 inputOf t = cond (t .failed) Failed (cond (t .ended) Ended Whole)
+
+-- how the replay ended: all is said where every line was written
+unfoldable pub endOf : Tally → End
+endOf t = cond (not (t .wrote)) WriteFailed (cond (t .failed) ReadFailed Done)

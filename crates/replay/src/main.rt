@@ -7,11 +7,18 @@ ghost use mathlib.Core.Path.{_≡_};
 ghost use Prim.Native.Nat.{_+_, _^_, _≤_, _<_};
 ghost use lib.ListN.{length};
 ghost use Rattle.replay.specs.Input.{given, after, Read, readsOn, wordsOf};
-ghost use Rattle.replay.specs.Tally.{sum, firstOf, start, told, cut, begun, replayed, goesOn, joined, verdictOf, inputOf};
+ghost use Rattle.replay.specs.Tally.{sum, firstOf, start, told, cut, begun, replayed, goesOn, joined, verdictOf, inputOf, endOf};
 use libc::STDERR_FILENO;
 use libc::STDIN_FILENO;
 use libc::STDOUT_FILENO;
 use sample::Entry;
+
+// How the replay ended.
+enum End {
+    Done,
+    ReadFailed,
+    WriteFailed,
+}
 
 // How many bytes a buffer holds, how many of them the last read gave, and whether it failed.
 struct Filled {
@@ -326,13 +333,28 @@ fn stops(buf: &mut [u8], all: Tally) -> Tally
     next(b"features", Entry::Features, buf, b)
 }
 
-// Says on standard error what broke the replay off.
-fn complain(t: Tally) {
-    if t.failed {
-        io::write_all(STDERR_FILENO, b"replay: a read failed\n");
-    }
+fn end_of(t: Tally) -> End
+    ensures { λ r. ⌜ r ≡ endOf t ⌝ }
+{
     if !t.wrote {
-        io::write_all(STDERR_FILENO, b"replay: a write failed\n");
+        return End::WriteFailed;
+    }
+    if t.failed {
+        return End::ReadFailed;
+    }
+    End::Done
+}
+
+// Says on standard error, in one line, what broke the replay off.
+fn complain(e: End) {
+    match e {
+        End::Done => {}
+        End::ReadFailed => {
+            io::write_all(STDERR_FILENO, b"replay: a read failed\n");
+        }
+        End::WriteFailed => {
+            io::write_all(STDERR_FILENO, b"replay: a write failed\n");
+        }
     }
 }
 
@@ -343,5 +365,5 @@ fn main() {
     let b = checks(buf, a);
     let c = stops(buf, b);
     let wrote = say(b"in all", c);
-    complain(joined(c, start(0), wrote));
+    complain(end_of(joined(c, start(0), wrote)));
 }

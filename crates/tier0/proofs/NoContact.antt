@@ -23,8 +23,9 @@ use Rattle.tier0.specs.declared.Difference.the-variants.{Accel, Jerk}
 use Rattle.tier0.specs.Rule.{WORKSPACE, SPEED, ACCEL, JERK, REACH, CONTACT, arms, bit, clear, outOfBox, outOfReach, boxed, leashed, reached, moves, project, projection, checkAction}
 use Rattle.tier0.specs.Chunk.{rawRow, startRow, someOutOfBox, largeAt, tooLarge, nextRow, runRows, projectedRows, checkChunk}
 use Rattle.tier0.specs.Of.{checksOf, actionRuling, actionRefusal, actionAnswer, actionOut, chunkRuling, chunkRefusal, chunkAnswer, chunkOut}
-use Rattle.tier0.specs.Promises.{raised, withoutContact, contactUnarmed}
+use Rattle.tier0.specs.Promises.{raised, withoutContact, contactUnarmed, Promised}
 use Rattle.tier0.proofs.Promises.{no-contact}
+use Rattle.tier0.proofs.Within.{chunk-workspace-touched, chunk-speed-touched, chunk-contact-touched, chunk-accel-touched, chunk-jerk-touched, chunk-reach-touched, chunk-touched, action-workspace-touched, action-speed-touched, action-contact-touched, action-reach-touched, action-touched}
 
 -- ---- every other check is armed as before
 
@@ -187,3 +188,31 @@ module _ (c : FuseConfig) (none : c .contact ≡ None) where
     pub no-contact-action-row : (l : List Float) → actionOut (contactUnarmed c) p aux prev a l ≡ actionOut c p aux prev a l
     unfolding actionOut
     no-contact-action-row l = rw (action-refused (length l), action-ruled)
+
+-- ---- all that is promised of the two entries
+
+pub promised : Promised
+promised = record {
+  chunk-may-touch = λ c p aux rows h d e room. record {
+    workspace-touched = chunk-workspace-touched c p aux rows h d e room;
+    speed-touched = chunk-speed-touched c p aux rows h d e room;
+    contact-touched = chunk-contact-touched c p aux rows h d e room;
+    accel-touched = chunk-accel-touched c p aux rows h d e room;
+    jerk-touched = chunk-jerk-touched c p aux rows h d e room;
+    reach-touched = chunk-reach-touched c p aux rows h d e room;
+    all-touched = chunk-touched c p aux rows h d e room;
+  };
+  action-may-touch = λ c p aux prev a room. record {
+    workspace-touched = action-workspace-touched c p aux prev a room;
+    speed-touched = action-speed-touched c p aux prev a room;
+    contact-touched = action-contact-touched c p aux prev a room;
+    reach-touched = action-reach-touched c p aux prev a room;
+    all-touched = action-touched c p aux prev a room;
+  };
+  no-contact-as-unarmed = λ c none. record {
+    same-chunk-answer = no-contact-chunk-answer c none;
+    same-chunk-rows = no-contact-chunk-rows c none;
+    same-action-answer = no-contact-action-answer c none;
+    same-action-row = no-contact-action-row c none;
+  };
+}

@@ -1,21 +1,21 @@
 -- What follows from tier 0's rules: when each bit is raised, that a wall which is touched is not exceeded, when there is no slow zone, that
 -- unarmed checks move nothing. (That the box move ends inside the box is workspace's `Inside.inward-inside`.) A projected row re-passing its check is not promised.
-use Prim.Native.Nat.{ℕ, zero, suc, _+_, _*_, _/_, _%_, _≤_, _<_}
+use Prim.Native.Nat.{ℕ, zero, suc, _+_, _*_, _≤_, _<_}
 use mathlib.Core.Path.{_≡_, refl, sym, ap, _∙_}
 use mathlib.Core.Bool.{Bool, true, false, _&&_, false≢true}
 use mathlib.Core.List.{List, [], _∷_}
 use native.Mathlib.Omega.{arith}
 use borrow.Author.Tests.{eq-eqb}
 use lib.Dec.{eqb}
-use lib.ListN.{drop, replicate, getD}
+use lib.ListN.{drop, getD}
 use lib.Seq.{getD-drop}
-use lib.Ieee.{Float, Format, nan, inf, fin, mul, lt, le, ne, eq, up, down}
+use lib.Ieee.{Float, Format, nan, inf, fin, lt, le, ne, eq, up, down}
 use Rattle.refusal.specs.Order.{if_then_else_}
-use Rattle.fmath.specs.Each.{at, some, over}
-use Rattle.fmath.specs.Finite.{finite, +0}
+use Rattle.fmath.specs.Each.{at, over}
+use Rattle.fmath.specs.Finite.{finite}
 use Rattle.fmath.specs.Row.{padded}
-use Rattle.fmath.specs.Checked.{Checked, pure, each}
-use Rattle.fmath.specs.Norm.{norm, dist}
+use Rattle.fmath.specs.Checked.{Checked, pure}
+use Rattle.fmath.specs.Norm.{dist}
 use Rattle.fmath.proofs.Copy.{padded-at}
 use Rattle.fmath.proofs.Ordered.{lt-irrefl}
 use Rattle.workspace.specs.Rule.{Walls, beyond}
@@ -28,9 +28,9 @@ use Rattle.envelope.specs.declared.Contact.the-variants.{None, Zone}
 use Rattle.chunk.proofs.Rows.{row-fits}
 use Rattle.tier0.specs.declared.Checks.{Checks}
 use Rattle.tier0.specs.declared.Difference.the-variants.{Accel, Jerk}
-use Rattle.tier0.specs.Rule.{WORKSPACE, SPEED, ACCEL, JERK, REACH, CONTACT, arms, shared, Slow, clear, seen, inZone, zoneIn, slowZone, outOfBox, outOfReach, tripBits, leash, boxed, leashed, reached, moves, moved, project, projection, checkAction}
+use Rattle.tier0.specs.Rule.{WORKSPACE, SPEED, ACCEL, JERK, REACH, CONTACT, arms, Slow, clear, seen, inZone, zoneIn, slowZone, outOfBox, outOfReach, tripBits, leash, boxed, leashed, reached, moves, moved, project, projection, checkAction}
 use Rattle.tier0.specs.Promises.{raised}
-use Rattle.tier0.specs.Chunk.{startRow, stepTo, someLonger, someOutOfBox, tooLarge, rawRow, exceeds, putRow, nextRow, runRows, projectedRows, checkChunk}
+use Rattle.tier0.specs.Chunk.{startRow, someLonger, someOutOfBox, tooLarge, rawRow, putRow, nextRow, runRows, projectedRows, checkChunk}
 
 -- ---- the bits
 

@@ -1,4 +1,4 @@
--- What is promised of the answers of `check_chunk` and `check_action`. The proofs are `proofs/Promises.antt` and `proofs/NoContact.antt`.
+-- What is promised of the answers of `check_chunk` and `check_action`. The proofs are `proofs/Within.antt` and `proofs/NoContact.antt`, where `promised` is all of it.
 use Prim.Native.Nat.{ℕ, _+_, _-_, _/_, _%_, _<_}
 use mathlib.Core.Path.{_≡_}
 use mathlib.Core.Bool.{Bool, true, false}
@@ -11,13 +11,14 @@ use Rattle.fmath.specs.Checked.{Checked, each}
 use Rattle.fmath.specs.Norm.{norm, dist}
 use Rattle.workspace.specs.Of.{wallsOf}
 use Rattle.workspace.specs.Rule.{beyond}
+use Rattle.envelope.specs.declared.Contact.the-variants.{None}
 use Rattle.envelope.specs.declared.FuseConfig.{FuseConfig}
 use Rattle.tier0.specs.declared.Check.{Check}
 use Rattle.tier0.specs.declared.Check.the-variants.{Passed, Refused}
 use Rattle.tier0.specs.declared.Checks.{Checks}
-use Rattle.tier0.specs.Rule.{CONTACT, bit, shared, Slow, slowZone}
+use Rattle.tier0.specs.Rule.{WORKSPACE, SPEED, ACCEL, JERK, REACH, CONTACT, bit, shared, Slow, slowZone}
 use Rattle.tier0.specs.Chunk.{rawRow, startRow, rowBefore, stepTo, bends, jolts}
-use Rattle.tier0.specs.Of.{checksOf}
+use Rattle.tier0.specs.Of.{checksOf, actionAnswer, actionOut, chunkAnswer, chunkOut}
 
 -- the trips of an answer: none where it is refused
 abbrev pub tripsIn : Check → ℕ
@@ -135,3 +136,35 @@ contactUnarmed c = record {
   calib = c .calib;
   «horizon_ticks» = c .«horizon_ticks»;
 }
+
+-- ---- all of it
+
+-- a limit that is not exceeded is not raised by `check_chunk`, and where none is exceeded nothing is
+pub record ChunkTouched (c : FuseConfig) (p aux rows : List Float) (h d e room : ℕ) : Type 0 where
+  pub workspace-touched : ChunkInBox c p aux rows h → raised WORKSPACE (tripsIn (chunkAnswer c p aux rows h d e room)) ≡ false
+  pub speed-touched : ChunkSlowEnough c p aux rows h → raised SPEED (tripsIn (chunkAnswer c p aux rows h d e room)) ≡ false
+  pub contact-touched : ChunkSlowInZone c p aux rows h → raised CONTACT (tripsIn (chunkAnswer c p aux rows h d e room)) ≡ false
+  pub accel-touched : ChunkBendsLittle c p aux rows h → raised ACCEL (tripsIn (chunkAnswer c p aux rows h d e room)) ≡ false
+  pub jerk-touched : ChunkJoltsLittle c p aux rows h → raised JERK (tripsIn (chunkAnswer c p aux rows h d e room)) ≡ false
+  pub reach-touched : ChunkInReach c p aux rows → raised REACH (tripsIn (chunkAnswer c p aux rows h d e room)) ≡ false
+  pub all-touched : ChunkWithin c p aux rows h → tripsIn (chunkAnswer c p aux rows h d e room) ≡ 0
+
+-- .. nor by `check_action`
+pub record ActionTouched (c : FuseConfig) (p aux prev a : List Float) (room : ℕ) : Type 0 where
+  pub workspace-touched : ActionInBox c p aux prev a → raised WORKSPACE (tripsIn (actionAnswer c p aux prev a room)) ≡ false
+  pub speed-touched : ActionSlowEnough c p aux prev a → raised SPEED (tripsIn (actionAnswer c p aux prev a room)) ≡ false
+  pub contact-touched : ActionSlowInZone c p aux prev a → raised CONTACT (tripsIn (actionAnswer c p aux prev a room)) ≡ false
+  pub reach-touched : ActionInReach c p aux prev a → raised REACH (tripsIn (actionAnswer c p aux prev a room)) ≡ false
+  pub all-touched : ActionWithin c p aux prev a → tripsIn (actionAnswer c p aux prev a room) ≡ 0
+
+-- with no contact configured, a call answers and writes what it does with CONTACT unarmed
+pub record AsUnarmed (c : FuseConfig) : Type 0 where
+  pub same-chunk-answer : (p aux rows : List Float) (h d e room : ℕ) → chunkAnswer (contactUnarmed c) p aux rows h d e room ≡ chunkAnswer c p aux rows h d e room
+  pub same-chunk-rows : (p aux rows : List Float) (h d e : ℕ) (l : List Float) → chunkOut (contactUnarmed c) p aux rows h d e l ≡ chunkOut c p aux rows h d e l
+  pub same-action-answer : (p aux prev a : List Float) (room : ℕ) → actionAnswer (contactUnarmed c) p aux prev a room ≡ actionAnswer c p aux prev a room
+  pub same-action-row : (p aux prev a l : List Float) → actionOut (contactUnarmed c) p aux prev a l ≡ actionOut c p aux prev a l
+
+pub record Promised : Type 0 where
+  pub chunk-may-touch : (c : FuseConfig) (p aux rows : List Float) (h d e room : ℕ) → ChunkTouched c p aux rows h d e room
+  pub action-may-touch : (c : FuseConfig) (p aux prev a : List Float) (room : ℕ) → ActionTouched c p aux prev a room
+  pub no-contact-as-unarmed : (c : FuseConfig) → c .contact ≡ None → AsUnarmed c

@@ -3,9 +3,8 @@ use Prim.Native.Nat.{ℕ, suc, _<_}
 use mathlib.Core.Path.{_≡_}
 use mathlib.Core.Bool.{Bool, true, false}
 use mathlib.Core.List.{List}
-use lib.ListN.{length}
 use lib.Ieee.{Float, lt}
-use Rattle.refusal.specs.Order.{numberOf, channels, refusal, refusedFor}
+use Rattle.refusal.specs.Order.{refusal, refusedFor}
 use Rattle.fmath.specs.Finite.{+0}
 use Rattle.envelope.specs.Refusals.{numbersOk, sizesFit, stepsFit, configJudged}
 use Rattle.envelope.specs.declared.Contact.the-variants.{None, Zone}
@@ -29,7 +28,7 @@ pub record EmptyBoxSlowsNothing : Type 0 where
   pub action-answer : (c : FuseConfig) → c .contact ≡ None → (p aux prev a : List Float) (room : ℕ) → actionAnswer (contactUnarmed c) p aux prev a room ≡ actionAnswer c p aux prev a room
   pub action-row : (c : FuseConfig) → c .contact ≡ None → (p aux prev a l : List Float) → actionOut (contactUnarmed c) p aux prev a l ≡ actionOut c p aux prev a l
 
--- "Two arms may share camera channels": where 1, 2 and 3 do not apply, one channel for both coordinates of a zone is refused with 4 by whatever entry takes the configuration
+-- "Two arms may share camera channels": where 1, 2 and 3 do not apply, one channel for both coordinates of a zone is refused with 4 by the configuration's own judging, the checks, the forecast, brake and hold
 pub record OneChannelIs4 (c : FuseConfig) : Type 0 where
   pub configuration-is-4 : refusal (configJudged c) ≡ 4
   pub chunk-is-4 : (p aux rows : List Float) (h d e room : ℕ) → chunkAnswer c p aux rows h d e room ≡ check.Refused (refusedFor 4)

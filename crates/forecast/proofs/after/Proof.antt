@@ -1,5 +1,4 @@
 -- `forecast::after` meets its contract: field by field, the last by the sign of the answer.
-use native.Mathlib.Omega.{arith}
 use mir.Facts.{toZ-ofZ}
 use borrow.Author.Needs.{needs}
 use Rattle.forecast.proofs.Answers.{negative-failed, read-is}

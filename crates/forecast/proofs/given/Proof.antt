@@ -1,5 +1,4 @@
 -- `forecast::given` meets its contract: by the sign of the answer.
-use mathlib.Core.Path.{_≡_}
 use mir.Facts.{toZ-ofZ}
 use Rattle.forecast.proofs.Answers.{positive-fits, positive-given, none-given}
 use Rattle.forecast.proofs.given.Statement.{statement}
