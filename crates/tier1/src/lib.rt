@@ -26,6 +26,19 @@ use envelope::Settings;
 use refusal::Refusal;
 use window::Trail;
 
+// The weights of the held features' bits.
+const TCE: u32 = 1 << Feat::TCE;
+
+const ACC: u32 = 1 << Feat::ACC;
+
+const ACM_NEG: u32 = 1 << Feat::ACM_NEG;
+
+const NJR: u32 = 1 << Feat::NJR;
+
+const REACH: u32 = 1 << Feat::REACH;
+
+const SPEED_PEAK: u32 = 1 << Feat::SPEED_PEAK;
+
 // What is held between ticks: the chunk before, the trail of positions, and the features of the last chunk, bits 0 to 5.
 pub struct Tier1Rt {
     pub prev: ChunkBuf,
@@ -437,12 +450,12 @@ fn speed_peak(m: Manifest, pos: &[f64], b: &[f64], h: usize) -> Feature
 fn boundary_bits(l: usize, h: usize, n: usize) -> u32
     ensures { λ r. ⌜ r ≡ bitsWhere (boundaryAt l h n) 6 ⌝ }
 {
-    let a = conformal::weight(2 <= l, 1);
-    let b = conformal::weight(2 <= l, 2);
-    let c = conformal::weight(2 <= h, 4);
-    let d = conformal::weight(4 <= h, 8);
-    let e = conformal::weight(0 < n, 16);
-    a + b + c + d + e + 32
+    let a = conformal::weight(2 <= l, TCE);
+    let b = conformal::weight(2 <= l, ACC);
+    let c = conformal::weight(2 <= h, ACM_NEG);
+    let d = conformal::weight(4 <= h, NJR);
+    let e = conformal::weight(0 < n, REACH);
+    a + b + c + d + e + SPEED_PEAK
 }
 
 // All six features of a chunk of h rows, b, emitted at t, after the one with the rows a.
