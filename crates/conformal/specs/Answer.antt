@@ -6,7 +6,7 @@ use lib.Dec.{eqb}
 use lib.Ieee.{Float, Format}
 use Rattle.refusal.specs.Order.{size, number, steps, notFinite, computed, _when_, refusal, refusedFor, if_then_else_}
 use Rattle.fmath.specs.Checked.{Checked}
-use Rattle.conformal.specs.Rule.{live, standards, aggregate, firedBits, trips, binAt}
+use Rattle.conformal.specs.Rule.{Tables, live, standards, aggregate, firedBits, trips, binAt}
 use Rattle.conformal.specs.Refusals.{sizesOk, numbersOk, scoresOk}
 use Rattle.conformal.specs.declared.Calibration.{Calibration}
 use Rattle.conformal.specs.declared.Scores.{Scores}
@@ -17,11 +17,11 @@ use Rattle.conformal.specs.declared.TimeBin.{TimeBin}
 use Rattle.conformal.specs.declared.TimeBin.the-variants.{NoBin, Bin}
 
 -- the number for a calibration and scores, by whether each number that was computed is finite
-unfoldable pub judged : Calibration → Scores → Bool → ℕ
-judged cal sc sound =
+unfoldable pub judged : Calibration → Tables → Scores → Bool → ℕ
+judged cal t sc sound =
     refusal
-    ((size when not (sizesOk (cal .gate) (cal .mask)))
-    ∷ (number when not (numbersOk (cal .center) (cal .scale) (cal .tau)))
+    ((size when not (sizesOk cal))
+    ∷ (number when not (numbersOk cal t))
     ∷ (notFinite when not (scoresOk sc))
     ∷ (computed when not sound) ∷ [])
 
@@ -32,26 +32,26 @@ scored n old new = record { refusal = refusedFor n; scores = if eqb n 0 then new
 abbrev pub liveOf : Calibration → Scores → ℕ → Bool
 liveOf cal sc = live (cal .mask) (sc .valid)
 
-abbrev pub standardsOf : Format → Calibration → ℕ → Scores → Checked (List Float)
-standardsOf fm cal bin sc = standards fm (cal .center) (cal .scale) bin (liveOf cal sc) (sc .f)
+abbrev pub standardsOf : Format → Calibration → Tables → ℕ → Scores → Checked (List Float)
+standardsOf fm cal t bin sc = standards fm t bin (liveOf cal sc) (sc .f)
 
 -- z is replaced, all else stays
-unfoldable pub standardised : Format → Calibration → ℕ → Scores → Scored
-standardised fm cal bin sc =
-    scored (judged cal sc (standardsOf fm cal bin sc .sound)) sc
-    (record { f = sc .f; z = standardsOf fm cal bin sc .value; s = sc .s; valid = sc .valid; fired = sc .fired })
+unfoldable pub standardised : Format → Calibration → Tables → ℕ → Scores → Scored
+standardised fm cal t bin sc =
+    scored (judged cal t sc (standardsOf fm cal t bin sc .sound)) sc
+    (record { f = sc .f; z = standardsOf fm cal t bin sc .value; s = sc .s; valid = sc .valid; fired = sc .fired })
 
 -- s and fired are replaced, all else stays; nothing is computed but least and greatest
-unfoldable pub aggregated : Calibration → Scores → Scored
-aggregated cal sc =
-    scored (judged cal sc true) sc
+unfoldable pub aggregated : Calibration → Tables → Scores → Scored
+aggregated cal t sc =
+    scored (judged cal t sc true) sc
     (record { f = sc .f; z = sc .z; s = aggregate (cal .gate) (liveOf cal sc) (sc .z); valid = sc .valid; fired = firedBits (liveOf cal sc) (cal .tau) (sc .z) })
 
 abbrev pub verdict : ℕ → Bool → Verdict
 verdict n b = if eqb n 0 then Trips b else Refused (refusedFor n)
 
-unfoldable pub tripped : Calibration → Scores → Verdict
-tripped cal sc = verdict (judged cal sc true) (trips (cal .tau) (sc .s))
+unfoldable pub tripped : Calibration → Tables → Scores → Verdict
+tripped cal t sc = verdict (judged cal t sc true) (trips (cal .tau) (sc .s))
 
 abbrev pub binned : ℕ → ℕ → TimeBin
 binned n bin = if eqb n 0 then Bin bin else NoBin (refusedFor n)

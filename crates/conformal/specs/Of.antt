@@ -1,13 +1,17 @@
--- The structs that the code hands on, from the rules' values.
+-- The tables that are lent, and the structs that the code hands on, from the rules' values.
 use Prim.Native.Nat.{ℕ}
 use mathlib.Core.Bool.{Bool}
 use mathlib.Core.List.{List}
 use lib.Ieee.{Float}
 use Rattle.fmath.specs.Checked.{Checked}
-use Rattle.conformal.specs.Rule.{liveTerm, leastOf}
+use Rattle.conformal.specs.Rule.{Tables, liveTerm, leastOf}
 use Rattle.conformal.specs.declared.OneZ.{OneZ}
 use Rattle.conformal.specs.declared.AllZ.{AllZ}
 use Rattle.conformal.specs.declared.Joined.{Joined}
+
+-- a calibration's tables, from the two arrays that are lent
+abbrev pub tables : List Float → List Float → Tables
+tables center scale = record { center = center; scale = scale }
 
 abbrev pub standardFrom : Checked Float → OneZ
 standardFrom x = record { z = x .value; sound = x .sound }

@@ -1,13 +1,14 @@
 -- When a calibration or scores are refused, one condition for each number of document 01's table.
 use Prim.Native.Nat.{ℕ}
 use mathlib.Core.Bool.{Bool, not, _||_}
-use mathlib.Core.List.{List, [], _∷_}
+use mathlib.Core.List.{[], _∷_}
 use lib.Dec.{leb, ltb}
 use lib.ListN.{getD}
-use lib.Ieee.{Float, isNan}
+use lib.Ieee.{isNan}
 use Rattle.fmath.specs.Each.{all, every}
 use Rattle.fmath.specs.Finite.{finite, allFinite, allAboveZero}
-use Rattle.conformal.specs.declared.GateSpec.{GateSpec}
+use Rattle.conformal.specs.Rule.{Tables}
+use Rattle.conformal.specs.declared.Calibration.{Calibration}
 use Rattle.conformal.specs.declared.Scores.{Scores}
 
 -- no bit above 11
@@ -15,15 +16,15 @@ abbrev pub named : ℕ → Bool
 named w = ltb w 4096
 
 -- 1: at most 8 terms, and no bit above 11 in a counted term or in the mask
-unfoldable pub sizesOk : GateSpec → ℕ → Bool
-sizesOk gate mask =
+unfoldable pub sizesOk : Calibration → Bool
+sizesOk cal =
     every
-    (leb (gate .«n_terms») 8 ∷ named mask
-    ∷ all (λ (i : ℕ). leb (gate .«n_terms») i || named (getD (gate .terms) i 0)) 8 ∷ [])
+    (leb (cal .gate .«n_terms») 8 ∷ named (cal .mask)
+    ∷ all (λ (i : ℕ). leb (cal .gate .«n_terms») i || named (getD (cal .gate .terms) i 0)) 8 ∷ [])
 
 -- 2: tau and each center finite, each scale finite and above 0
-unfoldable pub numbersOk : List Float → List Float → Float → Bool
-numbersOk center scale tau = every (finite tau ∷ allFinite center 192 ∷ allAboveZero scale 192 ∷ [])
+unfoldable pub numbersOk : Calibration → Tables → Bool
+numbersOk cal t = every (finite (cal .tau) ∷ allFinite (t .center) 192 ∷ allAboveZero (t .scale) 192 ∷ [])
 
 -- 12: f and z finite, s no NaN
 unfoldable pub scoresOk : Scores → Bool

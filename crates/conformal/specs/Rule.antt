@@ -19,6 +19,11 @@ live mask valid j = bit mask j && bit valid j
 
 -- ---- standardise
 
+-- center and scale of each feature in each time bin
+pub record Tables : Type 0 where
+  pub center : List Float
+  pub scale : List Float
+
 -- z of a feature: (f - center) / scale where it is live, 0.0 elsewhere
 unfoldable pub standard : Format → Bool → Float → Float → Float → Checked Float
 standard fm live x center scale = if live then (do d ← minus fm x center; divided fm d scale) else pure +0
@@ -28,14 +33,14 @@ abbrev pub entry : ℕ → ℕ → ℕ
 entry bin j = min bin 15 * 12 + j
 
 -- z of feature j in a time bin
-abbrev pub standardAt : Format → List Float → List Float → ℕ → (ℕ → Bool) → List Float → ℕ → Checked Float
-standardAt fm center scale bin live x j = standard fm (live j) (at x j) (at center (entry bin j)) (at scale (entry bin j))
+abbrev pub standardAt : Format → Tables → ℕ → (ℕ → Bool) → List Float → ℕ → Checked Float
+standardAt fm t bin live x j = standard fm (live j) (at x j) (at (t .center) (entry bin j)) (at (t .scale) (entry bin j))
 
 -- the z of all twelve features
-unfoldable pub standards : Format → List Float → List Float → ℕ → (ℕ → Bool) → List Float → Checked (List Float)
-standards fm center scale bin live x = record {
-  value = table (λ (j : ℕ). standardAt fm center scale bin live x j .value) 12;
-  sound = all (λ (j : ℕ). standardAt fm center scale bin live x j .sound) 12;
+unfoldable pub standards : Format → Tables → ℕ → (ℕ → Bool) → List Float → Checked (List Float)
+standards fm t bin live x = record {
+  value = table (λ (j : ℕ). standardAt fm t bin live x j .value) 12;
+  sound = all (λ (j : ℕ). standardAt fm t bin live x j .sound) 12;
 }
 
 -- ---- aggregate

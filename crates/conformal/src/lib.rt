@@ -9,7 +9,7 @@ ghost use Rattle.conformal.specs.Bits.{bit};
 ghost use Rattle.conformal.specs.Rule.{live, standard, standards, aggregate, firedBits};
 ghost use Rattle.conformal.specs.Refusals.{sizesOk, numbersOk, scoresOk};
 ghost use Rattle.conformal.specs.Answer.{judged, scored, standardised, aggregated, tripped, timeBinOf};
-ghost use Rattle.conformal.specs.Of.{standardFrom, standardsFrom, termFrom};
+ghost use Rattle.conformal.specs.Of.{tables, standardFrom, standardsFrom, termFrom};
 use refusal::Refusal;
 
 // The bits of the twelve features.
@@ -65,10 +65,8 @@ impl GateSpec {
     };
 }
 
-// Center and scale of feature j in time bin b stand at b * 12 + j.
+// Its two tables are lent beside it: center and scale of feature j in time bin b stand at b * 12 + j.
 pub struct Calibration {
-    pub center: [f64; 192],
-    pub scale: [f64; 192],
     pub mask: u32,
     pub gate: GateSpec,
     pub tau: f64,
@@ -113,9 +111,10 @@ struct Joined {
 // ---- what is judged
 
 // Refusal 1 of a calibration: at most 8 terms, no bit above 11 in a counted one or the mask.
-pub fn sizes_ok(gate: GateSpec, mask: u32) -> bool
-    ensures { λ r. ⌜ r ≡ sizesOk gate mask ⌝ }
+pub fn sizes_ok(cal: Calibration) -> bool
+    ensures { λ r. ⌜ r ≡ sizesOk cal ⌝ }
 {
+    let gate = cal.gate;
     let n = gate.n_terms as usize;
     let mut ok = true;
     let mut i = 0usize;
@@ -123,14 +122,14 @@ pub fn sizes_ok(gate: GateSpec, mask: u32) -> bool
         ok = ok & ((n <= i) | (gate.terms[i] < 4096));
         i += 1;
     }
-    (n <= 8) & (mask < 4096) & ok
+    (n <= 8) & (cal.mask < 4096) & ok
 }
 
 // Refusal 2 of a calibration: tau and centers finite, scales finite and above 0.
-pub fn numbers_ok<'a>(center: &'a [f64; 192], scale: &'a [f64; 192], tau: f64) -> bool
-    ensures { λ r. ⌜ r ≡ numbersOk (now (center .entry)) (now (scale .entry)) tau ⌝ }
+pub fn numbers_ok(cal: Calibration, center: &[f64; 192], scale: &[f64; 192]) -> bool
+    ensures { λ r. ⌜ r ≡ numbersOk cal (tables (now (center .entry)) (now (scale .entry))) ⌝ }
 {
-    let a = fmath::finite(tau);
+    let a = fmath::finite(cal.tau);
     let b = fmath::all_finite(center, 192);
     let c = fmath::all_above_zero(scale, 192);
     a & b & c
@@ -154,12 +153,17 @@ pub fn scores_ok(scores: Scores) -> bool
 }
 
 // The refusal of a calibration and scores, given whether all that was computed is finite; what is judged last comes first.
-fn judge(cal: Calibration, scores: Scores, sound: bool) -> u8
-    ensures { λ r. ⌜ r ≡ judged cal scores sound ⌝ }
+fn judge(
+    cal: Calibration,
+    center: &[f64; 192],
+    scale: &[f64; 192],
+    scores: Scores,
+    sound: bool,
+) -> u8
+    ensures { λ r. ⌜ r ≡ judged cal (tables (now (center .entry)) (now (scale .entry))) scores sound ⌝ }
 {
-    let gate = cal.gate;
-    let a = sizes_ok(gate, cal.mask);
-    let b = numbers_ok(&cal.center, &cal.scale, cal.tau);
+    let a = sizes_ok(cal);
+    let b = numbers_ok(cal, center, scale);
     let c = scores_ok(scores);
     let of_computed = Refusal::when(Refusal::COMPUTED, !sound, 0);
     let of_scores = Refusal::when(Refusal::NOT_FINITE, !c, of_computed);
@@ -221,15 +225,15 @@ fn last_bin(bin: usize) -> usize
 }
 
 // z of all features in a time bin.
-fn standards<'a>(
-    center: &'a [f64; 192],
-    scale: &'a [f64; 192],
+fn standards(
+    center: &[f64; 192],
+    scale: &[f64; 192],
     bin: usize,
     mask: u32,
     valid: u32,
-    x: &'a [f64; 12],
+    x: &[f64; 12],
 ) -> AllZ
-    ensures { λ r. ⌜ r ≡ standardsFrom (standards binary64 (now (center .entry)) (now (scale .entry)) bin (live mask valid) (now (x .entry))) ⌝ }
+    ensures { λ r. ⌜ r ≡ standardsFrom (standards binary64 (tables (now (center .entry)) (now (scale .entry))) bin (live mask valid) (now (x .entry))) ⌝ }
 {
     let row = last_bin(bin) * 12;
     let mut z = [0.0; 12];
@@ -246,12 +250,18 @@ fn standards<'a>(
 }
 
 // Puts the scores' f in units of the calibration, for the features that are live.
-pub fn standardise(cal: Calibration, bin: usize, scores: Scores) -> Scored
-    ensures { λ r. ⌜ r ≡ standardised binary64 cal bin scores ⌝ }
+pub fn standardise(
+    cal: Calibration,
+    center: &[f64; 192],
+    scale: &[f64; 192],
+    bin: usize,
+    scores: Scores,
+) -> Scored
+    ensures { λ r. ⌜ r ≡ standardised binary64 cal (tables (now (center .entry)) (now (scale .entry))) bin scores ⌝ }
 {
     let x = scores.f;
-    let new = standards(&cal.center, &cal.scale, bin, cal.mask, scores.valid, &x);
-    let number = judge(cal, scores, new.sound);
+    let new = standards(center, scale, bin, cal.mask, scores.valid, &x);
+    let number = judge(cal, center, scale, scores, new.sound);
     let z = new.z;
     let scored = Scores {
         f: x,
@@ -344,10 +354,15 @@ fn fired_bits(mask: u32, valid: u32, tau: f64, z: &[f64; 12]) -> u32
 }
 
 // Sets s and fired from z.
-pub fn aggregate(cal: Calibration, scores: Scores) -> Scored
-    ensures { λ r. ⌜ r ≡ aggregated cal scores ⌝ }
+pub fn aggregate(
+    cal: Calibration,
+    center: &[f64; 192],
+    scale: &[f64; 192],
+    scores: Scores,
+) -> Scored
+    ensures { λ r. ⌜ r ≡ aggregated cal (tables (now (center .entry)) (now (scale .entry))) scores ⌝ }
 {
-    let number = judge(cal, scores, true);
+    let number = judge(cal, center, scale, scores, true);
     let gate = cal.gate;
     let x = scores.f;
     let z = scores.z;
@@ -366,10 +381,15 @@ pub fn aggregate(cal: Calibration, scores: Scores) -> Scored
 // ---- trip and the time bin
 
 // Whether s is above tau, strictly.
-pub fn trip(cal: Calibration, scores: Scores) -> Verdict
-    ensures { λ r. ⌜ r ≡ tripped cal scores ⌝ }
+pub fn trip(
+    cal: Calibration,
+    center: &[f64; 192],
+    scale: &[f64; 192],
+    scores: Scores,
+) -> Verdict
+    ensures { λ r. ⌜ r ≡ tripped cal (tables (now (center .entry)) (now (scale .entry))) scores ⌝ }
 {
-    let number = judge(cal, scores, true);
+    let number = judge(cal, center, scale, scores, true);
     if number == 0 {
         Verdict::Trips(scores.s > cal.tau)
     } else {

@@ -27,7 +27,7 @@ when-requires-4 c κs = search needs
 
 returns : tie.Need-returns
 unfolding judged
-returns c = rw (c .when4 .ensures, c .before .when3 .ensures, c .before .before .when2 .ensures, c .before .before .before .when .ensures, c .before .before .before .before .before .before .before .before .before .sizes-ok .ensures, c .before .before .before .before .before .numbers-ok .ensures, c .before .before .before .before .scores-ok .ensures)
+returns c = rw (c .when4 .ensures, c .before .when3 .ensures, c .before .before .when2 .ensures, c .before .before .before .when .ensures, c .before .before .before .before .before .before .sizes-ok .ensures, c .before .before .before .before .before .numbers-ok .ensures, c .before .before .before .before .scores-ok .ensures)
 
 pub judge-spec : {M : Type 1} → statement M
 judge-spec =

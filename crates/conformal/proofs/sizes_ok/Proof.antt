@@ -13,10 +13,10 @@ use Rattle.conformal.proofs.sizes_ok.Statement.{statement}
 use Rattle.conformal.proofs.sizes_ok.Tie as tie
 
 abbrev Inv-loop : tie.InvT-loop
-Inv-loop mask gate n ok₀ i₀ ok i = (i ≤ 8) × (ok ≡ all (λ (k : ℕ). leb n k || ltb (getD (gate .terms) k 0) 4096) i)
+Inv-loop cal gate n ok₀ i₀ ok i = (i ≤ 8) × (ok ≡ all (λ (k : ℕ). leb n k || ltb (getD (gate .terms) k 0) 4096) i)
 
 abbrev μ-loop : tie.MeasureT-loop
-μ-loop mask gate n ok₀ i₀ ok i = 8 - i
+μ-loop cal gate n ok₀ i₀ ok i = 8 - i
 
 cast-n : tie.Need-cast-n Inv-loop μ-loop
 cast-n c = search needs
@@ -42,7 +42,7 @@ loop-again c = (omega arith, all-more _ _ _ _ (c .before .before .loop .inv .1) 
 
 returns : tie.Need-returns Inv-loop μ-loop
 unfolding sizesOk every
-returns c = let e : c .before .loop .i ≡ 8 = omega arith in rw (rw e at (c .before .loop .inv .1))
+returns c = let e : c .before .before .loop .i ≡ 8 = omega arith in rw (rw e at (c .before .before .loop .inv .1))
 
 pub sizes-ok-spec : {M : Type 1} → statement M
 sizes-ok-spec =

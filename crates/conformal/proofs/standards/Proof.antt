@@ -8,13 +8,13 @@ use lib.Ieee.{binary64}
 use Rattle.fmath.specs.Each.{all, at, table}
 use Rattle.fmath.proofs.Each.{all-more, table-more, table-all}
 use Rattle.conformal.specs.declared.OneZ.{OneZ}
-use Rattle.conformal.specs.Of.{standardFrom}
+use Rattle.conformal.specs.Of.{tables, standardFrom}
 use Rattle.conformal.specs.Rule.{live, standardAt, standards}
 use Rattle.conformal.proofs.standards.Statement.{statement}
 use Rattle.conformal.proofs.standards.Tie as tie
 
 abbrev Inv-loop : tie.InvT-loop
-Inv-loop center scale bin mask valid x row z₀ sound₀ j₀ z sound j = (j ≤ 12) × ((length z ≡ 12) × ((take j z ≡ table (λ (k : ℕ). standardAt binary64 center scale bin (live mask valid) x k .value) j) × (sound ≡ all (λ (k : ℕ). standardAt binary64 center scale bin (live mask valid) x k .sound) j)))
+Inv-loop center scale bin mask valid x row z₀ sound₀ j₀ z sound j = (j ≤ 12) × ((length z ≡ 12) × ((take j z ≡ table (λ (k : ℕ). standardAt binary64 (tables center scale) bin (live mask valid) x k .value) j) × (sound ≡ all (λ (k : ℕ). standardAt binary64 (tables center scale) bin (live mask valid) x k .sound) j)))
 
 abbrev μ-loop : tie.MeasureT-loop
 μ-loop center scale bin mask valid x row z₀ sound₀ j₀ z sound j = 12 - j
@@ -78,7 +78,7 @@ loop-again : tie.Need-loop-again Inv-loop μ-loop
 loop-again c =
     let l = c .before .before .before .before .before .before .before .before .loop in
     let a = c .before .before .before .before .before .before .before .before .before .before .args in
-    let e : c .before .standard .result ≡ standardFrom (standardAt binary64 (a .center .now) (a .scale .now) (a .bin) (live (a .mask) (a .valid)) (a .x .now) (l .j))
+    let e : c .before .standard .result ≡ standardFrom (standardAt binary64 (tables (a .center .now) (a .scale .now)) (a .bin) (live (a .mask) (a .valid)) (a .x .now) (l .j))
     = (c .before .standard .ensures) ∙ rw (c .before .before .before .before .before .before .bit .ensures, c .before .before .before .before .before .bit2 .ensures, c .before .before .before .before .before .before .before .before .before .last-bin .ensures) in
     (omega arith, (simp length-set (l .inv .1 .0), (table-more _ _ _ _ (omega arith) (l .inv .1 .1 .0) (ap (λ (r : OneZ). r .z) e), all-more _ _ _ _ (l .inv .1 .1 .1) (ap (λ (r : OneZ). r .sound) e))))
 
