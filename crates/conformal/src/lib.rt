@@ -381,12 +381,7 @@ pub fn aggregate(
 // ---- trip and the time bin
 
 // Whether s is above tau, strictly.
-pub fn trip(
-    cal: Calibration,
-    center: &[f64; 192],
-    scale: &[f64; 192],
-    scores: Scores,
-) -> Verdict
+pub fn trip(cal: Calibration, center: &[f64; 192], scale: &[f64; 192], scores: Scores) -> Verdict
     ensures { λ r. ⌜ r ≡ tripped cal (tables (now (center .entry)) (now (scale .entry))) scores ⌝ }
 {
     let number = judge(cal, center, scale, scores, true);

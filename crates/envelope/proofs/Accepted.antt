@@ -3,35 +3,36 @@ use Prim.Native.Nat.{ℕ, _≤_, _<_}
 use mathlib.Core.Path.{_≡_}
 use mathlib.Core.Bool.{true, false, not}
 use borrow.Author.Tests.{leb-true, not-true, not-false}
-use lib.Ieee.{binary64, lt}
+use lib.Ieee.{Format, lt}
 use Rattle.refusal.specs.Order.{size, number, steps, channels, among, refusal}
 use Rattle.refusal.specs.Exactly.{exactly-none}
 use Rattle.fmath.specs.Each.{at}
 use Rattle.fmath.specs.Finite.{finite, allFinite}
 use Rattle.fmath.proofs.Each.{all-at, every-at}
+use Rattle.conformal.specs.Rule.{Tables}
 use Rattle.envelope.specs.Derive.{derived}
 use Rattle.envelope.specs.Steps.{substepsIn}
-use Rattle.envelope.specs.Refusals.{sizesOk, zoneOk, ordered, derivedOk, numbersOk, countsOk, stepsOk, sizesFit, stepsFit, channelsFit, configJudged}
+use Rattle.envelope.specs.Refusals.{sizesOk, zoneOk, ordered, derivedOk, numbersFrom, numbersOk, countsOk, stepsOk, channelsFit, configJudged}
 use Rattle.envelope.specs.declared.FuseConfig.{FuseConfig}
 
 -- the four conditions
-pub record Fit (c : FuseConfig) : Type 0 where
-  pub sizes : sizesFit c ≡ true
-  pub numbers : numbersOk c ≡ true
-  pub counts : stepsFit c ≡ true
+pub record Fit (f : Format) (c : FuseConfig) (t : Tables) : Type 0 where
+  pub sizes : sizesOk c ≡ true
+  pub numbers : numbersOk f c t ≡ true
+  pub counts : stepsOk c ≡ true
   pub apart : channelsFit c ≡ true
 
-pub accepted : (c : FuseConfig) → refusal (configJudged c) ≡ 0 → Fit c
-accepted c h =
-    let passed = exactly-none (among (configJudged c)) .1 h in
+pub accepted : (f : Format) (c : FuseConfig) (t : Tables) → refusal (configJudged f c t) ≡ 0 → Fit f c t
+accepted f c t h =
+    let passed = exactly-none (among (configJudged f c t)) .1 h in
     record {
-      sizes = not-false (sizesFit c) (passed size);
-      numbers = not-false (numbersOk c) (passed number);
-      counts = not-false (stepsFit c) (passed steps);
+      sizes = not-false (sizesOk c) (passed size);
+      numbers = not-false (numbersOk f c t) (passed number);
+      counts = not-false (stepsOk c) (passed steps);
       apart = not-false (channelsFit c) (passed channels);
     }
 
-module _ (c : FuseConfig) (fit : Fit c) where
+module _ (f : Format) (c : FuseConfig) (t : Tables) (fit : Fit f c t) where
   -- ---- sizes
 
   pub dim-most : c .dim ≤ 8
@@ -42,26 +43,26 @@ module _ (c : FuseConfig) (fit : Fit c) where
 
   -- the zone's radius and speed, where there is a zone
   pub zone-fits : zoneOk (c .contact) ≡ true
-  unfolding numbersOk
+  unfolding numbersFrom
   zone-fits = every-at _ 2 (fit .numbers)
 
   -- ---- the derived numbers
 
-  derived-fit : derivedOk (derived binary64 c) ≡ true
-  unfolding numbersOk
+  derived-fit : derivedOk (derived f c) ≡ true
+  unfolding numbersFrom
   derived-fit = every-at _ 5 (fit .numbers)
 
   -- no low wall exceeds its high wall
-  pub walls-ordered : (i : ℕ) → i < 8 → lt (at (derived binary64 c .«box_hi») i) (at (derived binary64 c .«box_lo») i) ≡ false
+  pub walls-ordered : (i : ℕ) → i < 8 → lt (at (derived f c .«box_hi») i) (at (derived f c .«box_lo») i) ≡ false
   unfolding derivedOk ordered
-  walls-ordered i h = not-true _ (all-at (λ (i : ℕ). not (lt (at (derived binary64 c .«box_hi») i) (at (derived binary64 c .«box_lo») i))) 8 (every-at _ 4 derived-fit) i h)
+  walls-ordered i h = not-true _ (all-at (λ (i : ℕ). not (lt (at (derived f c .«box_hi») i) (at (derived f c .«box_lo») i))) 8 (every-at _ 4 derived-fit) i h)
 
   -- each wall is a finite number
-  pub low-wall-finite : (i : ℕ) → i < 8 → finite (at (derived binary64 c .«box_lo») i) ≡ true
+  pub low-wall-finite : (i : ℕ) → i < 8 → finite (at (derived f c .«box_lo») i) ≡ true
   unfolding derivedOk allFinite
   low-wall-finite = all-at _ 8 (every-at _ 1 derived-fit)
 
-  pub high-wall-finite : (i : ℕ) → i < 8 → finite (at (derived binary64 c .«box_hi») i) ≡ true
+  pub high-wall-finite : (i : ℕ) → i < 8 → finite (at (derived f c .«box_hi») i) ≡ true
   unfolding derivedOk allFinite
   high-wall-finite = all-at _ 8 (every-at _ 2 derived-fit)
 

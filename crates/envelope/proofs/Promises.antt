@@ -6,15 +6,16 @@ use mathlib.Core.List.{List}
 use native.Mathlib.Omega.{arith}
 use borrow.Author.Tests.{ltb-true}
 use lib.Dec.{ltb}
-use lib.Ieee.{Float, Format, binary64, add, sub, div}
+use lib.Ieee.{Float, Format, add, sub, div}
 use Rattle.refusal.specs.Order.{refusal}
 use Rattle.fmath.specs.Constants.{1! }
 use Rattle.fmath.specs.Each.{at, all, every, table}
 use Rattle.fmath.specs.Finite.{finite, aboveZero, allFinite, allAboveZero}
 use Rattle.fmath.specs.Least.{least}
+use Rattle.conformal.specs.Rule.{Tables}
 use Rattle.conformal.specs.declared.Calibration.{Calibration}
 use Rattle.envelope.specs.Derive.{kept, lowWalls, highWalls, inverses, isotropic, derivedFrom, derived}
-use Rattle.envelope.specs.Refusals.{sizesOk, numbersOk, countsOk, stepsOk, normOk, boxOk, configJudged}
+use Rattle.envelope.specs.Refusals.{sizesOk, numbersFrom, countsOk, stepsOk, normOk, boxOk, configJudged}
 use Rattle.envelope.specs.declared.FuseConfig.{FuseConfig}
 use Rattle.envelope.specs.declared.BrakeModel.{BrakeModel}
 use Rattle.envelope.specs.declared.Norm.{Norm}
@@ -24,8 +25,8 @@ use Rattle.envelope.proofs.Accepted.{Fit}
 -- ---- exactly when
 
 -- a configuration is accepted where its four conditions hold; `Accepted.accepted` is the other way
-pub fit-accepted : (c : FuseConfig) → Fit c → refusal (configJudged c) ≡ 0
-fit-accepted c fit = rw (fit .sizes, fit .numbers, fit .counts, fit .apart)
+pub fit-accepted : (f : Format) (c : FuseConfig) (t : Tables) → Fit f c t → refusal (configJudged f c t) ≡ 0
+fit-accepted f c t fit = rw (fit .sizes, fit .numbers, fit .counts, fit .apart)
 
 -- ---- the flag, and the armed bits
 
@@ -57,15 +58,15 @@ armedBy c bits = altered c (c .norm) (c .walls) bits (c .calib) (c .«horizon_ti
 abbrev pub measuredBy : FuseConfig → Norm → Box → FuseConfig
 measuredBy c n w = altered c n w (c .armed) (c .calib) (c .«horizon_ticks»)
 
--- with the flag clear nothing of the calibration is judged, nor horizon_ticks
-pub flag-clear : (c : FuseConfig) (cal : Calibration) (ticks : ℕ) → c .calibrated ≡ false → refusal (configJudged (calibratedBy c cal ticks)) ≡ refusal (configJudged c)
-unfolding sizesOk numbersOk stepsOk
-flag-clear c cal ticks e = rw e
+-- with the flag clear nothing of the calibration or its tables is judged, nor horizon_ticks
+pub flag-clear : (f : Format) (c : FuseConfig) (t u : Tables) (cal : Calibration) (ticks : ℕ) → c .calibrated ≡ false → refusal (configJudged f (calibratedBy c cal ticks) u) ≡ refusal (configJudged f c t)
+unfolding sizesOk numbersFrom stepsOk
+flag-clear f c t u cal ticks e = rw e
 
 -- what is armed changes nothing: a contact that is configured is judged all the same
-pub armed-or-not : (c : FuseConfig) (bits : ℕ) → refusal (configJudged (armedBy c bits)) ≡ refusal (configJudged c)
-unfolding numbersOk
-armed-or-not c bits = refl
+pub armed-or-not : (f : Format) (c : FuseConfig) (t : Tables) (bits : ℕ) → refusal (configJudged f (armedBy c bits) t) ≡ refusal (configJudged f c t)
+unfolding sizesOk numbersFrom stepsOk
+armed-or-not f c t bits = refl
 
 -- ---- counts
 
@@ -129,11 +130,11 @@ module _ (c : FuseConfig) (n : Norm) (w : Box) (scales : Agree (c .dim) (n .scal
       rw (lo-same, hi-same, inv-same, least-each (n .scale) (c .norm .scale) (c .dim) scales)
 
   -- .. and unjudged
-  pub unjudged-past : Agree (c .dim) (n .center) (c .norm .center) → refusal (configJudged (measuredBy c n w)) ≡ refusal (configJudged c)
-  unfolding numbersOk normOk boxOk allFinite allAboveZero
-  unjudged-past centers =
+  pub unjudged-past : (f : Format) (t : Tables) → Agree (c .dim) (n .center) (c .norm .center) → refusal (configJudged f (measuredBy c n w) t) ≡ refusal (configJudged f c t)
+  unfolding sizesOk numbersFrom stepsOk normOk boxOk allFinite allAboveZero
+  unjudged-past f t centers =
       let center-same = tested-each (n .center) (c .norm .center) (c .dim) centers finite in
       let scale-same = tested-each (n .scale) (c .norm .scale) (c .dim) scales aboveZero in
       let lo-same = tested-each (w .lo) (c .walls .lo) (c .«pos_dim») lows finite in
       let hi-same = tested-each (w .hi) (c .walls .hi) (c .«pos_dim») highs finite in
-      rw (unread-past binary64, center-same, scale-same, lo-same, hi-same)
+      rw (unread-past f, center-same, scale-same, lo-same, hi-same)

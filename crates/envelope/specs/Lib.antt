@@ -1,4 +1,3 @@
 pub mod Derive
 pub mod Steps
 pub mod Refusals
-pub mod Whole

@@ -3,12 +3,12 @@ use Prim.Native.Nat.{ℕ}
 use mathlib.Core.Bool.{Bool, true, not, _&&_, _||_}
 use mathlib.Core.List.{List, [], _∷_}
 use lib.Dec.{leb, ltb, eqb}
-use lib.Ieee.{Float, binary64, lt}
-use Rattle.refusal.specs.Order.{Judged, size, number, steps, channels, _when_}
+use lib.Ieee.{Float, Format, lt}
+use Rattle.refusal.specs.Order.{Judged, size, number, steps, channels, _when_, refusal}
 use Rattle.fmath.specs.Each.{at, all, every}
 use Rattle.fmath.specs.Finite.{finite, aboveZero, notBelowZero, allFinite, allAboveZero}
 use Rattle.conformal.specs.Refusals as calibration
-use Rattle.conformal.specs.declared.GateSpec.{GateSpec}
+use Rattle.conformal.specs.Rule.{Tables}
 use Rattle.envelope.specs.Derive.{derived}
 use Rattle.envelope.specs.Steps.{substepsIn}
 use Rattle.envelope.specs.declared.BrakeKind.{BrakeKind}
@@ -21,13 +21,16 @@ use Rattle.envelope.specs.declared.Box.{Box}
 use Rattle.envelope.specs.declared.BrakeModel.{BrakeModel}
 use Rattle.envelope.specs.declared.Derived.{Derived}
 use Rattle.envelope.specs.declared.FuseConfig.{FuseConfig}
+use Rattle.envelope.specs.declared.Compiled.{Compiled}
 
 -- ---- 1
 
 -- dim and pos_dim are in 1..8; where the flag is set, the calibration's sizes are right
-unfoldable pub sizesOk : ℕ → ℕ → Bool → GateSpec → ℕ → Bool
-sizesOk dim pos-dim calibrated gate mask =
-    every (leb 1 dim ∷ leb dim 8 ∷ leb 1 pos-dim ∷ leb pos-dim 8 ∷ (not calibrated || calibration.sizesOk gate mask) ∷ [])
+unfoldable pub sizesOk : FuseConfig → Bool
+sizesOk c =
+    every
+    (leb 1 (c .dim) ∷ leb (c .dim) 8 ∷ leb 1 (c .«pos_dim») ∷ leb (c .«pos_dim») 8
+    ∷ (not (c .calibrated) || calibration.sizesOk (c .calib)) ∷ [])
 
 -- ---- 2
 
@@ -79,14 +82,19 @@ derivedOk d =
     (scalarsOk d ∷ allFinite (d .«box_lo») 8 ∷ allFinite (d .«box_hi») 8 ∷ allFinite (d .«inv_norm_scale») 8
     ∷ ordered (d .«box_lo») (d .«box_hi») ∷ [])
 
-abbrev pub calibrationOk : FuseConfig → Bool
-calibrationOk c = not (c .calibrated) || calibration.numbersOk (c .calib .center) (c .calib .scale) (c .calib .tau)
+-- where the flag is set, the calibration's numbers are right
+abbrev pub calibrationOk : FuseConfig → Tables → Bool
+calibrationOk c t = not (c .calibrated) || calibration.numbersOk (c .calib) t
 
-unfoldable pub numbersOk : FuseConfig → Bool
-numbersOk c =
+-- all numbers, where d is derived
+unfoldable pub numbersFrom : FuseConfig → Derived → Tables → Bool
+numbersFrom c d t =
     every
     (limitsOk (c .limits) ∷ brakeOk (c .brake .kind) ∷ zoneOk (c .contact) ∷ normOk (c .norm) (c .dim)
-    ∷ boxOk (c .walls) (c .«pos_dim») ∷ derivedOk (derived binary64 c) ∷ calibrationOk c ∷ [])
+    ∷ boxOk (c .walls) (c .«pos_dim») ∷ derivedOk d ∷ calibrationOk c t ∷ [])
+
+abbrev pub numbersOk : Format → FuseConfig → Tables → Bool
+numbersOk f c t = numbersFrom c (derived f c) t
 
 -- ---- 3
 
@@ -97,9 +105,9 @@ countsOk b =
     (leb 1 (b .substeps .0) ∷ leb (b .substeps .0) 64 ∷ leb (b .commit .0) 64
     ∷ leb (substepsIn (b .commit) (b .«brake_steps») (b .substeps)) 4096 ∷ [])
 
--- .. and, where the flag is set, a horizon of a tick or more
-unfoldable pub stepsOk : BrakeModel → Bool → ℕ → Bool
-stepsOk b calibrated ticks = every (countsOk b ∷ (not calibrated || ltb 0 ticks) ∷ [])
+-- the counts, and, where the flag is set, a horizon of a tick or more
+unfoldable pub stepsOk : FuseConfig → Bool
+stepsOk c = every (countsOk (c .brake) ∷ (not (c .calibrated) || ltb 0 (c .«horizon_ticks»)) ∷ [])
 
 -- ---- 4
 
@@ -110,18 +118,16 @@ channelsOk (Zone radius speed i j) aux = not (eqb i j) && ltb i aux && ltb j aux
 
 -- ---- what is judged of a configuration
 
-abbrev pub sizesFit : FuseConfig → Bool
-sizesFit c = sizesOk (c .dim) (c .«pos_dim») (c .calibrated) (c .calib .gate) (c .calib .mask)
-
-abbrev pub stepsFit : FuseConfig → Bool
-stepsFit c = stepsOk (c .brake) (c .calibrated) (c .«horizon_ticks»)
-
 abbrev pub channelsFit : FuseConfig → Bool
 channelsFit c = channelsOk (c .contact) (c .«aux_count»)
 
-abbrev pub configJudged : FuseConfig → List Judged
-configJudged c =
-    (size when not (sizesFit c))
-    ∷ (number when not (numbersOk c))
-    ∷ (steps when not (stepsFit c))
+abbrev pub configJudged : Format → FuseConfig → Tables → List Judged
+configJudged f c t =
+    (size when not (sizesOk c))
+    ∷ (number when not (numbersOk f c t))
+    ∷ (steps when not (stepsOk c))
     ∷ (channels when not (channelsFit c)) ∷ []
+
+-- the number that it is refused with, and what is derived from it
+abbrev pub compiled : Format → FuseConfig → Tables → Compiled
+compiled f c t = record { number = refusal (configJudged f c t); derived = derived f c }

@@ -1,16 +1,12 @@
 // The guard's configuration, what module 4 derives from it, and why it is refused.
 ghost use mathlib.Core.Path.{_≡_};
-ghost use mathlib.Core.Bool.{not, _||_};
 ghost use Prim.Native.Nat.{min};
 ghost use lib.Ieee.{binary64};
-ghost use Rattle.refusal.specs.Order.{refusal};
-ghost use Rattle.conformal.specs.Refusals as calibration;
-ghost use Rattle.envelope.specs.Derive.{kept, lowWalls, highWalls, inverses, isotropic, derivedFrom, derived};
-ghost use Rattle.envelope.specs.Whole.{whole, settingsOf};
+ghost use Rattle.conformal.specs.Of.{tables};
+ghost use Rattle.envelope.specs.Derive.{kept, lowWalls, highWalls, inverses, isotropic, derived};
 ghost use Rattle.envelope.specs.Steps.{substepsIn};
-ghost use Rattle.envelope.specs.Refusals.{sizesOk, limitsOk, gainsOk, brakeOk, zoneOk, normOk, boxOk, scalarsOk, ordered, derivedOk, numbersOk, countsOk, stepsOk, channelsOk, configJudged};
+ghost use Rattle.envelope.specs.Refusals.{sizesOk, limitsOk, gainsOk, brakeOk, zoneOk, normOk, boxOk, scalarsOk, ordered, derivedOk, calibrationOk, numbersFrom, countsOk, stepsOk, channelsOk, compiled};
 use conformal::Calibration;
-use conformal::GateSpec;
 use refusal::Refusal;
 
 // What an action row commands.
@@ -102,7 +98,7 @@ pub struct BrakeModel {
     pub react_ticks: u16,
 }
 
-// The raw configuration. Where `calibrated` is clear, `calib` and `horizon_ticks` are not judged.
+// The raw configuration. Where `calibrated` is clear, `calib`, its tables and `horizon_ticks` are not judged.
 pub struct FuseConfig {
     pub kind: ActionKind,
     pub dim: usize,
@@ -120,26 +116,6 @@ pub struct FuseConfig {
     pub horizon_ticks: u32,
 }
 
-// The configuration without the calibration's two tables, which are lent beside it: a call then copies a sixth of it.
-pub struct Settings {
-    pub kind: ActionKind,
-    pub dim: usize,
-    pub pos_dim: usize,
-    pub limits: Limits,
-    pub norm: Norm,
-    pub walls: Box,
-    pub contact: Contact,
-    pub brake: BrakeModel,
-    pub clamp: ClampMode,
-    pub armed: u32,
-    pub aux_count: usize,
-    pub calibrated: bool,
-    pub mask: u32,
-    pub gate: GateSpec,
-    pub tau: f64,
-    pub horizon_ticks: u32,
-}
-
 // What module 4 derives.
 pub struct Derived {
     pub inv_dt: f64,
@@ -152,36 +128,10 @@ pub struct Derived {
     pub norm_scale_iso: f64,
 }
 
-// The settings of a configuration.
-pub fn settings_of(c: FuseConfig) -> Settings
-    ensures { λ r. ⌜ r ≡ settingsOf c ⌝ }
-{
-    let kind = c.kind;
-    let limits = c.limits;
-    let norm = c.norm;
-    let walls = c.walls;
-    let contact = c.contact;
-    let brake = c.brake;
-    let clamp = c.clamp;
-    let gate = c.calib.gate;
-    Settings {
-        kind,
-        dim: c.dim,
-        pos_dim: c.pos_dim,
-        limits,
-        norm,
-        walls,
-        contact,
-        brake,
-        clamp,
-        armed: c.armed,
-        aux_count: c.aux_count,
-        calibrated: c.calibrated,
-        mask: c.calib.mask,
-        gate,
-        tau: c.calib.tau,
-        horizon_ticks: c.horizon_ticks,
-    }
+// The number of document 01's table that a configuration is refused with, 0 where it is accepted, and what is derived from it.
+pub struct Compiled {
+    pub number: u8,
+    pub derived: Derived,
 }
 
 // ---- what is derived
@@ -253,21 +203,22 @@ fn isotropic(scale: &[f64; 8], n: usize) -> f64
     least
 }
 
-// What is derived, from the parts that it is derived from.
-pub fn derive_from(l: Limits, norm: Norm, walls: Box, dim: usize, pos_dim: usize) -> Derived
-    ensures { λ r. ⌜ r ≡ derivedFrom binary64 l norm walls dim «pos_dim» ⌝ }
+// The numbers that the checks use, for any configuration: past dim and pos_dim nothing is read, and a dim or
+// pos_dim above 8 counts as 8.
+fn derive(c: FuseConfig) -> Derived
+    ensures { λ r. ⌜ r ≡ derived binary64 c ⌝ }
 {
-    let inv_dt = 1.0 / l.dt;
+    let inv_dt = 1.0 / c.limits.dt;
     let inv_dt2 = inv_dt * inv_dt;
-    let box_lo = low_walls(&walls.lo, l.margin, pos_dim);
-    let box_hi = high_walls(&walls.hi, l.margin, pos_dim);
-    let inv_norm_scale = inverses(&norm.scale, dim);
-    let norm_scale_iso = isotropic(&norm.scale, dim);
+    let box_lo = low_walls(&c.walls.lo, c.limits.margin, c.pos_dim);
+    let box_hi = high_walls(&c.walls.hi, c.limits.margin, c.pos_dim);
+    let inv_norm_scale = inverses(&c.norm.scale, c.dim);
+    let norm_scale_iso = isotropic(&c.norm.scale, c.dim);
     Derived {
         inv_dt,
         inv_dt2,
         inv_dt3: inv_dt2 * inv_dt,
-        step_max: l.v_max * l.dt,
+        step_max: c.limits.v_max * c.limits.dt,
         box_lo,
         box_hi,
         inv_norm_scale,
@@ -275,22 +226,14 @@ pub fn derive_from(l: Limits, norm: Norm, walls: Box, dim: usize, pos_dim: usize
     }
 }
 
-// The numbers that the checks use, for any configuration: past dim and pos_dim nothing is read, and a dim or
-// pos_dim above 8 counts as 8.
-pub fn derive(c: FuseConfig) -> Derived
-    ensures { λ r. ⌜ r ≡ derived binary64 c ⌝ }
-{
-    derive_from(c.limits, c.norm, c.walls, c.dim, c.pos_dim)
-}
-
 // ---- 1: sizes
 
 // dim, pos_dim and, where the flag is set, the sizes of the calibration.
-fn sizes_ok(dim: usize, pos_dim: usize, calibrated: bool, gate: GateSpec, mask: u32) -> bool
-    ensures { λ r. ⌜ r ≡ sizesOk dim «pos_dim» calibrated gate mask ⌝ }
+fn sizes_ok(c: FuseConfig) -> bool
+    ensures { λ r. ⌜ r ≡ sizesOk c ⌝ }
 {
-    let k = conformal::sizes_ok(gate, mask);
-    (1 <= dim) & (dim <= 8) & (1 <= pos_dim) & (pos_dim <= 8) & (!calibrated | k)
+    let k = conformal::sizes_ok(c.calib);
+    (1 <= c.dim) & (c.dim <= 8) & (1 <= c.pos_dim) & (c.pos_dim <= 8) & (!c.calibrated | k)
 }
 
 // ---- 2: numbers
@@ -406,36 +349,30 @@ fn derived_ok(d: Derived) -> bool
 }
 
 // The calibration's numbers, where the flag is set.
-fn calibration_ok<'a>(
-    calibrated: bool,
-    center: &'a [f64; 192],
-    scale: &'a [f64; 192],
-    tau: f64,
-) -> bool
-    ensures { λ r. ⌜ r ≡ (not calibrated || calibration.numbersOk (now (center .entry)) (now (scale .entry)) tau) ⌝ }
+fn calibration_ok(c: FuseConfig, center: &[f64; 192], scale: &[f64; 192]) -> bool
+    ensures { λ r. ⌜ r ≡ calibrationOk c (tables (now (center .entry)) (now (scale .entry))) ⌝ }
 {
-    if calibrated {
-        conformal::numbers_ok(center, scale, tau)
+    if c.calibrated {
+        conformal::numbers_ok(c.calib, center, scale)
     } else {
         true
     }
 }
 
 // All numbers of a configuration, given or derived.
-fn numbers_ok<'a>(c: Settings, center: &'a [f64; 192], scale: &'a [f64; 192]) -> bool
-    ensures { λ r. ⌜ r ≡ numbersOk (whole c (now (center .entry)) (now (scale .entry))) ⌝ }
+fn numbers_ok(c: FuseConfig, d: Derived, center: &[f64; 192], scale: &[f64; 192]) -> bool
+    ensures { λ r. ⌜ r ≡ numbersFrom c d (tables (now (center .entry)) (now (scale .entry))) ⌝ }
 {
     let brake = c.brake;
     let kind = brake.kind;
     let contact = c.contact;
-    let d = derive_from(c.limits, c.norm, c.walls, c.dim, c.pos_dim);
     let e = limits_ok(c.limits);
     let f = brake_ok(kind);
     let g = zone_ok(contact);
     let h = norm_ok(c.norm, c.dim);
     let i = box_ok(c.walls, c.pos_dim);
     let j = derived_ok(d);
-    let k = calibration_ok(c.calibrated, center, scale, c.tau);
+    let k = calibration_ok(c, center, scale);
     e & f & g & h & i & j & k
 }
 
@@ -458,11 +395,11 @@ fn counts_ok(brake: BrakeModel) -> bool
 }
 
 // The counts and, where the flag is set, the horizon.
-fn steps_ok(brake: BrakeModel, calibrated: bool, horizon_ticks: u32) -> bool
-    ensures { λ r. ⌜ r ≡ stepsOk brake calibrated «horizon_ticks» ⌝ }
+fn steps_ok(c: FuseConfig) -> bool
+    ensures { λ r. ⌜ r ≡ stepsOk c ⌝ }
 {
-    let a = counts_ok(brake);
-    a & (!calibrated | (0 < horizon_ticks))
+    let a = counts_ok(c.brake);
+    a & (!c.calibrated | (0 < c.horizon_ticks))
 }
 
 // ---- 4: channels
@@ -482,29 +419,21 @@ fn channels_ok(contact: Contact, aux_count: usize) -> bool
     }
 }
 
-// ---- the refusal
+// ---- all of it, in one pass
 
-// The number of document 01's table that settings with their tables are refused with, 0 where they are accepted. What is
-// judged last comes first.
-pub fn settings_refusal<'a>(c: Settings, center: &'a [f64; 192], scale: &'a [f64; 192]) -> u8
-    ensures { λ r. ⌜ r ≡ refusal (configJudged (whole c (now (center .entry)) (now (scale .entry)))) ⌝ }
+// Judges a configuration and derives from it, whether it is refused or not. What is judged last comes first.
+pub fn compile(c: FuseConfig, center: &[f64; 192], scale: &[f64; 192]) -> Compiled
+    ensures { λ r. ⌜ r ≡ compiled binary64 c (tables (now (center .entry)) (now (scale .entry))) ⌝ }
 {
     let contact = c.contact;
-    let gate = c.gate;
-    let a = sizes_ok(c.dim, c.pos_dim, c.calibrated, gate, c.mask);
-    let b = numbers_ok(c, center, scale);
-    let d = steps_ok(c.brake, c.calibrated, c.horizon_ticks);
+    let derived = derive(c);
+    let a = sizes_ok(c);
+    let b = numbers_ok(c, derived, center, scale);
+    let d = steps_ok(c);
     let e = channels_ok(contact, c.aux_count);
     let of_channels = Refusal::when(Refusal::CHANNELS, !e, 0);
     let of_steps = Refusal::when(Refusal::STEPS, !d, of_channels);
     let of_numbers = Refusal::when(Refusal::NUMBER, !b, of_steps);
-    Refusal::when(Refusal::SIZE, !a, of_numbers)
-}
-
-// .. that a configuration is refused with.
-pub fn config_refusal(c: FuseConfig) -> u8
-    ensures { λ r. ⌜ r ≡ refusal (configJudged c) ⌝ }
-{
-    let s = settings_of(c);
-    settings_refusal(s, &c.calib.center, &c.calib.scale)
+    let number = Refusal::when(Refusal::SIZE, !a, of_numbers);
+    Compiled { number, derived }
 }

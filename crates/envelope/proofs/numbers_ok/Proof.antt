@@ -2,12 +2,9 @@
 use borrow.Author.Needs.{needs}
 use Rattle.fmath.specs.Each.{every}
 use Rattle.fmath.proofs.Each.{_&&≡_}
-use Rattle.envelope.specs.Refusals.{numbersOk}
+use Rattle.envelope.specs.Refusals.{numbersFrom}
 use Rattle.envelope.proofs.numbers_ok.Statement.{statement}
 use Rattle.envelope.proofs.numbers_ok.Tie as tie
-
-derive-from-requires : tie.Need-derive-from-requires
-derive-from-requires c κs = search needs
 
 limits-ok-requires : tie.Need-limits-ok-requires
 limits-ok-requires c κs = search needs
@@ -31,20 +28,19 @@ calibration-ok-requires : tie.Need-calibration-ok-requires
 calibration-ok-requires c κs = search needs
 
 returns : tie.Need-returns
-unfolding numbersOk every
+unfolding numbersFrom every
 returns c =
     let n = c .before .before .before in
     let l = n .before .before .before in
     (l .limits-ok .ensures) &&≡ (n .before .before .brake-ok .ensures) &&≡ (n .before .zone-ok .ensures) &&≡ (n .norm-ok .ensures)
     &&≡ (c .before .before .box-ok .ensures)
-    &&≡ (rw (l .before .derive-from .ensures) at (c .before .derived-ok .ensures))
+    &&≡ (c .before .derived-ok .ensures)
     &&≡ (c .calibration-ok .ensures)
 
 pub numbers-ok-spec : {M : Type 1} → statement M
 numbers-ok-spec =
     tie.close
     (tie.spec
-    derive-from-requires
     limits-ok-requires
     brake-ok-requires
     zone-ok-requires

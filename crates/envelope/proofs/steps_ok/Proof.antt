@@ -10,7 +10,7 @@ counts-ok-requires c κs = search needs
 
 returns : tie.Need-returns
 unfolding stepsOk every
-returns c = rw (c .counts-ok .ensures)
+returns c = rw (c .before .before .counts-ok .ensures)
 
 pub steps-ok-spec : {M : Type 1} → statement M
 steps-ok-spec = tie.close (tie.spec counts-ok-requires returns)

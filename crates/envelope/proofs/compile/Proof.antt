@@ -1,7 +1,10 @@
--- `envelope::settings_refusal` meets its contract: each test is the condition of its number.
+-- `envelope::compile` meets its contract: each test is the condition of its number, and what is judged is what is derived.
 use borrow.Author.Needs.{needs}
-use Rattle.envelope.proofs.settings_refusal.Statement.{statement}
-use Rattle.envelope.proofs.settings_refusal.Tie as tie
+use Rattle.envelope.proofs.compile.Statement.{statement}
+use Rattle.envelope.proofs.compile.Tie as tie
+
+derive-requires : tie.Need-derive-requires
+derive-requires c κs = search needs
 
 sizes-ok-requires : tie.Need-sizes-ok-requires
 sizes-ok-requires c κs = search needs
@@ -28,12 +31,16 @@ when-requires-4 : tie.Need-when-requires-4
 when-requires-4 c κs = search needs
 
 returns : tie.Need-returns
-returns c = rw (c .when4 .ensures, c .before .when3 .ensures, c .before .before .when2 .ensures, c .before .before .before .when .ensures, c .before .before .before .before .before .before .before .sizes-ok .ensures, c .before .before .before .before .before .before .numbers-ok .ensures, c .before .before .before .before .before .steps-ok .ensures, c .before .before .before .before .channels-ok .ensures)
+returns c =
+    let n = c .before .before .before .before in
+    let s = n .before .before .before in
+    rw (c .when4 .ensures, c .before .when3 .ensures, c .before .before .when2 .ensures, c .before .before .before .when .ensures, s .sizes-ok .ensures, n .before .before .numbers-ok .ensures, n .before .steps-ok .ensures, n .channels-ok .ensures, s .before .derive .ensures)
 
-pub settings-refusal-spec : {M : Type 1} → statement M
-settings-refusal-spec =
+pub compile-spec : {M : Type 1} → statement M
+compile-spec =
     tie.close
     (tie.spec
+    derive-requires
     sizes-ok-requires
     numbers-ok-requires
     steps-ok-requires
