@@ -1,6 +1,6 @@
 -- What is known of a configuration that is not refused, and what the modules above take out of it by name.
 use Prim.Native.Nat.{ℕ, _≤_, _<_}
-use mathlib.Core.Path.{_≡_}
+use mathlib.Core.Path.{_≡_, ap}
 use mathlib.Core.Bool.{true, false, not}
 use borrow.Author.Tests.{leb-true, not-true, not-false}
 use lib.Ieee.{Format, lt}
@@ -13,7 +13,18 @@ use Rattle.conformal.specs.Rule.{Tables}
 use Rattle.envelope.specs.Derive.{derived}
 use Rattle.envelope.specs.Steps.{substepsIn}
 use Rattle.envelope.specs.Refusals.{sizesOk, zoneOk, ordered, derivedOk, numbersFrom, numbersOk, countsOk, stepsOk, channelsFit, configJudged}
+use Rattle.envelope.specs.declared.Compiled.{Compiled}
 use Rattle.envelope.specs.declared.FuseConfig.{FuseConfig}
+
+-- ---- what is compiled
+
+pub compiled-number : {k m : Compiled} → k ≡ m → k .number ≡ m .number
+compiled-number = ap (λ (x : Compiled). x .number)
+
+pub compiled-derived : {k m : Compiled} → k ≡ m → k .derived ≡ m .derived
+compiled-derived = ap (λ (x : Compiled). x .derived)
+
+-- ---- what is accepted
 
 -- the four conditions
 pub record Fit (f : Format) (c : FuseConfig) (t : Tables) : Type 0 where

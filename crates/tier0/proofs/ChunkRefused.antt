@@ -8,7 +8,7 @@ use native.Mathlib.Omega.{arith}
 use borrow.Author.Tests.{ltb-false, eqb-true, eq-eqb, ne-eqb, not-false}
 use lib.Dec.{ltb, eqb}
 use lib.ListN.{length, replicate}
-use lib.Ieee.{Float, binary64}
+use lib.Ieee.{Float, Format}
 use Rattle.refusal.specs.Order.{Judged, width, short, notFinite, computed, _when_, refusal, refusedFor, if_then_else_}
 use Rattle.refusal.specs.Chain.{first-refuses, first-passes, both-pass, passes-at}
 use Rattle.refusal.specs.declared.Refusal.{Refusal}
@@ -18,6 +18,7 @@ use Rattle.fmath.specs.Finite.{+0}
 use Rattle.fmath.proofs.Copy.{all-put}
 use Rattle.chunk.specs.Refusals.{chunkReasons}
 use Rattle.chunk.proofs.Judged.{Accepted, sizes-accepted, accepted-fits}
+use Rattle.conformal.specs.Rule.{Tables}
 use Rattle.envelope.specs.Refusals.{configJudged}
 use Rattle.envelope.specs.declared.FuseConfig.{FuseConfig}
 use Rattle.envelope.proofs.Accepted.{accepted, dim-most}
@@ -42,67 +43,75 @@ pub record Sized (c : FuseConfig) (p rows : List Float) (h room : ℕ) : Type 0 
   pub out : h * c .dim ≤ room
 
 -- the same of what the checks read
-pub sized-checks : (c : FuseConfig) (p rows : List Float) (h room : ℕ) {s : Checks} → s ≡ checksOf c → Sized c p rows h room
+pub sized-checks : (f : Format) (c : FuseConfig) (p rows : List Float) (h room : ℕ) {s : Checks} → s ≡ checksOf f c → Sized c p rows h room
     → (s .dim ≤ 8) × (s .«pos_dim» ≤ length p) × (0 < h) × (h ≤ 64) × (h * s .dim ≤ length rows) × (h * s .dim ≤ 512)
 unfolding checksOf
-sized-checks c p rows h room e w = rw e (w .narrow, w .pos, w .some, w .few, w .there, w .small)
+sized-checks f c p rows h room e w = rw e (w .narrow, w .pos, w .some, w .few, w .there, w .small)
 
 -- ---- the whole answer
 
-pub record Answered (c : FuseConfig) (p aux rows : List Float) (h d e : ℕ) (l : List Float) (r : Check) (m : List Float) : Type 0 where
-  pub gives : r ≡ chunkAnswer c p aux rows h d e (length l)
-  pub leaves : m ≡ chunkOut c p aux rows h d e l
+pub record Answered (f : Format) (c : FuseConfig) (t : Tables) (p aux rows : List Float) (h d e : ℕ) (l : List Float) (r : Check) (m : List Float) : Type 0 where
+  pub gives : r ≡ chunkAnswer f c t p aux rows h d e (length l)
+  pub leaves : m ≡ chunkOut f c t p aux rows h d e l
 
-module _ (c : FuseConfig) (p aux rows : List Float) (h d e : ℕ) where
+-- ---- the number of what is lent
+
+module _ (c : FuseConfig) (p aux rows : List Float) (h d room : ℕ) where
   abbrev broad : Bool
   broad = not (eqb d (c .dim))
 
-  abbrev brief : ℕ → Bool
-  brief room = chunkTooShort (c .«pos_dim») (length p) (h * d) room
+  abbrev brief : Bool
+  brief = chunkTooShort (c .«pos_dim») (length p) (h * d) room
 
   abbrev unfit : Bool
   unfit = someLentNotFinite (p ∷ aux ∷ rows ∷ [])
 
+  abbrev rest : List Judged
+  rest = lentToChunk c p aux rows h d room []
+
+  pub by-width : (d ≡ c .dim → ⊥) → 10 ≡ refusal rest
+  by-width g = rw (ne-eqb d (c .dim) g)
+
+  module _ (ew : d ≡ c .dim) {s : Bool} (es : s ≡ brief) where
+    pub by-11 : s ≡ true → 11 ≡ refusal rest
+    by-11 g = rw (eq-eqb d (c .dim) ew, sym es ∙ g)
+
+    pub by-12 : s ≡ false → {u : Bool} → u ≡ unfit → u ≡ true → 12 ≡ refusal rest
+    by-12 g eu y = rw (eq-eqb d (c .dim) ew, sym es ∙ g, sym eu ∙ y)
+
+    pub by-none : s ≡ false → {u : Bool} → u ≡ unfit → u ≡ false → 0 ≡ refusal rest
+    by-none g eu y = rw (eq-eqb d (c .dim) ew, sym es ∙ g, sym eu ∙ y)
+
+-- ---- the number, and the answer
+
+module _ (f : Format) (c : FuseConfig) (t : Tables) (p aux rows : List Float) (h d e : ℕ) where
   abbrev sizes : List Judged
   sizes = chunkReasons h d e (length rows)
 
   abbrev last : List Judged
-  last = (computed when not (chunkRuling c p aux rows h d e .sound)) ∷ []
+  last = (computed when not (chunkRuling f c p aux rows h .sound)) ∷ []
 
   module _ (room : ℕ) where
-    abbrev rest : List Judged
-    rest = lentToChunk c p aux rows h d e room []
+    abbrev lent : List Judged
+    lent = rest c p aux rows h d room
 
     abbrev number : ℕ
-    number = refusal (configJudged c ++ (sizes ++ rest))
+    number = refusal (configJudged f c t ++ (sizes ++ lent))
 
-    pub by-width : (d ≡ c .dim → ⊥) → 10 ≡ refusal rest
-    by-width g = rw (ne-eqb d (c .dim) g)
+    pub by-config : {r : ℕ} → r ≡ refusal (configJudged f c t) → (r ≡ 0 → ⊥) → r ≡ number
+    by-config g y = g ∙ sym (first-refuses (configJudged f c t) (sizes ++ lent) (λ z. y (g ∙ z)))
 
-    module _ (ew : d ≡ c .dim) {s : Bool} (es : s ≡ brief room) where
-      pub by-11 : s ≡ true → 11 ≡ refusal rest
-      by-11 g = rw (eq-eqb d (c .dim) ew, sym es ∙ g)
-
-      pub by-12 : s ≡ false → {u : Bool} → u ≡ unfit → u ≡ true → 12 ≡ refusal rest
-      by-12 g eu y = rw (eq-eqb d (c .dim) ew, sym es ∙ g, sym eu ∙ y)
-
-      pub by-none : s ≡ false → {u : Bool} → u ≡ unfit → u ≡ false → 0 ≡ refusal rest
-      by-none g eu y = rw (eq-eqb d (c .dim) ew, sym es ∙ g, sym eu ∙ y)
-
-    pub by-config : {r : ℕ} → r ≡ refusal (configJudged c) → (r ≡ 0 → ⊥) → r ≡ number
-    by-config g y = g ∙ sym (first-refuses (configJudged c) (sizes ++ rest) (λ z. y (g ∙ z)))
-
-    module _ {k : ℕ} (ek : k ≡ refusal (configJudged c)) (ez : k ≡ 0) where
-      passed-on : number ≡ refusal (sizes ++ rest)
-      passed-on = first-passes (configJudged c) (sizes ++ rest) (sym ek ∙ ez)
+    module _ {k : ℕ} (ek : k ≡ refusal (configJudged f c t)) (ez : k ≡ 0) where
+      passed-on : number ≡ refusal (sizes ++ lent)
+      passed-on = first-passes (configJudged f c t) (sizes ++ lent) (sym ek ∙ ez)
 
       pub by-sizes : {r : ℕ} → r ≡ refusal sizes → (r ≡ 0 → ⊥) → r ≡ number
-      by-sizes g y = g ∙ sym (passed-on ∙ first-refuses sizes rest (λ z. y (g ∙ z)))
+      by-sizes g y = g ∙ sym (passed-on ∙ first-refuses sizes lent (λ z. y (g ∙ z)))
 
-      pub by-rest : {r q : ℕ} → r ≡ refusal sizes → r ≡ 0 → q ≡ refusal rest → q ≡ number
-      by-rest g y i = i ∙ sym (passed-on ∙ first-passes sizes rest (sym g ∙ y))
+      pub by-lent : {r q : ℕ} → r ≡ refusal sizes → r ≡ 0 → q ≡ refusal lent → q ≡ number
+      by-lent g y i = i ∙ sym (passed-on ∙ first-passes sizes lent (sym g ∙ y))
 
-  known-sizes : (room : ℕ) → c .dim ≤ 8 → Accepted h d e (length rows) → d ≡ c .dim → brief room ≡ false → Sized c p rows h room
+  known-sizes : (room : ℕ) → c .dim ≤ 8 → Accepted h d e (length rows) → d ≡ c .dim → brief c p aux rows h d room ≡ false → Sized c p rows h room
   unfolding chunkTooShort
   known-sizes room narrow w ed g =
       let all-of : length rows ≡ h * c .dim = rw (← ed) (w .all-there) in
@@ -120,41 +129,41 @@ module _ (c : FuseConfig) (p aux rows : List Float) (h d e : ℕ) where
 
   pub accepted-sizes : (room : ℕ) → number room ≡ 0 → Sized c p rows h room
   accepted-sizes room g =
-      let config = both-pass (configJudged c) (sizes ++ rest room) g in
-      let lent = both-pass sizes (rest room) (config .1) in
-      let unfit-last = (notFinite when unfit) ∷ [] in
-      let wide = passes-at width broad ((short when brief room) ∷ unfit-last) (lent .1) in
-      known-sizes room (dim-most c (accepted c (config .0))) (sizes-accepted h d e (length rows) (lent .0)) (eqb-true d (c .dim) (not-false (eqb d (c .dim)) (wide .0))) (passes-at short (brief room) unfit-last (wide .1) .0)
+      let config = both-pass (configJudged f c t) (sizes ++ lent room) g in
+      let passed = both-pass sizes (lent room) (config .1) in
+      let unfit-last = (notFinite when unfit c p aux rows h d room) ∷ [] in
+      let wide = passes-at width (broad c p aux rows h d room) ((short when brief c p aux rows h d room) ∷ unfit-last) (passed .1) in
+      known-sizes room (dim-most f c t (accepted f c t (config .0))) (sizes-accepted h d e (length rows) (passed .0)) (eqb-true d (c .dim) (not-false (eqb d (c .dim)) (wide .0))) (passes-at short (brief c p aux rows h d room) unfit-last (wide .1) .0)
 
   module _ (l : List Float) where
-    numbered : (k : ℕ) → k ≡ chunkRefusal c p aux rows h d e (length l) → (k ≡ 0 → ⊥) → {r : Refusal} → r ≡ refusedFor k → Answered c p aux rows h d e l (Refused r) l
+    numbered : (k : ℕ) → k ≡ chunkRefusal f c t p aux rows h d e (length l) → (k ≡ 0 → ⊥) → {r : Refusal} → r ≡ refusedFor k → Answered f c t p aux rows h d e l (Refused r) l
     unfolding chunkAnswer chunkOut
     numbered k g y i = record { gives = rw (i, ← g) (at-number k y _); leaves = rw (← g) (out-number k y _ _ l) }
 
-    pub lent-refused : (k : ℕ) → k ≡ number (length l) → (k ≡ 0 → ⊥) → {r : Refusal} → r ≡ refusedFor k → Answered c p aux rows h d e l (Refused r) l
+    pub lent-refused : (k : ℕ) → k ≡ number (length l) → (k ≡ 0 → ⊥) → {r : Refusal} → r ≡ refusedFor k → Answered f c t p aux rows h d e l (Refused r) l
     unfolding chunkRefusal
-    lent-refused k g y = numbered k (g ∙ sym (first-refuses (configJudged c ++ (sizes ++ rest (length l))) last (λ z. y (g ∙ z)))) y
+    lent-refused k g y = numbered k (g ∙ sym (first-refuses (configJudged f c t ++ (sizes ++ lent (length l))) last (λ z. y (g ∙ z)))) y
 
-    module _ (g : number (length l) ≡ 0) {s : Checks} {v : Ruling} {m z : List Float} (es : s ≡ checksOf c) (em : m ≡ replicate 512 +0)
-        (ev : (v ≡ rulingFrom (checkChunk binary64 s p aux rows m h)) × (z ≡ checkChunk binary64 s p aux rows m h .value .after .rows)) where
-      ruled : v ≡ rulingFrom (chunkRuling c p aux rows h d e)
+    module _ (g : number (length l) ≡ 0) {s : Checks} {v : Ruling} {m z : List Float} (es : s ≡ checksOf f c) (em : m ≡ replicate 512 +0)
+        (ev : (v ≡ rulingFrom (checkChunk f s p aux rows m h)) × (z ≡ checkChunk f s p aux rows m h .value .after .rows)) where
+      ruled : v ≡ rulingFrom (chunkRuling f c p aux rows h)
       unfolding chunkRuling
       ruled = ev .0 ∙ rw (es, em)
 
-      ruled-rows : z ≡ chunkRuling c p aux rows h d e .value .after .rows
+      ruled-rows : z ≡ chunkRuling f c p aux rows h .value .after .rows
       unfolding chunkRuling
       ruled-rows = ev .1 ∙ rw (es, em)
 
-      known : (b : Bool) → v .sound ≡ b → chunkRefusal c p aux rows h d e (length l) ≡ (if not b then 13 else 0)
+      known : (b : Bool) → v .sound ≡ b → chunkRefusal f c t p aux rows h d e (length l) ≡ (if not b then 13 else 0)
       unfolding chunkRefusal
       known b y =
-          first-passes (configJudged c ++ (sizes ++ rest (length l))) last g
-          ∙ ap (λ (t : Bool). if not t then 13 else 0) (sym (ap (λ (x : Ruling). x .sound) ruled) ∙ y)
+          first-passes (configJudged f c t ++ (sizes ++ lent (length l))) last g
+          ∙ ap (λ (u : Bool). if not u then 13 else 0) (sym (ap (λ (x : Ruling). x .sound) ruled) ∙ y)
 
-      pub not-sound : v .sound ≡ false → {r : Refusal} → r ≡ refusedFor 13 → Answered c p aux rows h d e l (Refused r) l
+      pub not-sound : v .sound ≡ false → {r : Refusal} → r ≡ refusedFor 13 → Answered f c t p aux rows h d e l (Refused r) l
       not-sound y = numbered 13 (sym (known false y)) (λ z. omega arith)
 
-      pub passes : v .sound ≡ true → {o : List Float} {k : ℕ} → o ≡ over (at z) l (min (h * c .dim) (min k (length l))) → 512 ≤ k → Answered c p aux rows h d e l (Passed (v .trips) (v .mask) (v .peak)) o
+      pub passes : v .sound ≡ true → {o : List Float} {k : ℕ} → o ≡ over (at z) l (min (h * c .dim) (min k (length l))) → 512 ≤ k → Answered f c t p aux rows h d e l (Passed (v .trips) (v .mask) (v .peak)) o
       unfolding chunkAnswer chunkOut
       passes y i b =
           let w = accepted-sizes (length l) g in

@@ -8,7 +8,7 @@ use native.Mathlib.Omega.{arith}
 use borrow.Author.Tests.{eqb-true}
 use lib.Dec.{eqb}
 use lib.ListN.{length, replicate}
-use lib.Ieee.{Float, Format, binary64}
+use lib.Ieee.{Float, Format}
 use Rattle.fmath.specs.Each.{some}
 use Rattle.fmath.specs.Finite.{+0}
 use Rattle.fmath.specs.Row.{padded}
@@ -16,7 +16,8 @@ use Rattle.envelope.specs.declared.ClampMode.{ClampMode}
 use Rattle.envelope.specs.declared.ClampMode.the-variants.{Off, Project}
 use Rattle.envelope.specs.declared.Contact.the-variants.{None}
 use Rattle.envelope.specs.declared.FuseConfig.{FuseConfig}
-use Rattle.envelope.specs.Refusals.{numbersOk}
+use Rattle.conformal.specs.Rule.{Tables}
+use Rattle.envelope.specs.Refusals.{sizesOk, numbersFrom, stepsOk}
 use Rattle.tier0.specs.declared.Checks.{Checks}
 use Rattle.tier0.specs.declared.Difference.{Difference}
 use Rattle.tier0.specs.declared.Difference.the-variants.{Accel, Jerk}
@@ -146,46 +147,46 @@ module _ (f : Format) (s : Checks) (p : List Float) where
 
 -- ---- the entries
 
-module _ (c : FuseConfig) (none : c .contact ≡ None) where
-  quiet-checks : checksOf (contactUnarmed c) ≡ quiet (checksOf c)
+module _ (f : Format) (c : FuseConfig) (t : Tables) (none : c .contact ≡ None) where
+  quiet-checks : checksOf f (contactUnarmed c) ≡ quiet (checksOf f c)
   unfolding checksOf
   quiet-checks = refl
 
-  still-none : checksOf c .contact ≡ None
+  still-none : checksOf f c .contact ≡ None
   unfolding checksOf
   still-none = none
 
   module _ (p aux rows : List Float) (h d e : ℕ) where
-    chunk-ruled : chunkRuling (contactUnarmed c) p aux rows h d e ≡ chunkRuling c p aux rows h d e
+    chunk-ruled : chunkRuling f (contactUnarmed c) p aux rows h ≡ chunkRuling f c p aux rows h
     unfolding chunkRuling
-    chunk-ruled = rw quiet-checks (same-chunk binary64 (checksOf c) p aux still-none rows (replicate 512 +0) h)
+    chunk-ruled = rw quiet-checks (same-chunk f (checksOf f c) p aux still-none rows (replicate 512 +0) h)
 
-    chunk-refused : (room : ℕ) → chunkRefusal (contactUnarmed c) p aux rows h d e room ≡ chunkRefusal c p aux rows h d e room
-    unfolding chunkRefusal numbersOk
+    chunk-refused : (room : ℕ) → chunkRefusal f (contactUnarmed c) t p aux rows h d e room ≡ chunkRefusal f c t p aux rows h d e room
+    unfolding chunkRefusal sizesOk numbersFrom stepsOk
     chunk-refused room = rw chunk-ruled
 
-    pub no-contact-chunk-answer : (room : ℕ) → chunkAnswer (contactUnarmed c) p aux rows h d e room ≡ chunkAnswer c p aux rows h d e room
+    pub no-contact-chunk-answer : (room : ℕ) → chunkAnswer f (contactUnarmed c) t p aux rows h d e room ≡ chunkAnswer f c t p aux rows h d e room
     unfolding chunkAnswer
     no-contact-chunk-answer room = rw (chunk-refused room, chunk-ruled)
 
-    pub no-contact-chunk-rows : (l : List Float) → chunkOut (contactUnarmed c) p aux rows h d e l ≡ chunkOut c p aux rows h d e l
+    pub no-contact-chunk-rows : (l : List Float) → chunkOut f (contactUnarmed c) t p aux rows h d e l ≡ chunkOut f c t p aux rows h d e l
     unfolding chunkOut
     no-contact-chunk-rows l = rw (chunk-refused (length l), chunk-ruled)
 
   module _ (p aux prev a : List Float) where
-    action-ruled : actionRuling (contactUnarmed c) p aux prev a ≡ actionRuling c p aux prev a
+    action-ruled : actionRuling f (contactUnarmed c) p aux prev a ≡ actionRuling f c p aux prev a
     unfolding actionRuling
-    action-ruled = rw quiet-checks (same-action binary64 (checksOf c) p aux still-none prev a)
+    action-ruled = rw quiet-checks (same-action f (checksOf f c) p aux still-none prev a)
 
-    action-refused : (room : ℕ) → actionRefusal (contactUnarmed c) p aux prev a room ≡ actionRefusal c p aux prev a room
-    unfolding actionRefusal numbersOk
+    action-refused : (room : ℕ) → actionRefusal f (contactUnarmed c) t p aux prev a room ≡ actionRefusal f c t p aux prev a room
+    unfolding actionRefusal sizesOk numbersFrom stepsOk
     action-refused room = rw action-ruled
 
-    pub no-contact-action-answer : (room : ℕ) → actionAnswer (contactUnarmed c) p aux prev a room ≡ actionAnswer c p aux prev a room
+    pub no-contact-action-answer : (room : ℕ) → actionAnswer f (contactUnarmed c) t p aux prev a room ≡ actionAnswer f c t p aux prev a room
     unfolding actionAnswer
     no-contact-action-answer room = rw (action-refused room, action-ruled)
 
-    pub no-contact-action-row : (l : List Float) → actionOut (contactUnarmed c) p aux prev a l ≡ actionOut c p aux prev a l
+    pub no-contact-action-row : (l : List Float) → actionOut f (contactUnarmed c) t p aux prev a l ≡ actionOut f c t p aux prev a l
     unfolding actionOut
     no-contact-action-row l = rw (action-refused (length l), action-ruled)
 
@@ -193,26 +194,26 @@ module _ (c : FuseConfig) (none : c .contact ≡ None) where
 
 pub promised : Promised
 promised = record {
-  chunk-may-touch = λ c p aux rows h d e room. record {
-    workspace-touched = chunk-workspace-touched c p aux rows h d e room;
-    speed-touched = chunk-speed-touched c p aux rows h d e room;
-    contact-touched = chunk-contact-touched c p aux rows h d e room;
-    accel-touched = chunk-accel-touched c p aux rows h d e room;
-    jerk-touched = chunk-jerk-touched c p aux rows h d e room;
-    reach-touched = chunk-reach-touched c p aux rows h d e room;
-    all-touched = chunk-touched c p aux rows h d e room;
+  chunk-may-touch = λ f c t p aux rows h d e room. record {
+    workspace-touched = chunk-workspace-touched f c t p aux rows h d e room;
+    speed-touched = chunk-speed-touched f c t p aux rows h d e room;
+    contact-touched = chunk-contact-touched f c t p aux rows h d e room;
+    accel-touched = chunk-accel-touched f c t p aux rows h d e room;
+    jerk-touched = chunk-jerk-touched f c t p aux rows h d e room;
+    reach-touched = chunk-reach-touched f c t p aux rows h d e room;
+    all-touched = chunk-touched f c t p aux rows h d e room;
   };
-  action-may-touch = λ c p aux prev a room. record {
-    workspace-touched = action-workspace-touched c p aux prev a room;
-    speed-touched = action-speed-touched c p aux prev a room;
-    contact-touched = action-contact-touched c p aux prev a room;
-    reach-touched = action-reach-touched c p aux prev a room;
-    all-touched = action-touched c p aux prev a room;
+  action-may-touch = λ f c t p aux prev a room. record {
+    workspace-touched = action-workspace-touched f c t p aux prev a room;
+    speed-touched = action-speed-touched f c t p aux prev a room;
+    contact-touched = action-contact-touched f c t p aux prev a room;
+    reach-touched = action-reach-touched f c t p aux prev a room;
+    all-touched = action-touched f c t p aux prev a room;
   };
-  no-contact-as-unarmed = λ c none. record {
-    same-chunk-answer = no-contact-chunk-answer c none;
-    same-chunk-rows = no-contact-chunk-rows c none;
-    same-action-answer = no-contact-action-answer c none;
-    same-action-row = no-contact-action-row c none;
+  no-contact-as-unarmed = λ f c t none. record {
+    same-chunk-answer = no-contact-chunk-answer f c t none;
+    same-chunk-rows = no-contact-chunk-rows f c t none;
+    same-action-answer = no-contact-action-answer f c t none;
+    same-action-row = no-contact-action-row f c t none;
   };
 }

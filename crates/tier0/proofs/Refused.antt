@@ -8,7 +8,7 @@ use native.Mathlib.Omega.{arith}
 use borrow.Author.Tests.{ltb-true, ltb-false}
 use lib.Dec.{leb, ltb}
 use lib.ListN.{length}
-use lib.Ieee.{Float, binary64}
+use lib.Ieee.{Float, Format}
 use Rattle.refusal.specs.Order.{Judged, short, notFinite, computed, _when_, refusal, refusedFor, if_then_else_}
 use Rattle.refusal.specs.Chain.{first-refuses, first-passes, both-pass, passes-at}
 use Rattle.refusal.specs.declared.Refusal.{Refusal}
@@ -16,7 +16,10 @@ use Rattle.fmath.specs.Answer.{someLentNotFinite}
 use Rattle.fmath.specs.Each.{at, over}
 use Rattle.fmath.proofs.Copy.{all-put}
 use Rattle.fmath.proofs.Each.{and-left, and-right}
+use Rattle.conformal.specs.Rule.{Tables}
+use Rattle.envelope.specs.Derive.{derived}
 use Rattle.envelope.specs.Refusals.{configJudged}
+use Rattle.envelope.specs.declared.Derived.{Derived}
 use Rattle.envelope.specs.declared.FuseConfig.{FuseConfig}
 use Rattle.envelope.proofs.Accepted.{accepted, dim-most}
 use Rattle.tier0.specs.declared.Check.{Check}
@@ -25,7 +28,7 @@ use Rattle.tier0.specs.declared.Checks.{Checks}
 use Rattle.tier0.specs.declared.Verdict.{Verdict}
 use Rattle.tier0.specs.Rule.{Judgement, seen, checkAction}
 use Rattle.tier0.specs.Refusals.{tooShort, answerAt, outAt}
-use Rattle.tier0.specs.Of.{checksOf, verdictFrom, lentToAction, actionRuling, actionRefusal, actionAnswer, actionOut}
+use Rattle.tier0.specs.Of.{checksFrom, checksOf, verdictFrom, lentToAction, actionRuling, actionRefusal, actionAnswer, actionOut}
 
 pub seen-parts : (p aux : List Float) (i j : ℕ) → seen p aux i j ≡ true → (i < length aux) × (j < length aux)
 seen-parts p aux i j e =
@@ -50,17 +53,22 @@ pub record Sized (c : FuseConfig) (p prev a : List Float) (room : ℕ) : Type 0 
   pub act : c .dim ≤ length a
   pub out : c .dim ≤ room
 
+-- the checks read what is derived
+pub checks-are : (f : Format) (c : FuseConfig) {d : Derived} {s : Checks} → s ≡ checksFrom c d → d ≡ derived f c → s ≡ checksOf f c
+unfolding checksOf
+checks-are f c es ed = es ∙ ap (checksFrom c) ed
+
 -- the same of what the checks read
-pub sized-checks : (c : FuseConfig) (p prev a : List Float) (room : ℕ) {s : Checks} → s ≡ checksOf c → Sized c p prev a room
+pub sized-checks : (f : Format) (c : FuseConfig) (p prev a : List Float) (room : ℕ) {s : Checks} → s ≡ checksOf f c → Sized c p prev a room
     → (s .dim ≤ 8) × (s .dim ≤ length a) × (s .dim ≤ length prev) × (s .«pos_dim» ≤ length p)
 unfolding checksOf
-sized-checks c p prev a room e w = rw e (w .narrow, w .act, w .before, w .pos)
+sized-checks f c p prev a room e w = rw e (w .narrow, w .act, w .before, w .pos)
 
 -- ---- the whole answer
 
-pub record Answered (c : FuseConfig) (p aux prev a l : List Float) (r : Check) (m : List Float) : Type 0 where
-  pub gives : r ≡ actionAnswer c p aux prev a (length l)
-  pub leaves : m ≡ actionOut c p aux prev a l
+pub record Answered (f : Format) (c : FuseConfig) (t : Tables) (p aux prev a l : List Float) (r : Check) (m : List Float) : Type 0 where
+  pub gives : r ≡ actionAnswer f c t p aux prev a (length l)
+  pub leaves : m ≡ actionOut f c t p aux prev a l
 
 pub at-number : (k : ℕ) → (k ≡ 0 → ⊥) → (j : Judgement) → Refused (refusedFor k) ≡ answerAt k j
 at-number zero h j = absurd (h refl)
@@ -70,7 +78,7 @@ pub out-number : (k : ℕ) → (k ≡ 0 → ⊥) → (j : Judgement) (n : ℕ) (
 out-number zero h j n l = absurd (h refl)
 out-number (suc k) h j n l = refl
 
-module _ (c : FuseConfig) (p aux prev a : List Float) where
+module _ (f : Format) (c : FuseConfig) (t : Tables) (p aux prev a : List Float) where
   abbrev brief : ℕ → Bool
   brief room = tooShort (c .dim) (c .«pos_dim») (length p) (length prev) (length a) room
 
@@ -82,14 +90,14 @@ module _ (c : FuseConfig) (p aux prev a : List Float) where
     rest = lentToAction c p aux prev a room []
 
     abbrev lentNumber : ℕ
-    lentNumber = refusal (configJudged c ++ rest)
+    lentNumber = refusal (configJudged f c t ++ rest)
 
-    pub by-config : {r : ℕ} → r ≡ refusal (configJudged c) → (r ≡ 0 → ⊥) → r ≡ lentNumber
-    by-config e h = e ∙ sym (first-refuses (configJudged c) rest (λ z. h (e ∙ z)))
+    pub by-config : {r : ℕ} → r ≡ refusal (configJudged f c t) → (r ≡ 0 → ⊥) → r ≡ lentNumber
+    by-config e h = e ∙ sym (first-refuses (configJudged f c t) rest (λ z. h (e ∙ z)))
 
-    module _ {k : ℕ} (ek : k ≡ refusal (configJudged c)) (e : k ≡ 0) {s : Bool} (es : s ≡ brief room) where
+    module _ {k : ℕ} (ek : k ≡ refusal (configJudged f c t)) (e : k ≡ 0) {s : Bool} (es : s ≡ brief room) where
       passed-on : lentNumber ≡ refusal rest
-      passed-on = first-passes (configJudged c) rest (sym ek ∙ e)
+      passed-on = first-passes (configJudged f c t) rest (sym ek ∙ e)
 
       pub by-11 : s ≡ true → 11 ≡ lentNumber
       by-11 h = sym (passed-on ∙ rw (sym es ∙ h))
@@ -118,36 +126,36 @@ module _ (c : FuseConfig) (p aux prev a : List Float) where
 
   pub accepted-sizes : (room : ℕ) → lentNumber room ≡ 0 → Sized c p prev a room
   accepted-sizes room h =
-      let w = both-pass (configJudged c) (rest room) h in
-      sizes room (passes-at short (brief room) ((notFinite when unfit) ∷ []) (w .1) .0) (dim-most c (accepted c (w .0)))
+      let w = both-pass (configJudged f c t) (rest room) h in
+      sizes room (passes-at short (brief room) ((notFinite when unfit) ∷ []) (w .1) .0) (dim-most f c t (accepted f c t (w .0)))
 
   abbrev last : List Judged
-  last = (computed when not (actionRuling c p aux prev a .sound)) ∷ []
+  last = (computed when not (actionRuling f c p aux prev a .sound)) ∷ []
 
   module _ (l : List Float) where
-    numbered : (k : ℕ) → k ≡ actionRefusal c p aux prev a (length l) → (k ≡ 0 → ⊥) → {r : Refusal} → r ≡ refusedFor k → Answered c p aux prev a l (Refused r) l
+    numbered : (k : ℕ) → k ≡ actionRefusal f c t p aux prev a (length l) → (k ≡ 0 → ⊥) → {r : Refusal} → r ≡ refusedFor k → Answered f c t p aux prev a l (Refused r) l
     unfolding actionAnswer actionOut
     numbered k e h g = record { gives = rw (g, ← e) (at-number k h _); leaves = rw (← e) (out-number k h _ _ l) }
 
-    pub lent-refused : (k : ℕ) → k ≡ lentNumber (length l) → (k ≡ 0 → ⊥) → {r : Refusal} → r ≡ refusedFor k → Answered c p aux prev a l (Refused r) l
+    pub lent-refused : (k : ℕ) → k ≡ lentNumber (length l) → (k ≡ 0 → ⊥) → {r : Refusal} → r ≡ refusedFor k → Answered f c t p aux prev a l (Refused r) l
     unfolding actionRefusal
-    lent-refused k e h = numbered k (e ∙ sym (first-refuses (configJudged c ++ rest (length l)) last (λ z. h (e ∙ z)))) h
+    lent-refused k e h = numbered k (e ∙ sym (first-refuses (configJudged f c t ++ rest (length l)) last (λ z. h (e ∙ z)))) h
 
-    module _ (e : lentNumber (length l) ≡ 0) {s : Checks} {v : Verdict} (es : s ≡ checksOf c) (ev : v ≡ verdictFrom (checkAction binary64 s p aux prev a)) where
-      ruled : v ≡ verdictFrom (actionRuling c p aux prev a)
+    module _ (e : lentNumber (length l) ≡ 0) {s : Checks} {v : Verdict} (es : s ≡ checksOf f c) (ev : v ≡ verdictFrom (checkAction f s p aux prev a)) where
+      ruled : v ≡ verdictFrom (actionRuling f c p aux prev a)
       unfolding actionRuling
       ruled = rw es at ev
 
-      known : (b : Bool) → v .sound ≡ b → actionRefusal c p aux prev a (length l) ≡ (if not b then 13 else 0)
+      known : (b : Bool) → v .sound ≡ b → actionRefusal f c t p aux prev a (length l) ≡ (if not b then 13 else 0)
       unfolding actionRefusal
       known b h =
-          first-passes (configJudged c ++ rest (length l)) last e
-          ∙ ap (λ (t : Bool). if not t then 13 else 0) (sym (ap (λ (x : Verdict). x .sound) ruled) ∙ h)
+          first-passes (configJudged f c t ++ rest (length l)) last e
+          ∙ ap (λ (u : Bool). if not u then 13 else 0) (sym (ap (λ (x : Verdict). x .sound) ruled) ∙ h)
 
-      pub not-sound : v .sound ≡ false → {r : Refusal} → r ≡ refusedFor 13 → Answered c p aux prev a l (Refused r) l
+      pub not-sound : v .sound ≡ false → {r : Refusal} → r ≡ refusedFor 13 → Answered f c t p aux prev a l (Refused r) l
       not-sound h = numbered 13 (sym (known false h)) (λ z. omega arith)
 
-      pub passes : v .sound ≡ true → {m : List Float} {k : ℕ} → m ≡ over (at (v .at)) l (min (c .dim) (min k (length l))) → 8 ≤ k → Answered c p aux prev a l (Passed (v .trips) (v .mask) (v .peak)) m
+      pub passes : v .sound ≡ true → {m : List Float} {k : ℕ} → m ≡ over (at (v .at)) l (min (c .dim) (min k (length l))) → 8 ≤ k → Answered f c t p aux prev a l (Passed (v .trips) (v .mask) (v .peak)) m
       unfolding actionAnswer actionOut
       passes h g b =
           let w = accepted-sizes (length l) e in

@@ -10,7 +10,7 @@ use borrow.Author.Tests.{ne-eqb}
 use lib.Bits.{bitOr}
 use lib.Dec.{eqb}
 use lib.ListN.{length, set, replicate, length-set}
-use lib.Ieee.{Float, Format, binary64, add, sub, mul, lt}
+use lib.Ieee.{Float, Format, add, sub, mul, lt}
 use Rattle.fmath.specs.Each.{at, all, some, over}
 use Rattle.fmath.specs.Finite.{finite, +0}
 use Rattle.fmath.specs.Checked.{Checked, each}
@@ -218,10 +218,10 @@ module _ (f : Format) (s : Checks) (q rows : List Float) (i : ℕ) {before here 
   unfolding largeAt
   jolted-at-is es ed ek = exceeds-is f _ (s .dim) (s .«inv_dt3») (s .«j_max») (ed ∙ rw (es, en, eh, eb)) ev ek
 
-pub strides-are : (s : Checks) (slow : Float) (q rows : List Float) {i h : ℕ} {peak : Float} {fast close out ok : Bool} → i ≡ h
-    → Strode binary64 s slow q rows i peak fast close out ok
-    → _≡_ {A = Stride} (record { peak = peak; fast = fast; close = close; out = out; sound = ok }) (stepsFrom s slow q rows h)
-strides-are s slow q rows e w = rw (← e, w .top, w .fast-so, w .close-so, w .out-so, w .ok-so)
+pub strides-are : (f : Format) (s : Checks) (slow : Float) (q rows : List Float) {i h : ℕ} {peak : Float} {fast close out ok : Bool} → i ≡ h
+    → Strode f s slow q rows i peak fast close out ok
+    → _≡_ {A = Stride} (record { peak = peak; fast = fast; close = close; out = out; sound = ok }) (stepsFrom f s slow q rows h)
+strides-are f s slow q rows e w = rw (← e, w .top, w .fast-so, w .close-so, w .out-so, w .ok-so)
 
 -- ---- the projected rows, and the whole check
 
@@ -237,22 +237,22 @@ module _ (f : Format) (s : Checks) (m : ClampMode) (z : Slow) (p rows q l : List
   unfolding projectedRows
   rows-on e u = rw (e, and-true) u
 
-pub judge-chunk-is : (s : Checks) (p aux rows l : List Float) (h : ℕ) {z : SlowZone} {q first m : List Float} {t : Stride} {k speed : Bool} {bent jolted far : Test} {c : Ran} {bits : ℕ}
-    → z ≡ zoneFrom (slowZone binary64 s p aux)
+pub judge-chunk-is : (f : Format) (s : Checks) (p aux rows l : List Float) (h : ℕ) {z : SlowZone} {q first m : List Float} {t : Stride} {k speed : Bool} {bent jolted far : Test} {c : Ran} {bits : ℕ}
+    → z ≡ zoneFrom (slowZone f s p aux)
     → q ≡ startRow s p rows
-    → t ≡ stepsFrom s (z .step) q rows h
-    → k ≡ finite (mul binary64 (t .peak) (s .«inv_dt»))
-    → bent ≡ testFrom (tooLarge binary64 s D.Accel q rows h)
-    → jolted ≡ testFrom (tooLarge binary64 s D.Jerk q rows h)
+    → t ≡ stepsFrom f s (z .step) q rows h
+    → k ≡ finite (mul f (t .peak) (s .«inv_dt»))
+    → bent ≡ testFrom (tooLarge f s D.Accel q rows h)
+    → jolted ≡ testFrom (tooLarge f s D.Jerk q rows h)
     → first ≡ rawRow rows (s .dim) 0
-    → far ≡ testFrom (outOfReach binary64 s p first)
+    → far ≡ testFrom (outOfReach f s p first)
     → speed ≡ arms s SPEED
     → bits ≡ tripBits (t .out) (speed && t .fast) (bent .holds) (jolted .holds) (far .holds) (z .inside && t .close)
-    → (c ≡ ranFrom (projectedRows binary64 s (s .clamp) (slowOf z) p rows q l h)) × (m ≡ projectedRows binary64 s (s .clamp) (slowOf z) p rows q l h .value .rows)
-    → (_≡_ {A = Ruling} (record { trips = bits; mask = c .mask; peak = mul binary64 (t .peak) (s .«inv_dt»); sound = z .sound && (t .sound && (k && (bent .sound && (jolted .sound && (far .sound && c .sound))))) })
-    (rulingFrom (checkChunk binary64 s p aux rows l h))) × (m ≡ checkChunk binary64 s p aux rows l h .value .after .rows)
+    → (c ≡ ranFrom (projectedRows f s (s .clamp) (slowOf z) p rows q l h)) × (m ≡ projectedRows f s (s .clamp) (slowOf z) p rows q l h .value .rows)
+    → (_≡_ {A = Ruling} (record { trips = bits; mask = c .mask; peak = mul f (t .peak) (s .«inv_dt»); sound = z .sound && (t .sound && (k && (bent .sound && (jolted .sound && (far .sound && c .sound))))) })
+    (rulingFrom (checkChunk f s p aux rows l h))) × (m ≡ checkChunk f s p aux rows l h .value .after .rows)
 unfolding checkChunk
-judge-chunk-is s p aux rows l h ez eq et ek eb ej e1 ef es ew ec = (rw (ew, ec .0, ef, e1, ej, eb, es, ek, et, eq, ez, and-true), ec .1 ∙ rw (eq, ez))
+judge-chunk-is f s p aux rows l h ez eq et ek eb ej e1 ef es ew ec = (rw (ew, ec .0, ef, e1, ej, eb, es, ek, et, eq, ez, and-true), ec .1 ∙ rw (eq, ez))
 
 -- the first row lies in the rows
 pub first-fits : (h n len : ℕ) → 0 < h → h * n ≤ len → n ≤ len

@@ -5,7 +5,7 @@ use mathlib.Core.Bool.{Bool, true, false, _&&_}
 use mathlib.Core.List.{List}
 use native.Mathlib.Omega.{arith}
 use lib.ListN.{replicate}
-use lib.Ieee.{Float, binary64, lt}
+use lib.Ieee.{Float, Format, lt}
 use Rattle.refusal.specs.Order.{if_then_else_}
 use Rattle.fmath.specs.Each.{some}
 use Rattle.fmath.specs.Finite.{+0}
@@ -13,6 +13,7 @@ use Rattle.fmath.specs.Checked.{Checked, pure}
 use Rattle.fmath.specs.Norm.{dist}
 use Rattle.workspace.specs.Of.{wallsOf}
 use Rattle.workspace.specs.Rule.{outside, beyond}
+use Rattle.conformal.specs.Rule.{Tables}
 use Rattle.envelope.specs.declared.FuseConfig.{FuseConfig}
 use Rattle.tier0.specs.declared.Checks.{Checks}
 use Rattle.tier0.specs.declared.Difference.{Difference}
@@ -43,13 +44,13 @@ in-box : (s : Checks) (a : List Float) → ((j : ℕ) → j < shared s → beyon
 unfolding outOfBox outside
 in-box s a h = where-so (arms s WORKSPACE) _ (λ e. none-so (beyond (wallsOf (s .walls)) a) (shared s) h)
 
-in-reach : (s : Checks) (p a : List Float) → lt (s .«reach_max») (dist binary64 a p (shared s) .value) ≡ false → outOfReach binary64 s p a .value ≡ false
+in-reach : (f : Format) (s : Checks) (p a : List Float) → lt (s .«reach_max») (dist f a p (shared s) .value) ≡ false → outOfReach f s p a .value ≡ false
 unfolding outOfReach
-in-reach s p a h = if-so (arms s REACH) _ h
+in-reach f s p a h = if-so (arms s REACH) _ h
 
-none-large : (s : Checks) (d : Difference) (q rows : List Float) (h : ℕ) → ((i : ℕ) → i < h - further d → largeAt binary64 s d q rows i .value ≡ false) → tooLarge binary64 s d q rows h .value ≡ false
+none-large : (f : Format) (s : Checks) (d : Difference) (q rows : List Float) (h : ℕ) → ((i : ℕ) → i < h - further d → largeAt f s d q rows i .value ≡ false) → tooLarge f s d q rows h .value ≡ false
 unfolding tooLarge someOf
-none-large s d q rows h e = if-so (arms s (tripOf d)) _ (none-so (λ (i : ℕ). largeAt binary64 s d q rows i .value) (h - further d) e)
+none-large f s d q rows h e = if-so (arms s (tripOf d)) _ (none-so (λ (i : ℕ). largeAt f s d q rows i .value) (h - further d) e)
 
 -- ---- the trips of an answer are those of the rule, or none
 
@@ -63,105 +64,105 @@ trips-none (suc n) j h = refl
 
 -- ---- a chunk
 
-module _ (c : FuseConfig) (p aux rows : List Float) (h d e room : ℕ) where
+module _ (f : Format) (c : FuseConfig) (t : Tables) (p aux rows : List Float) (h d e room : ℕ) where
   abbrev s : Checks
-  s = checksOf c
+  s = checksOf f c
 
   abbrev trips : ℕ
-  trips = tripsIn (chunkAnswer c p aux rows h d e room)
+  trips = tripsIn (chunkAnswer f c t p aux rows h d e room)
 
-  from-rule : (w : ℕ) → raised w 0 ≡ false → raised w (chunkTrips binary64 s p aux rows (replicate 512 +0) h) ≡ false → raised w trips ≡ false
+  from-rule : (w : ℕ) → raised w 0 ≡ false → raised w (chunkTrips f s p aux rows (replicate 512 +0) h) ≡ false → raised w trips ≡ false
   unfolding chunkAnswer chunkRuling
-  from-rule w none = trips-raised w (chunkRefusal c p aux rows h d e room) (chunkRuling c p aux rows h d e .value) none
+  from-rule w none = trips-raised w (chunkRefusal f c t p aux rows h d e room) (chunkRuling f c p aux rows h .value) none
 
-  not-out : ChunkInBox c p aux rows h → someOutOfBox s rows h ≡ false
+  not-out : ChunkInBox f c p aux rows h → someOutOfBox s rows h ≡ false
   unfolding someOutOfBox
   not-out w = none-so (λ (i : ℕ). outOfBox s (rawRow rows (s .dim) i)) h (λ i b. in-box s (rawRow rows (s .dim) i) (w i b))
 
-  not-longer : (most : Float) → ((i : ℕ) → i < h → lt most (stepTo binary64 (beforeFirst c p aux rows) rows (s .dim) i .value) ≡ false) → someLonger binary64 (beforeFirst c p aux rows) rows (s .dim) most h ≡ false
+  not-longer : (most : Float) → ((i : ℕ) → i < h → lt most (stepTo f (beforeFirst f c p aux rows) rows (s .dim) i .value) ≡ false) → someLonger f (beforeFirst f c p aux rows) rows (s .dim) most h ≡ false
   unfolding someLonger
-  not-longer most = none-so (λ (i : ℕ). lt most (stepTo binary64 (beforeFirst c p aux rows) rows (s .dim) i .value)) h
+  not-longer most = none-so (λ (i : ℕ). lt most (stepTo f (beforeFirst f c p aux rows) rows (s .dim) i .value)) h
 
-  not-fast : ChunkSlowEnough c p aux rows h → (arms s SPEED && someLonger binary64 (beforeFirst c p aux rows) rows (s .dim) (s .«step_max») h) ≡ false
+  not-fast : ChunkSlowEnough f c p aux rows h → (arms s SPEED && someLonger f (beforeFirst f c p aux rows) rows (s .dim) (s .«step_max») h) ≡ false
   not-fast w = where-so (arms s SPEED) _ (λ a. not-longer (s .«step_max») w)
 
-  not-close : ChunkSlowInZone c p aux rows h → (zoneNow c p aux rows .inside && someLonger binary64 (beforeFirst c p aux rows) rows (s .dim) (zoneNow c p aux rows .step) h) ≡ false
-  not-close w = where-so (zoneNow c p aux rows .inside) _ (λ a. not-longer (zoneNow c p aux rows .step) (w a))
+  not-close : ChunkSlowInZone f c p aux rows h → (zoneNow f c p aux rows .inside && someLonger f (beforeFirst f c p aux rows) rows (s .dim) (zoneNow f c p aux rows .step) h) ≡ false
+  not-close w = where-so (zoneNow f c p aux rows .inside) _ (λ a. not-longer (zoneNow f c p aux rows .step) (w a))
 
-  not-bent : ChunkBendsLittle c p aux rows h → tooLarge binary64 s Accel (beforeFirst c p aux rows) rows h .value ≡ false
+  not-bent : ChunkBendsLittle f c p aux rows h → tooLarge f s Accel (beforeFirst f c p aux rows) rows h .value ≡ false
   unfolding largeAt exceeds
-  not-bent w = none-large s Accel (beforeFirst c p aux rows) rows h w
+  not-bent w = none-large f s Accel (beforeFirst f c p aux rows) rows h w
 
-  not-jolted : ChunkJoltsLittle c p aux rows h → tooLarge binary64 s Jerk (beforeFirst c p aux rows) rows h .value ≡ false
+  not-jolted : ChunkJoltsLittle f c p aux rows h → tooLarge f s Jerk (beforeFirst f c p aux rows) rows h .value ≡ false
   unfolding largeAt exceeds
-  not-jolted w = none-large s Jerk (beforeFirst c p aux rows) rows h w
+  not-jolted w = none-large f s Jerk (beforeFirst f c p aux rows) rows h w
 
-  not-far : ChunkInReach c p aux rows → outOfReach binary64 s p (rawRow rows (s .dim) 0) .value ≡ false
-  not-far w = in-reach s p (rawRow rows (s .dim) 0) w
+  not-far : ChunkInReach f c p aux rows → outOfReach f s p (rawRow rows (s .dim) 0) .value ≡ false
+  not-far w = in-reach f s p (rawRow rows (s .dim) 0) w
 
   abbrev l : List Float
   l = replicate 512 +0
 
   -- each limit by itself ..
-  pub chunk-workspace-touched : ChunkInBox c p aux rows h → raised WORKSPACE trips ≡ false
-  chunk-workspace-touched w = from-rule WORKSPACE refl (chunk-workspace-exactly binary64 s p aux rows l h ∙ not-out w)
+  pub chunk-workspace-touched : ChunkInBox f c p aux rows h → raised WORKSPACE trips ≡ false
+  chunk-workspace-touched w = from-rule WORKSPACE refl (chunk-workspace-exactly f s p aux rows l h ∙ not-out w)
 
-  pub chunk-speed-touched : ChunkSlowEnough c p aux rows h → raised SPEED trips ≡ false
-  chunk-speed-touched w = from-rule SPEED refl (chunk-speed-exactly binary64 s p aux rows l h ∙ not-fast w)
+  pub chunk-speed-touched : ChunkSlowEnough f c p aux rows h → raised SPEED trips ≡ false
+  chunk-speed-touched w = from-rule SPEED refl (chunk-speed-exactly f s p aux rows l h ∙ not-fast w)
 
-  pub chunk-accel-touched : ChunkBendsLittle c p aux rows h → raised ACCEL trips ≡ false
-  chunk-accel-touched w = from-rule ACCEL refl (chunk-accel-exactly binary64 s p aux rows l h ∙ not-bent w)
+  pub chunk-accel-touched : ChunkBendsLittle f c p aux rows h → raised ACCEL trips ≡ false
+  chunk-accel-touched w = from-rule ACCEL refl (chunk-accel-exactly f s p aux rows l h ∙ not-bent w)
 
-  pub chunk-jerk-touched : ChunkJoltsLittle c p aux rows h → raised JERK trips ≡ false
-  chunk-jerk-touched w = from-rule JERK refl (chunk-jerk-exactly binary64 s p aux rows l h ∙ not-jolted w)
+  pub chunk-jerk-touched : ChunkJoltsLittle f c p aux rows h → raised JERK trips ≡ false
+  chunk-jerk-touched w = from-rule JERK refl (chunk-jerk-exactly f s p aux rows l h ∙ not-jolted w)
 
-  pub chunk-reach-touched : ChunkInReach c p aux rows → raised REACH trips ≡ false
-  chunk-reach-touched w = from-rule REACH refl (chunk-reach-exactly binary64 s p aux rows l h ∙ not-far w)
+  pub chunk-reach-touched : ChunkInReach f c p aux rows → raised REACH trips ≡ false
+  chunk-reach-touched w = from-rule REACH refl (chunk-reach-exactly f s p aux rows l h ∙ not-far w)
 
-  pub chunk-contact-touched : ChunkSlowInZone c p aux rows h → raised CONTACT trips ≡ false
-  chunk-contact-touched w = from-rule CONTACT refl (chunk-contact-exactly binary64 s p aux rows l h ∙ not-close w)
+  pub chunk-contact-touched : ChunkSlowInZone f c p aux rows h → raised CONTACT trips ≡ false
+  chunk-contact-touched w = from-rule CONTACT refl (chunk-contact-exactly f s p aux rows l h ∙ not-close w)
 
   -- .. and all of them: nothing is raised
-  none-tripped : ChunkWithin c p aux rows h → chunkTrips binary64 s p aux rows l h ≡ 0
+  none-tripped : ChunkWithin f c p aux rows h → chunkTrips f s p aux rows l h ≡ 0
   unfolding checkChunk tripBits
   none-tripped w = rw (not-out (w .box), not-fast (w .speed), not-bent (w .accel), not-jolted (w .jerk), not-far (w .reach), not-close (w .contact))
 
-  pub chunk-touched : ChunkWithin c p aux rows h → trips ≡ 0
+  pub chunk-touched : ChunkWithin f c p aux rows h → trips ≡ 0
   unfolding chunkAnswer chunkRuling
-  chunk-touched w = trips-none (chunkRefusal c p aux rows h d e room) (chunkRuling c p aux rows h d e .value) (none-tripped w)
+  chunk-touched w = trips-none (chunkRefusal f c t p aux rows h d e room) (chunkRuling f c p aux rows h .value) (none-tripped w)
 
 -- ---- an action
 
-module _ (c : FuseConfig) (p aux prev a : List Float) (room : ℕ) where
+module _ (f : Format) (c : FuseConfig) (t : Tables) (p aux prev a : List Float) (room : ℕ) where
   abbrev trips-of : ℕ
-  trips-of = tripsIn (actionAnswer c p aux prev a room)
+  trips-of = tripsIn (actionAnswer f c t p aux prev a room)
 
-  action-from-rule : (w : ℕ) → raised w 0 ≡ false → raised w (actionTrips binary64 (checksOf c) p aux prev a) ≡ false → raised w trips-of ≡ false
+  action-from-rule : (w : ℕ) → raised w 0 ≡ false → raised w (actionTrips f (checksOf f c) p aux prev a) ≡ false → raised w trips-of ≡ false
   unfolding actionAnswer actionRuling
-  action-from-rule w none = trips-raised w (actionRefusal c p aux prev a room) (actionRuling c p aux prev a .value) none
+  action-from-rule w none = trips-raised w (actionRefusal f c t p aux prev a room) (actionRuling f c p aux prev a .value) none
 
-  action-not-fast : ActionSlowEnough c p aux prev a → (arms (checksOf c) SPEED && lt (checksOf c .«step_max») (actionStep c p aux prev a)) ≡ false
-  action-not-fast w = where-so (arms (checksOf c) SPEED) _ (λ e. w)
+  action-not-fast : ActionSlowEnough f c p aux prev a → (arms (checksOf f c) SPEED && lt (checksOf f c .«step_max») (actionStep f c p aux prev a)) ≡ false
+  action-not-fast w = where-so (arms (checksOf f c) SPEED) _ (λ e. w)
 
-  action-not-close : ActionSlowInZone c p aux prev a → (zoneHere c p aux prev a .inside && lt (zoneHere c p aux prev a .step) (actionStep c p aux prev a)) ≡ false
-  action-not-close w = where-so (zoneHere c p aux prev a .inside) _ w
+  action-not-close : ActionSlowInZone f c p aux prev a → (zoneHere f c p aux prev a .inside && lt (zoneHere f c p aux prev a .step) (actionStep f c p aux prev a)) ≡ false
+  action-not-close w = where-so (zoneHere f c p aux prev a .inside) _ w
 
-  pub action-workspace-touched : ActionInBox c p aux prev a → raised WORKSPACE trips-of ≡ false
-  action-workspace-touched w = action-from-rule WORKSPACE refl (action-workspace-exactly binary64 (checksOf c) p aux prev a ∙ in-box (checksOf c) a w)
+  pub action-workspace-touched : ActionInBox f c p aux prev a → raised WORKSPACE trips-of ≡ false
+  action-workspace-touched w = action-from-rule WORKSPACE refl (action-workspace-exactly f (checksOf f c) p aux prev a ∙ in-box (checksOf f c) a w)
 
-  pub action-speed-touched : ActionSlowEnough c p aux prev a → raised SPEED trips-of ≡ false
-  action-speed-touched w = action-from-rule SPEED refl (action-speed-exactly binary64 (checksOf c) p aux prev a ∙ action-not-fast w)
+  pub action-speed-touched : ActionSlowEnough f c p aux prev a → raised SPEED trips-of ≡ false
+  action-speed-touched w = action-from-rule SPEED refl (action-speed-exactly f (checksOf f c) p aux prev a ∙ action-not-fast w)
 
-  pub action-reach-touched : ActionInReach c p aux prev a → raised REACH trips-of ≡ false
-  action-reach-touched w = action-from-rule REACH refl (action-reach-exactly binary64 (checksOf c) p aux prev a ∙ in-reach (checksOf c) p a w)
+  pub action-reach-touched : ActionInReach f c p aux prev a → raised REACH trips-of ≡ false
+  action-reach-touched w = action-from-rule REACH refl (action-reach-exactly f (checksOf f c) p aux prev a ∙ in-reach f (checksOf f c) p a w)
 
-  pub action-contact-touched : ActionSlowInZone c p aux prev a → raised CONTACT trips-of ≡ false
-  action-contact-touched w = action-from-rule CONTACT refl (action-contact-exactly binary64 (checksOf c) p aux prev a ∙ action-not-close w)
+  pub action-contact-touched : ActionSlowInZone f c p aux prev a → raised CONTACT trips-of ≡ false
+  action-contact-touched w = action-from-rule CONTACT refl (action-contact-exactly f (checksOf f c) p aux prev a ∙ action-not-close w)
 
-  action-none-tripped : ActionWithin c p aux prev a → actionTrips binary64 (checksOf c) p aux prev a ≡ 0
+  action-none-tripped : ActionWithin f c p aux prev a → actionTrips f (checksOf f c) p aux prev a ≡ 0
   unfolding checkAction tripBits
-  action-none-tripped w = rw (in-box (checksOf c) a (w .box), action-not-fast (w .speed), in-reach (checksOf c) p a (w .reach), action-not-close (w .contact))
+  action-none-tripped w = rw (in-box (checksOf f c) a (w .box), action-not-fast (w .speed), in-reach f (checksOf f c) p a (w .reach), action-not-close (w .contact))
 
-  pub action-touched : ActionWithin c p aux prev a → trips-of ≡ 0
+  pub action-touched : ActionWithin f c p aux prev a → trips-of ≡ 0
   unfolding actionAnswer actionRuling
-  action-touched w = trips-none (actionRefusal c p aux prev a room) (actionRuling c p aux prev a .value) (action-none-tripped w)
+  action-touched w = trips-none (actionRefusal f c t p aux prev a room) (actionRuling f c p aux prev a .value) (action-none-tripped w)

@@ -4,12 +4,13 @@ use mathlib.Core.Bool.{Bool, not}
 use mathlib.Core.List.{List, [], _∷_, _++_}
 use lib.Dec.{eqb}
 use lib.ListN.{length, replicate}
-use lib.Ieee.{Float, binary64}
+use lib.Ieee.{Float, Format}
 use Rattle.refusal.specs.Order.{Judged, width, short, notFinite, computed, _when_, refusal}
 use Rattle.fmath.specs.Answer.{someLentNotFinite}
 use Rattle.fmath.specs.Finite.{+0}
 use Rattle.fmath.specs.Checked.{Checked}
 use Rattle.chunk.specs.Refusals.{chunkReasons}
+use Rattle.conformal.specs.Rule.{Tables}
 use Rattle.envelope.specs.Derive.{derived}
 use Rattle.envelope.specs.Refusals.{configJudged}
 use Rattle.envelope.specs.declared.Derived.{Derived}
@@ -47,8 +48,8 @@ checksFrom c d = record {
   walls = record { lo = d .«box_lo»; hi = d .«box_hi» };
 }
 
-unfoldable pub checksOf : FuseConfig → Checks
-checksOf c = checksFrom c (derived binary64 c)
+unfoldable pub checksOf : Format → FuseConfig → Checks
+checksOf f c = checksFrom c (derived f c)
 
 -- ---- what a private function answers: the rule's value, and whether all that was computed is finite
 
@@ -77,13 +78,13 @@ verdictFrom x = record {
 }
 
 -- the steps of h rows: the greatest, and whether one is too long, too long for the zone, or out of the box
-abbrev pub stepsFrom : Checks → Float → List Float → List Float → ℕ → Stride
-stepsFrom s slow q rows h = record {
-  peak = peakStep binary64 q rows (s .dim) h .value;
-  fast = someLonger binary64 q rows (s .dim) (s .«step_max») h;
-  close = someLonger binary64 q rows (s .dim) slow h;
+abbrev pub stepsFrom : Format → Checks → Float → List Float → List Float → ℕ → Stride
+stepsFrom f s slow q rows h = record {
+  peak = peakStep f q rows (s .dim) h .value;
+  fast = someLonger f q rows (s .dim) (s .«step_max») h;
+  close = someLonger f q rows (s .dim) slow h;
   out = someOutOfBox s rows h;
-  sound = peakStep binary64 q rows (s .dim) h .sound;
+  sound = peakStep f q rows (s .dim) h .sound;
 }
 
 abbrev pub runFrom : Checked Run → Ran
@@ -109,22 +110,27 @@ module _ (c : FuseConfig) (p aux prev a : List Float) where
       (short when tooShort (c .dim) (c .«pos_dim») (length p) (length prev) (length a) room)
       ∷ (notFinite when someLentNotFinite (p ∷ aux ∷ prev ∷ a ∷ [])) ∷ l
 
+module _ (f : Format) (c : FuseConfig) (p aux prev a : List Float) where
   unfoldable pub actionRuling : Checked Judgement
-  actionRuling = checkAction binary64 (checksOf c) p aux prev a
+  actionRuling = checkAction f (checksOf f c) p aux prev a
+
+module _ (f : Format) (c : FuseConfig) (t : Tables) (p aux prev a : List Float) where
+  abbrev ruling : Checked Judgement
+  ruling = actionRuling f c p aux prev a
 
   -- the number of the refusal, 0 where there is none
   unfoldable pub actionRefusal : ℕ → ℕ
-  actionRefusal room = refusal (configJudged c ++ lentToAction room ((computed when not (actionRuling .sound)) ∷ []))
+  actionRefusal room = refusal (configJudged f c t ++ lentToAction c p aux prev a room ((computed when not (ruling .sound)) ∷ []))
 
   unfoldable pub actionAnswer : ℕ → Check
-  actionAnswer room = answerAt (actionRefusal room) (actionRuling .value)
+  actionAnswer room = answerAt (actionRefusal room) (ruling .value)
 
   unfoldable pub actionOut : List Float → List Float
-  actionOut l = outAt (actionRefusal (length l)) (actionRuling .value) (c .dim) l
+  actionOut l = outAt (actionRefusal (length l)) (ruling .value) (c .dim) l
 
 -- ---- check_chunk
 
-module _ (c : FuseConfig) (p aux rows : List Float) (h d e : ℕ) where
+module _ (c : FuseConfig) (p aux rows : List Float) (h d : ℕ) where
   -- 10, 11 and 12, where the output has so much room
   abbrev pub lentToChunk : ℕ → List Judged → List Judged
   lentToChunk room l =
@@ -132,15 +138,20 @@ module _ (c : FuseConfig) (p aux rows : List Float) (h d e : ℕ) where
       ∷ (short when chunkTooShort (c .«pos_dim») (length p) (h * d) room)
       ∷ (notFinite when someLentNotFinite (p ∷ aux ∷ rows ∷ [])) ∷ l
 
+module _ (f : Format) (c : FuseConfig) (p aux rows : List Float) (h : ℕ) where
   unfoldable pub chunkRuling : Checked Judgement
-  chunkRuling = checkChunk binary64 (checksOf c) p aux rows (replicate 512 +0) h
+  chunkRuling = checkChunk f (checksOf f c) p aux rows (replicate 512 +0) h
+
+module _ (f : Format) (c : FuseConfig) (t : Tables) (p aux rows : List Float) (h d e : ℕ) where
+  abbrev ruled : Checked Judgement
+  ruled = chunkRuling f c p aux rows h
 
   -- the number of the refusal, 0 where there is none
   unfoldable pub chunkRefusal : ℕ → ℕ
-  chunkRefusal room = refusal (configJudged c ++ (chunkReasons h d e (length rows) ++ lentToChunk room ((computed when not (chunkRuling .sound)) ∷ [])))
+  chunkRefusal room = refusal (configJudged f c t ++ (chunkReasons h d e (length rows) ++ lentToChunk c p aux rows h d room ((computed when not (ruled .sound)) ∷ [])))
 
   unfoldable pub chunkAnswer : ℕ → Check
-  chunkAnswer room = answerAt (chunkRefusal room) (chunkRuling .value)
+  chunkAnswer room = answerAt (chunkRefusal room) (ruled .value)
 
   unfoldable pub chunkOut : List Float → List Float
-  chunkOut l = outAt (chunkRefusal (length l)) (chunkRuling .value) (h * c .dim) l
+  chunkOut l = outAt (chunkRefusal (length l)) (ruled .value) (h * c .dim) l

@@ -5,12 +5,13 @@ use mathlib.Core.Bool.{Bool, true, false}
 use mathlib.Core.List.{List}
 use lib.Dec.{eqb}
 use lib.ListN.{replicate}
-use lib.Ieee.{Float, binary64, mul, lt}
+use lib.Ieee.{Float, Format, mul, lt}
 use Rattle.fmath.specs.Finite.{+0}
 use Rattle.fmath.specs.Checked.{Checked, each}
 use Rattle.fmath.specs.Norm.{norm, dist}
 use Rattle.workspace.specs.Of.{wallsOf}
 use Rattle.workspace.specs.Rule.{beyond}
+use Rattle.conformal.specs.Rule.{Tables}
 use Rattle.envelope.specs.declared.Contact.the-variants.{None}
 use Rattle.envelope.specs.declared.FuseConfig.{FuseConfig}
 use Rattle.tier0.specs.declared.Check.{Check}
@@ -32,12 +33,12 @@ raised w t = eqb (t / w % 2) 1
 -- ---- no limit is exceeded: each number that is compared with one stays below it, or touches it
 
 -- the scaled length of a difference of rows, as ACCEL and JERK compare it
-abbrev pub sizeOf : (ℕ → Checked Float) → ℕ → Float → Float
-sizeOf g n inv = mul binary64 (norm binary64 (each g (replicate 8 +0) n .value) n .value) inv
+abbrev pub sizeOf : Format → (ℕ → Checked Float) → ℕ → Float → Float
+sizeOf f g n inv = mul f (norm f (each g (replicate 8 +0) n .value) n .value) inv
 
-module _ (c : FuseConfig) (p aux rows : List Float) where
+module _ (f : Format) (c : FuseConfig) (p aux rows : List Float) where
   abbrev checked : Checks
-  checked = checksOf c
+  checked = checksOf f c
 
   -- what stands before row 0
   abbrev pub beforeFirst : List Float
@@ -45,17 +46,17 @@ module _ (c : FuseConfig) (p aux rows : List Float) where
 
   -- the slow zone as the position and the camera have it
   abbrev pub zoneNow : Slow
-  zoneNow = slowZone binary64 checked p aux .value
+  zoneNow = slowZone f checked p aux .value
 
   -- the step to row i, its second and its third difference
   abbrev stepAt : ℕ → Float
-  stepAt i = stepTo binary64 beforeFirst rows (checked .dim) i .value
+  stepAt i = stepTo f beforeFirst rows (checked .dim) i .value
 
   abbrev bendAt : ℕ → Float
-  bendAt i = sizeOf (bends binary64 (rawRow rows (checked .dim) (i + 1)) (rawRow rows (checked .dim) i) (rowBefore beforeFirst rows (checked .dim) i)) (checked .dim) (checked .«inv_dt2»)
+  bendAt i = sizeOf f (bends f (rawRow rows (checked .dim) (i + 1)) (rawRow rows (checked .dim) i) (rowBefore beforeFirst rows (checked .dim) i)) (checked .dim) (checked .«inv_dt2»)
 
   abbrev joltAt : ℕ → Float
-  joltAt i = sizeOf (jolts binary64 (rawRow rows (checked .dim) (i + 2)) (rawRow rows (checked .dim) (i + 1)) (rawRow rows (checked .dim) i) (rowBefore beforeFirst rows (checked .dim) i)) (checked .dim) (checked .«inv_dt3»)
+  joltAt i = sizeOf f (jolts f (rawRow rows (checked .dim) (i + 2)) (rawRow rows (checked .dim) (i + 1)) (rawRow rows (checked .dim) i) (rowBefore beforeFirst rows (checked .dim) i)) (checked .dim) (checked .«inv_dt3»)
 
   abbrev pub ChunkInBox : ℕ → Type 0
   ChunkInBox h = (i : ℕ) → i < h → (j : ℕ) → j < shared checked → beyond (wallsOf (checked .walls)) (rawRow rows (checked .dim) i) j ≡ false
@@ -73,27 +74,27 @@ module _ (c : FuseConfig) (p aux rows : List Float) where
   ChunkJoltsLittle h = (i : ℕ) → i < h - 2 → lt (checked .«j_max») (joltAt i) ≡ false
 
   abbrev pub ChunkInReach : Type 0
-  ChunkInReach = lt (checked .«reach_max») (dist binary64 (rawRow rows (checked .dim) 0) p (shared checked) .value) ≡ false
+  ChunkInReach = lt (checked .«reach_max») (dist f (rawRow rows (checked .dim) 0) p (shared checked) .value) ≡ false
 
 -- none of a chunk's limits
-pub record ChunkWithin (c : FuseConfig) (p aux rows : List Float) (h : ℕ) : Type 0 where
-  pub box : ChunkInBox c p aux rows h
-  pub speed : ChunkSlowEnough c p aux rows h
-  pub contact : ChunkSlowInZone c p aux rows h
-  pub accel : ChunkBendsLittle c p aux rows h
-  pub jerk : ChunkJoltsLittle c p aux rows h
-  pub reach : ChunkInReach c p aux rows
+pub record ChunkWithin (f : Format) (c : FuseConfig) (p aux rows : List Float) (h : ℕ) : Type 0 where
+  pub box : ChunkInBox f c p aux rows h
+  pub speed : ChunkSlowEnough f c p aux rows h
+  pub contact : ChunkSlowInZone f c p aux rows h
+  pub accel : ChunkBendsLittle f c p aux rows h
+  pub jerk : ChunkJoltsLittle f c p aux rows h
+  pub reach : ChunkInReach f c p aux rows
 
 -- an action and its predecessor
-module _ (c : FuseConfig) (p aux prev a : List Float) where
+module _ (f : Format) (c : FuseConfig) (p aux prev a : List Float) where
   abbrev checks : Checks
-  checks = checksOf c
+  checks = checksOf f c
 
   abbrev pub zoneHere : Slow
-  zoneHere = slowZone binary64 checks p aux .value
+  zoneHere = slowZone f checks p aux .value
 
   abbrev pub actionStep : Float
-  actionStep = dist binary64 a prev (checks .dim) .value
+  actionStep = dist f a prev (checks .dim) .value
 
   abbrev pub ActionInBox : Type 0
   ActionInBox = (j : ℕ) → j < shared checks → beyond (wallsOf (checks .walls)) a j ≡ false
@@ -105,14 +106,14 @@ module _ (c : FuseConfig) (p aux prev a : List Float) where
   ActionSlowInZone = zoneHere .inside ≡ true → lt (zoneHere .step) actionStep ≡ false
 
   abbrev pub ActionInReach : Type 0
-  ActionInReach = lt (checks .«reach_max») (dist binary64 a p (shared checks) .value) ≡ false
+  ActionInReach = lt (checks .«reach_max») (dist f a p (shared checks) .value) ≡ false
 
 -- none of an action's limits
-pub record ActionWithin (c : FuseConfig) (p aux prev a : List Float) : Type 0 where
-  pub box : ActionInBox c p aux prev a
-  pub speed : ActionSlowEnough c p aux prev a
-  pub contact : ActionSlowInZone c p aux prev a
-  pub reach : ActionInReach c p aux prev a
+pub record ActionWithin (f : Format) (c : FuseConfig) (p aux prev a : List Float) : Type 0 where
+  pub box : ActionInBox f c p aux prev a
+  pub speed : ActionSlowEnough f c p aux prev a
+  pub contact : ActionSlowInZone f c p aux prev a
+  pub reach : ActionInReach f c p aux prev a
 
 -- ---- no contact: the configuration with CONTACT unarmed, whatever else is armed
 
@@ -140,31 +141,31 @@ contactUnarmed c = record {
 -- ---- all of it
 
 -- a limit that is not exceeded is not raised by `check_chunk`, and where none is exceeded nothing is
-pub record ChunkTouched (c : FuseConfig) (p aux rows : List Float) (h d e room : ℕ) : Type 0 where
-  pub workspace-touched : ChunkInBox c p aux rows h → raised WORKSPACE (tripsIn (chunkAnswer c p aux rows h d e room)) ≡ false
-  pub speed-touched : ChunkSlowEnough c p aux rows h → raised SPEED (tripsIn (chunkAnswer c p aux rows h d e room)) ≡ false
-  pub contact-touched : ChunkSlowInZone c p aux rows h → raised CONTACT (tripsIn (chunkAnswer c p aux rows h d e room)) ≡ false
-  pub accel-touched : ChunkBendsLittle c p aux rows h → raised ACCEL (tripsIn (chunkAnswer c p aux rows h d e room)) ≡ false
-  pub jerk-touched : ChunkJoltsLittle c p aux rows h → raised JERK (tripsIn (chunkAnswer c p aux rows h d e room)) ≡ false
-  pub reach-touched : ChunkInReach c p aux rows → raised REACH (tripsIn (chunkAnswer c p aux rows h d e room)) ≡ false
-  pub all-touched : ChunkWithin c p aux rows h → tripsIn (chunkAnswer c p aux rows h d e room) ≡ 0
+pub record ChunkTouched (f : Format) (c : FuseConfig) (t : Tables) (p aux rows : List Float) (h d e room : ℕ) : Type 0 where
+  pub workspace-touched : ChunkInBox f c p aux rows h → raised WORKSPACE (tripsIn (chunkAnswer f c t p aux rows h d e room)) ≡ false
+  pub speed-touched : ChunkSlowEnough f c p aux rows h → raised SPEED (tripsIn (chunkAnswer f c t p aux rows h d e room)) ≡ false
+  pub contact-touched : ChunkSlowInZone f c p aux rows h → raised CONTACT (tripsIn (chunkAnswer f c t p aux rows h d e room)) ≡ false
+  pub accel-touched : ChunkBendsLittle f c p aux rows h → raised ACCEL (tripsIn (chunkAnswer f c t p aux rows h d e room)) ≡ false
+  pub jerk-touched : ChunkJoltsLittle f c p aux rows h → raised JERK (tripsIn (chunkAnswer f c t p aux rows h d e room)) ≡ false
+  pub reach-touched : ChunkInReach f c p aux rows → raised REACH (tripsIn (chunkAnswer f c t p aux rows h d e room)) ≡ false
+  pub all-touched : ChunkWithin f c p aux rows h → tripsIn (chunkAnswer f c t p aux rows h d e room) ≡ 0
 
 -- .. nor by `check_action`
-pub record ActionTouched (c : FuseConfig) (p aux prev a : List Float) (room : ℕ) : Type 0 where
-  pub workspace-touched : ActionInBox c p aux prev a → raised WORKSPACE (tripsIn (actionAnswer c p aux prev a room)) ≡ false
-  pub speed-touched : ActionSlowEnough c p aux prev a → raised SPEED (tripsIn (actionAnswer c p aux prev a room)) ≡ false
-  pub contact-touched : ActionSlowInZone c p aux prev a → raised CONTACT (tripsIn (actionAnswer c p aux prev a room)) ≡ false
-  pub reach-touched : ActionInReach c p aux prev a → raised REACH (tripsIn (actionAnswer c p aux prev a room)) ≡ false
-  pub all-touched : ActionWithin c p aux prev a → tripsIn (actionAnswer c p aux prev a room) ≡ 0
+pub record ActionTouched (f : Format) (c : FuseConfig) (t : Tables) (p aux prev a : List Float) (room : ℕ) : Type 0 where
+  pub workspace-touched : ActionInBox f c p aux prev a → raised WORKSPACE (tripsIn (actionAnswer f c t p aux prev a room)) ≡ false
+  pub speed-touched : ActionSlowEnough f c p aux prev a → raised SPEED (tripsIn (actionAnswer f c t p aux prev a room)) ≡ false
+  pub contact-touched : ActionSlowInZone f c p aux prev a → raised CONTACT (tripsIn (actionAnswer f c t p aux prev a room)) ≡ false
+  pub reach-touched : ActionInReach f c p aux prev a → raised REACH (tripsIn (actionAnswer f c t p aux prev a room)) ≡ false
+  pub all-touched : ActionWithin f c p aux prev a → tripsIn (actionAnswer f c t p aux prev a room) ≡ 0
 
 -- with no contact configured, a call answers and writes what it does with CONTACT unarmed
-pub record AsUnarmed (c : FuseConfig) : Type 0 where
-  pub same-chunk-answer : (p aux rows : List Float) (h d e room : ℕ) → chunkAnswer (contactUnarmed c) p aux rows h d e room ≡ chunkAnswer c p aux rows h d e room
-  pub same-chunk-rows : (p aux rows : List Float) (h d e : ℕ) (l : List Float) → chunkOut (contactUnarmed c) p aux rows h d e l ≡ chunkOut c p aux rows h d e l
-  pub same-action-answer : (p aux prev a : List Float) (room : ℕ) → actionAnswer (contactUnarmed c) p aux prev a room ≡ actionAnswer c p aux prev a room
-  pub same-action-row : (p aux prev a l : List Float) → actionOut (contactUnarmed c) p aux prev a l ≡ actionOut c p aux prev a l
+pub record AsUnarmed (f : Format) (c : FuseConfig) (t : Tables) : Type 0 where
+  pub same-chunk-answer : (p aux rows : List Float) (h d e room : ℕ) → chunkAnswer f (contactUnarmed c) t p aux rows h d e room ≡ chunkAnswer f c t p aux rows h d e room
+  pub same-chunk-rows : (p aux rows : List Float) (h d e : ℕ) (l : List Float) → chunkOut f (contactUnarmed c) t p aux rows h d e l ≡ chunkOut f c t p aux rows h d e l
+  pub same-action-answer : (p aux prev a : List Float) (room : ℕ) → actionAnswer f (contactUnarmed c) t p aux prev a room ≡ actionAnswer f c t p aux prev a room
+  pub same-action-row : (p aux prev a l : List Float) → actionOut f (contactUnarmed c) t p aux prev a l ≡ actionOut f c t p aux prev a l
 
 pub record Promised : Type 0 where
-  pub chunk-may-touch : (c : FuseConfig) (p aux rows : List Float) (h d e room : ℕ) → ChunkTouched c p aux rows h d e room
-  pub action-may-touch : (c : FuseConfig) (p aux prev a : List Float) (room : ℕ) → ActionTouched c p aux prev a room
-  pub no-contact-as-unarmed : (c : FuseConfig) → c .contact ≡ None → AsUnarmed c
+  pub chunk-may-touch : (f : Format) (c : FuseConfig) (t : Tables) (p aux rows : List Float) (h d e room : ℕ) → ChunkTouched f c t p aux rows h d e room
+  pub action-may-touch : (f : Format) (c : FuseConfig) (t : Tables) (p aux prev a : List Float) (room : ℕ) → ActionTouched f c t p aux prev a room
+  pub no-contact-as-unarmed : (f : Format) (c : FuseConfig) (t : Tables) → c .contact ≡ None → AsUnarmed f c t

@@ -1,14 +1,13 @@
 // Tier 0: the geometric limits, on rows as they came, and the projection of each row inside them.
 ghost use mathlib.Core.Path.{_≡_};
-ghost use mathlib.Core.List.{List};
 ghost use Prim.Native.Nat.{_*_, _≤_, _<_};
 ghost use lib.ListN.{length};
-ghost use lib.Ieee.{Float, binary64};
-ghost use Rattle.envelope.specs.Whole.{whole};
+ghost use lib.Ieee.{binary64};
+ghost use Rattle.conformal.specs.Of.{tables};
 ghost use Rattle.tier0.specs.declared.Check.the-variants.{Passed};
 ghost use Rattle.tier0.specs.Rule.{checkAction};
 ghost use Rattle.tier0.specs.Chunk.{checkChunk};
-ghost use Rattle.tier0.specs.Of.{checksOf, verdictFrom, rulingFrom, actionAnswer, actionOut, chunkAnswer, chunkOut};
+ghost use Rattle.tier0.specs.Of.{checksFrom, verdictFrom, rulingFrom, actionAnswer, actionOut, chunkAnswer, chunkOut};
 use crate::measure::armed;
 use crate::measure::raw_row;
 use crate::measure::start_row;
@@ -24,8 +23,8 @@ use crate::trips::trip_bits;
 use crate::zone::slow_zone;
 use envelope::ClampMode;
 use envelope::Contact;
+use envelope::Derived;
 use envelope::FuseConfig;
-use envelope::Settings;
 use envelope::TripMask;
 use refusal::Refusal;
 use workspace::Workspace;
@@ -129,12 +128,11 @@ pub struct Ruling {
     pub sound: bool,
 }
 
-// What the checks read of settings; the calibration's tables are not read.
-fn checks_of(c: Settings) -> Checks
-    ensures { λ r. ⌜ ((t u : List Float) → r ≡ checksOf (whole c t u)) ⌝ }
+// What the checks read of a configuration and of what is derived from it.
+fn checks_of(c: FuseConfig, d: Derived) -> Checks
+    ensures { λ r. ⌜ r ≡ checksFrom c d ⌝ }
 {
     let l = c.limits;
-    let d = envelope::derive_from(l, c.norm, c.walls, c.dim, c.pos_dim);
     let contact = c.contact;
     let clamp = c.clamp;
     let lo = d.box_lo;
@@ -202,24 +200,26 @@ fn judge_action(s: Checks, pos: &[f64], aux: &[f64], prev: &[f64], a: &[f64]) ->
     }
 }
 
-// `check_action` of settings and lent tables.
-pub fn check_action_with<'a>(
-    c: Settings,
-    center: &'a [f64; 192],
-    scale: &'a [f64; 192],
+// The check of the action a against its predecessor: which limits it exceeds, its speed, and, in out, its projection; the
+// rest of out stays. A refusal, by the lowest number that applies, leaves out as it was.
+pub fn check_action(
+    c: FuseConfig,
+    center: &[f64; 192],
+    scale: &[f64; 192],
     pos: &[f64],
     aux: &[f64],
     prev: &[f64],
     a: &[f64],
     out: &mut [f64],
 ) -> Check
-    ensures { λ r. ⌜ (r ≡ actionAnswer (whole c (now (center .entry)) (now (scale .entry))) (now (pos .entry)) (now (aux .entry)) (now (prev .entry)) (now (a .entry)) (length (now (out .entry)))) × (now (out .exit) ≡ actionOut (whole c (now (center .entry)) (now (scale .entry))) (now (pos .entry)) (now (aux .entry)) (now (prev .entry)) (now (a .entry)) (now (out .entry))) ⌝ }
+    ensures { λ r. ⌜ (r ≡ actionAnswer binary64 c (tables (now (center .entry)) (now (scale .entry))) (now (pos .entry)) (now (aux .entry)) (now (prev .entry)) (now (a .entry)) (length (now (out .entry)))) × (now (out .exit) ≡ actionOut binary64 c (tables (now (center .entry)) (now (scale .entry))) (now (pos .entry)) (now (aux .entry)) (now (prev .entry)) (now (a .entry)) (now (out .entry))) ⌝ }
 {
-    let number = action_refusal(c, center, scale, pos, aux, prev, a, out.len());
+    let compiled = envelope::compile(c, center, scale);
+    let number = action_refusal(c, compiled.number, pos, aux, prev, a, out.len());
     if number != 0 {
         return Check::Refused(Refusal::of(number));
     }
-    let s = checks_of(c);
+    let s = checks_of(c, compiled.derived);
     let v = judge_action(s, pos, aux, prev, a);
     if !v.sound {
         return Check::Refused(Refusal::of(Refusal::COMPUTED));
@@ -227,22 +227,6 @@ pub fn check_action_with<'a>(
     let at = v.at;
     fmath::put(&at, c.dim, out);
     found(v.trips, v.mask, v.peak)
-}
-
-// The check of the action a against its predecessor: which limits it exceeds, its speed, and, in out, its projection; the
-// rest of out stays. A refusal, by the lowest number that applies, leaves out as it was.
-pub fn check_action(
-    c: FuseConfig,
-    pos: &[f64],
-    aux: &[f64],
-    prev: &[f64],
-    a: &[f64],
-    out: &mut [f64],
-) -> Check
-    ensures { λ r. ⌜ (r ≡ actionAnswer c (now (pos .entry)) (now (aux .entry)) (now (prev .entry)) (now (a .entry)) (length (now (out .entry)))) × (now (out .exit) ≡ actionOut c (now (pos .entry)) (now (aux .entry)) (now (prev .entry)) (now (a .entry)) (now (out .entry))) ⌝ }
-{
-    let s = envelope::settings_of(c);
-    check_action_with(s, &c.calib.center, &c.calib.scale, pos, aux, prev, a, out)
 }
 
 // ---- the check of a chunk
@@ -287,11 +271,12 @@ fn judge_chunk(
     }
 }
 
-// `check_chunk` of settings and lent tables.
-pub fn check_chunk_with<'a>(
-    c: Settings,
-    center: &'a [f64; 192],
-    scale: &'a [f64; 192],
+// The check of a chunk of rows: which limits they exceed, the greatest speed, and, in out, the projected rows; the rest of
+// out stays. A refusal, by the lowest number that applies, leaves out as it was.
+pub fn check_chunk(
+    c: FuseConfig,
+    center: &[f64; 192],
+    scale: &[f64; 192],
     pos: &[f64],
     aux: &[f64],
     rows: &[f64],
@@ -300,12 +285,12 @@ pub fn check_chunk_with<'a>(
     exec_steps: u16,
     out: &mut [f64],
 ) -> Check
-    ensures { λ r. ⌜ (r ≡ chunkAnswer (whole c (now (center .entry)) (now (scale .entry))) (now (pos .entry)) (now (aux .entry)) (now (rows .entry)) horizon dim «exec_steps» (length (now (out .entry)))) × (now (out .exit) ≡ chunkOut (whole c (now (center .entry)) (now (scale .entry))) (now (pos .entry)) (now (aux .entry)) (now (rows .entry)) horizon dim «exec_steps» (now (out .entry))) ⌝ }
+    ensures { λ r. ⌜ (r ≡ chunkAnswer binary64 c (tables (now (center .entry)) (now (scale .entry))) (now (pos .entry)) (now (aux .entry)) (now (rows .entry)) horizon dim «exec_steps» (length (now (out .entry)))) × (now (out .exit) ≡ chunkOut binary64 c (tables (now (center .entry)) (now (scale .entry))) (now (pos .entry)) (now (aux .entry)) (now (rows .entry)) horizon dim «exec_steps» (now (out .entry))) ⌝ }
 {
+    let compiled = envelope::compile(c, center, scale);
     let number = chunk_refusal(
         c,
-        center,
-        scale,
+        compiled.number,
         pos,
         aux,
         rows,
@@ -317,7 +302,7 @@ pub fn check_chunk_with<'a>(
     if number != 0 {
         return Check::Refused(Refusal::of(number));
     }
-    let s = checks_of(c);
+    let s = checks_of(c, compiled.derived);
     let h = horizon as usize;
     let mut all = [0.0; 512];
     let v = judge_chunk(s, pos, aux, rows, h, &mut all);
@@ -326,33 +311,4 @@ pub fn check_chunk_with<'a>(
     }
     fmath::put(&all, h * c.dim, out);
     found(v.trips, v.mask, v.peak)
-}
-
-// The check of a chunk of rows: which limits they exceed, the greatest speed, and, in out, the projected rows; the rest of
-// out stays. A refusal, by the lowest number that applies, leaves out as it was.
-pub fn check_chunk(
-    c: FuseConfig,
-    pos: &[f64],
-    aux: &[f64],
-    rows: &[f64],
-    horizon: u16,
-    dim: u16,
-    exec_steps: u16,
-    out: &mut [f64],
-) -> Check
-    ensures { λ r. ⌜ (r ≡ chunkAnswer c (now (pos .entry)) (now (aux .entry)) (now (rows .entry)) horizon dim «exec_steps» (length (now (out .entry)))) × (now (out .exit) ≡ chunkOut c (now (pos .entry)) (now (aux .entry)) (now (rows .entry)) horizon dim «exec_steps» (now (out .entry))) ⌝ }
-{
-    let s = envelope::settings_of(c);
-    check_chunk_with(
-        s,
-        &c.calib.center,
-        &c.calib.scale,
-        pos,
-        aux,
-        rows,
-        horizon,
-        dim,
-        exec_steps,
-        out,
-    )
 }

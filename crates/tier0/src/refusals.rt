@@ -1,16 +1,16 @@
 // The number that what is lent is refused with.
 ghost use mathlib.Core.Path.{_≡_};
-ghost use mathlib.Core.List.{List, [], _∷_, _++_};
+ghost use mathlib.Core.List.{[], _∷_, _++_};
 ghost use lib.ListN.{length};
-ghost use lib.Ieee.{Float};
+ghost use lib.Ieee.{binary64};
 ghost use Rattle.refusal.specs.Order.{refusal};
 ghost use Rattle.fmath.specs.Answer.{someLentNotFinite};
 ghost use Rattle.chunk.specs.Refusals.{chunkReasons};
+ghost use Rattle.conformal.specs.Rule.{Tables};
 ghost use Rattle.envelope.specs.Refusals.{configJudged};
-ghost use Rattle.envelope.specs.Whole.{whole};
 ghost use Rattle.tier0.specs.Refusals.{tooShort, chunkTooShort};
 ghost use Rattle.tier0.specs.Of.{lentToAction, lentToChunk};
-use envelope::Settings;
+use envelope::FuseConfig;
 use refusal::Refusal;
 
 // Whether a lent slice is shorter than the configuration asks.
@@ -32,19 +32,17 @@ fn not_finite(pos: &[f64], aux: &[f64], prev: &[f64], a: &[f64]) -> bool
 }
 
 // The number for what is lent: the configuration's own, then 11, then 12; 0 where there is none.
-pub(crate) fn action_refusal<'a>(
-    c: Settings,
-    center: &'a [f64; 192],
-    scale: &'a [f64; 192],
+pub(crate) fn action_refusal(
+    c: FuseConfig,
+    number: u8,
     pos: &[f64],
     aux: &[f64],
     prev: &[f64],
     a: &[f64],
     room: usize,
 ) -> u8
-    ensures { λ r. ⌜ r ≡ refusal (configJudged (whole c (now (center .entry)) (now (scale .entry))) ++ lentToAction (whole c (now (center .entry)) (now (scale .entry))) (now (pos .entry)) (now (aux .entry)) (now (prev .entry)) (now (a .entry)) room []) ⌝ }
+    ensures { λ r. ⌜ ((t : Tables) → number ≡ refusal (configJudged binary64 c t) → r ≡ refusal (configJudged binary64 c t ++ lentToAction c (now (pos .entry)) (now (aux .entry)) (now (prev .entry)) (now (a .entry)) room [])) ⌝ }
 {
-    let number = envelope::settings_refusal(c, center, scale);
     if number != 0 {
         return number;
     }
@@ -66,7 +64,7 @@ fn chunk_too_short(pos_dim: usize, pos: usize, size: usize, room: usize) -> bool
 
 // The number for what is lent with a chunk whose configuration and sizes are accepted: 10, then 11, then 12.
 fn rows_refusal(
-    c: Settings,
+    c: FuseConfig,
     pos: &[f64],
     aux: &[f64],
     rows: &[f64],
@@ -74,7 +72,7 @@ fn rows_refusal(
     dim: u16,
     room: usize,
 ) -> u8
-    ensures { λ r. ⌜ ((t u : List Float) → r ≡ refusal (lentToChunk (whole c t u) (now (pos .entry)) (now (aux .entry)) (now (rows .entry)) horizon dim 0 room [])) ⌝ }
+    ensures { λ r. ⌜ r ≡ refusal (lentToChunk c (now (pos .entry)) (now (aux .entry)) (now (rows .entry)) horizon dim room []) ⌝ }
 {
     let h = horizon as usize;
     let d = dim as usize;
@@ -91,10 +89,9 @@ fn rows_refusal(
 }
 
 // The number for a chunk: the configuration's own, then the sizes', then what is lent; 0 where there is none.
-pub(crate) fn chunk_refusal<'a>(
-    c: Settings,
-    center: &'a [f64; 192],
-    scale: &'a [f64; 192],
+pub(crate) fn chunk_refusal(
+    c: FuseConfig,
+    number: u8,
     pos: &[f64],
     aux: &[f64],
     rows: &[f64],
@@ -103,9 +100,8 @@ pub(crate) fn chunk_refusal<'a>(
     exec_steps: u16,
     room: usize,
 ) -> u8
-    ensures { λ r. ⌜ r ≡ refusal (configJudged (whole c (now (center .entry)) (now (scale .entry))) ++ (chunkReasons horizon dim «exec_steps» (length (now (rows .entry))) ++ lentToChunk (whole c (now (center .entry)) (now (scale .entry))) (now (pos .entry)) (now (aux .entry)) (now (rows .entry)) horizon dim «exec_steps» room [])) ⌝ }
+    ensures { λ r. ⌜ ((t : Tables) → number ≡ refusal (configJudged binary64 c t) → r ≡ refusal (configJudged binary64 c t ++ (chunkReasons horizon dim «exec_steps» (length (now (rows .entry))) ++ lentToChunk c (now (pos .entry)) (now (aux .entry)) (now (rows .entry)) horizon dim room []))) ⌝ }
 {
-    let number = envelope::settings_refusal(c, center, scale);
     if number != 0 {
         return number;
     }

@@ -73,7 +73,7 @@ pub(crate) fn trip_bits(
 // The steps of the first h rows: the greatest, and which limits of a single step they exceed.
 pub(crate) fn step_rows(s: Checks, slow: f64, q: [f64; 8], rows: &[f64], h: usize) -> Stride
     requires { ⌜ (s .dim ≤ 8) × (h ≤ 64) × (h * s .dim ≤ length (now rows)) ⌝ }
-    ensures { λ r. ⌜ r ≡ stepsFrom s slow q (now (rows .entry)) h ⌝ }
+    ensures { λ r. ⌜ r ≡ stepsFrom binary64 s slow q (now (rows .entry)) h ⌝ }
 {
     let mut peak = 0.0;
     let mut fast = false;

@@ -1,36 +1,54 @@
--- `tier0::check_action` meets its contract: settings with their own tables are the configuration.
-use mathlib.Core.Path.{_≡_}
-use mathlib.Core.List.{List}
-use lib.ListN.{length}
-use lib.Ieee.{Float}
+-- `tier0::check_action` meets its contract: refused by what is lent, refused by a computed number, or passed.
+use mathlib.Core.Path.{sym, _∙_}
+use native.Mathlib.Nat.{le-of-eq}
+use borrow.Author.Tests.{not-true, not-false}
 use denote.Ref.{now}
-use Rattle.envelope.specs.declared.Settings.{Settings}
-use Rattle.envelope.specs.declared.FuseConfig.{FuseConfig}
-use Rattle.envelope.specs.Whole.{whole, settingsOf}
-use Rattle.tier0.specs.declared.Check.{Check}
-use Rattle.tier0.specs.Of.{actionAnswer, actionOut}
+use lib.Ieee.{binary64}
+use Rattle.tier0.proofs.Refused.{checks-are, accepted-sizes, sized-checks, lent-refused, not-sound, passes}
+use Rattle.conformal.specs.Of.{tables}
+use Rattle.envelope.proofs.Accepted.{compiled-number, compiled-derived}
 use borrow.Author.Needs.{needs}
 use Rattle.tier0.proofs.check_action.Statement.{statement}
 use Rattle.tier0.proofs.check_action.Tie as tie
 
-own-tables : (c : FuseConfig) (p aux prev a : List Float) (l : List Float) (s : Settings) {r : Check} {o : List Float}
-    → (r ≡ actionAnswer (whole s (c .calib .center) (c .calib .scale)) p aux prev a (length l)) × (o ≡ actionOut (whole s (c .calib .center) (c .calib .scale)) p aux prev a l)
-    → s ≡ settingsOf c
-    → (r ≡ actionAnswer c p aux prev a (length l)) × (o ≡ actionOut c p aux prev a l)
-own-tables c p aux prev a l s e q = rw q at e
+compile-requires : tie.Need-compile-requires
+compile-requires c κs = search needs
 
-settings-of-requires : tie.Need-settings-of-requires
-settings-of-requires c κs = search needs
+action-refusal-requires : tie.Need-action-refusal-requires
+action-refusal-requires c κs = search needs
 
-check-action-with-requires : tie.Need-check-action-with-requires
-check-action-with-requires c κs = search needs
+of-requires : tie.Need-of-requires
+of-requires c κs = search needs
+
+returns : tie.Need-returns
+returns c = let g = c .before .before .before .before .before .before .before .before .before .args in let w = lent-refused binary64 (g .c) (tables (now (g .center)) (now (g .scale))) (now (g .pos)) (now (g .aux)) (now (g .prev)) (now (g .a)) (now (g .out)) _ (c .before .before .action-refusal .ensures _ (compiled-number (c .before .before .before .compile .ensures))) (c .before .if1 .taken) (c .of .ensures) in (w .gives, w .leaves)
+
+checks-of-requires : tie.Need-checks-of-requires
+checks-of-requires c κs = search needs
+
+judge-action-requires : tie.Need-judge-action-requires
+judge-action-requires c κs = let g = c .before .before .before .before .before .before .before .before .before .args in sized-checks binary64 (g .c) (now (g .pos)) (now (g .prev)) (now (g .a)) _ (checks-are binary64 (g .c) (c .checks-of .ensures) (compiled-derived (c .before .before .before .compile .ensures))) (accepted-sizes binary64 (g .c) (tables (now (g .center)) (now (g .scale))) (now (g .pos)) (now (g .aux)) (now (g .prev)) (now (g .a)) _ (sym (c .before .before .action-refusal .ensures _ (compiled-number (c .before .before .before .compile .ensures))) ∙ c .before .if1 .left))
+
+of-requires-2 : tie.Need-of-requires-2
+of-requires-2 c κs = search needs
+
+returns-2 : tie.Need-returns-2
+returns-2 c = let g = c .before .before .before .before .before .before .before .before .before .before .before .before .before .args in let w = not-sound binary64 (g .c) (tables (now (g .center)) (now (g .scale))) (now (g .pos)) (now (g .aux)) (now (g .prev)) (now (g .a)) (now (g .out)) (sym (c .before .before .before .before .before .before .action-refusal .ensures _ (compiled-number (c .before .before .before .before .before .before .before .compile .ensures))) ∙ c .before .before .before .before .before .if1 .left) (checks-are binary64 (g .c) (c .before .before .before .before .checks-of .ensures) (compiled-derived (c .before .before .before .before .before .before .before .compile .ensures))) (c .before .before .before .judge-action .ensures) (not-true _ (c .before .if2 .taken)) (c .of2 .ensures) in (w .gives, w .leaves)
+
+slice-aggregate-put : tie.Need-slice-aggregate-put
+slice-aggregate-put c = let ok = c .before .before .before .before .judge-action .ok in search needs
+
+put-requires : tie.Need-put-requires
+put-requires c κs = search needs
+
+found-requires : tie.Need-found-requires
+found-requires c κs = search needs
 
 same-length : tie.Need-same-length
 same-length c = search needs
 
-returns : tie.Need-returns
-returns c = let g = c .before .before .before .before .before .before .before .before .before .before .before .before .before .args in own-tables (g .t1) (now (g .pos)) (now (g .aux)) (now (g .prev)) (now (g .a)) (now (g .out)) _ (c .before .before .check-action-with .ensures) (c .before .before .before .before .before .before .before .settings-of .ensures)
+returns-3 : tie.Need-returns-3
+returns-3 c = let g = c .before .before .before .before .before .before .before .before .before .before .before .before .before .before .before .before .before .before .before .args in let w = passes binary64 (g .c) (tables (now (g .center)) (now (g .scale))) (now (g .pos)) (now (g .aux)) (now (g .prev)) (now (g .a)) (now (g .out)) (sym (c .before .before .before .before .before .before .before .before .before .before .before .before .action-refusal .ensures _ (compiled-number (c .before .before .before .before .before .before .before .before .before .before .before .before .before .compile .ensures))) ∙ c .before .before .before .before .before .before .before .before .before .before .before .if1 .left) (checks-are binary64 (g .c) (c .before .before .before .before .before .before .before .before .before .before .checks-of .ensures) (compiled-derived (c .before .before .before .before .before .before .before .before .before .before .before .before .before .compile .ensures))) (c .before .before .before .before .before .before .before .before .before .judge-action .ensures) (not-false _ (c .before .before .before .before .before .before .before .if2 .left)) (c .before .before .before .put .ensures) (le-of-eq (slice-aggregate-put (c .before .before .before .before .before))) in (c .found .ensures ∙ w .gives, w .leaves)
 
 pub check-action-spec : {M : Type 1} → statement M
-check-action-spec =
-    tie.close (tie.spec settings-of-requires check-action-with-requires same-length returns)
+check-action-spec = tie.close (tie.spec compile-requires action-refusal-requires of-requires returns checks-of-requires judge-action-requires of-requires-2 returns-2 slice-aggregate-put put-requires found-requires same-length returns-3)

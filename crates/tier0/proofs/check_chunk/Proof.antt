@@ -1,37 +1,81 @@
--- `tier0::check_chunk` meets its contract: settings with their own tables are the configuration.
-use Prim.Native.Nat.{ℕ}
-use mathlib.Core.Path.{_≡_}
-use mathlib.Core.List.{List}
-use lib.ListN.{length}
-use lib.Ieee.{Float}
+-- `tier0::check_chunk` meets its contract: refused by what is lent, refused by a computed number, or passed.
+use mathlib.Core.Path.{refl, sym, _∙_}
+use native.Mathlib.Nat.{le-of-eq}
+use native.Mathlib.Omega.{arith}
+use borrow.Author.Tests.{not-true, not-false}
 use denote.Ref.{now}
-use Rattle.envelope.specs.declared.Settings.{Settings}
-use Rattle.envelope.specs.declared.FuseConfig.{FuseConfig}
-use Rattle.envelope.specs.Whole.{whole, settingsOf}
-use Rattle.tier0.specs.declared.Check.{Check}
-use Rattle.tier0.specs.Of.{chunkAnswer, chunkOut}
+use lib.Ieee.{binary64, ofBits}
+use Rattle.tier0.proofs.Refused.{checks-are}
+use Rattle.tier0.proofs.ChunkRefused.{accepted-sizes, sized-checks, lent-refused, not-sound, passes}
+use Rattle.conformal.specs.Of.{tables}
+use Rattle.envelope.proofs.Accepted.{compiled-number, compiled-derived}
 use borrow.Author.Needs.{needs}
 use Rattle.tier0.proofs.check_chunk.Statement.{statement}
 use Rattle.tier0.proofs.check_chunk.Tie as tie
 
-own-tables : (c : FuseConfig) (p aux rows : List Float) (h d e : ℕ) (l : List Float) (s : Settings) {r : Check} {o : List Float}
-    → (r ≡ chunkAnswer (whole s (c .calib .center) (c .calib .scale)) p aux rows h d e (length l)) × (o ≡ chunkOut (whole s (c .calib .center) (c .calib .scale)) p aux rows h d e l)
-    → s ≡ settingsOf c
-    → (r ≡ chunkAnswer c p aux rows h d e (length l)) × (o ≡ chunkOut c p aux rows h d e l)
-own-tables c p aux rows h d e l s w q = rw q at w
+compile-requires : tie.Need-compile-requires
+compile-requires c κs = search needs
 
-settings-of-requires : tie.Need-settings-of-requires
-settings-of-requires c κs = search needs
+chunk-refusal-requires : tie.Need-chunk-refusal-requires
+chunk-refusal-requires c κs = search needs
 
-check-chunk-with-requires : tie.Need-check-chunk-with-requires
-check-chunk-with-requires c κs = search needs
+of-requires : tie.Need-of-requires
+of-requires c κs = search needs
+
+returns : tie.Need-returns
+returns c = let g = c .before .before .before .before .before .before .before .before .args in let w = lent-refused binary64 (g .c) (tables (now (g .center)) (now (g .scale))) (now (g .pos)) (now (g .aux)) (now (g .rows)) (g .horizon) (g .dim) (g .exec-steps) (now (g .out)) _ (c .before .before .chunk-refusal .ensures _ (compiled-number (c .before .before .before .compile .ensures))) (c .before .if1 .taken) (c .of .ensures) in (w .gives, w .leaves)
+
+checks-of-requires : tie.Need-checks-of-requires
+checks-of-requires c κs = search needs
+
+slice-aggregate-judge-chunk : tie.Need-slice-aggregate-judge-chunk
+slice-aggregate-judge-chunk c = search needs
+
+judge-chunk-requires : tie.Need-judge-chunk-requires
+judge-chunk-requires c κs = let g = c .before .before .before .before .before .before .before .before .before .args in sized-checks binary64 (g .c) (now (g .pos)) (now (g .rows)) (g .horizon) _ (checks-are binary64 (g .c) (c .before .checks-of .ensures) (compiled-derived (c .before .before .before .before .compile .ensures))) (accepted-sizes binary64 (g .c) (tables (now (g .center)) (now (g .scale))) (now (g .pos)) (now (g .aux)) (now (g .rows)) (g .horizon) (g .dim) (g .exec-steps) _ (sym (c .before .before .before .chunk-refusal .ensures _ (compiled-number (c .before .before .before .before .compile .ensures))) ∙ c .before .before .if1 .left))
+
+of-requires-2 : tie.Need-of-requires-2
+of-requires-2 c κs = search needs
+
+returns-2 : tie.Need-returns-2
+unfolding ofBits
+returns-2 c = let g = c .before .before .before .before .before .before .before .before .before .before .before .before .before .before .args in let w = not-sound binary64 (g .c) (tables (now (g .center)) (now (g .scale))) (now (g .pos)) (now (g .aux)) (now (g .rows)) (g .horizon) (g .dim) (g .exec-steps) (now (g .out)) (sym (c .before .before .before .before .before .before .before .before .chunk-refusal .ensures _ (compiled-number (c .before .before .before .before .before .before .before .before .before .compile .ensures))) ∙ c .before .before .before .before .before .before .before .if1 .left) (checks-are binary64 (g .c) (c .before .before .before .before .before .before .checks-of .ensures) (compiled-derived (c .before .before .before .before .before .before .before .before .before .compile .ensures))) refl (c .before .before .before .before .judge-chunk .ensures) (not-true _ (c .before .if2 .taken)) (c .of2 .ensures) in (w .gives, w .leaves)
+
+slice-aggregate-put : tie.Need-slice-aggregate-put
+slice-aggregate-put c = search needs
+
+mul-put : tie.Need-mul-put
+mul-put c = let g = c .before .before .before .before .before .before .before .before .before .before .before .before .before .before .before .args in let w = accepted-sizes binary64 (g .c) (tables (now (g .center)) (now (g .scale))) (now (g .pos)) (now (g .aux)) (now (g .rows)) (g .horizon) (g .dim) (g .exec-steps) _ (sym (c .before .before .before .before .before .before .before .before .before .chunk-refusal .ensures _ (compiled-number (c .before .before .before .before .before .before .before .before .before .before .compile .ensures))) ∙ c .before .before .before .before .before .before .before .before .if1 .left) in let k = w .small in omega arith
+
+put-requires : tie.Need-put-requires
+put-requires c κs = search needs
+
+found-requires : tie.Need-found-requires
+found-requires c κs = search needs
 
 same-length : tie.Need-same-length
 same-length c = search needs
 
-returns : tie.Need-returns
-returns c = let g = c .before .before .before .before .before .before .before .before .before .before .before .before .args in own-tables (g .t1) (now (g .pos)) (now (g .aux)) (now (g .rows)) (g .horizon) (g .dim) (g .exec-steps) (now (g .out)) _ (c .before .before .check-chunk-with .ensures) (c .before .before .before .before .before .before .before .settings-of .ensures)
+returns-3 : tie.Need-returns-3
+unfolding ofBits
+returns-3 c = let g = c .before .before .before .before .before .before .before .before .before .before .before .before .before .before .before .before .before .before .before .before .args in let w = passes binary64 (g .c) (tables (now (g .center)) (now (g .scale))) (now (g .pos)) (now (g .aux)) (now (g .rows)) (g .horizon) (g .dim) (g .exec-steps) (now (g .out)) (sym (c .before .before .before .before .before .before .before .before .before .before .before .before .before .before .chunk-refusal .ensures _ (compiled-number (c .before .before .before .before .before .before .before .before .before .before .before .before .before .before .before .compile .ensures))) ∙ c .before .before .before .before .before .before .before .before .before .before .before .before .before .if1 .left) (checks-are binary64 (g .c) (c .before .before .before .before .before .before .before .before .before .before .before .before .checks-of .ensures) (compiled-derived (c .before .before .before .before .before .before .before .before .before .before .before .before .before .before .before .compile .ensures))) refl (c .before .before .before .before .before .before .before .before .before .before .judge-chunk .ensures) (not-false _ (c .before .before .before .before .before .before .before .if2 .left)) (c .before .before .before .put .ensures) (le-of-eq (slice-aggregate-put (c .before .before .before .before .before .before))) in (c .found .ensures ∙ w .gives, w .leaves)
 
 pub check-chunk-spec : {M : Type 1} → statement M
 check-chunk-spec =
-    tie.close (tie.spec settings-of-requires check-chunk-with-requires same-length returns)
+    tie.close
+    (tie.spec
+    compile-requires
+    chunk-refusal-requires
+    of-requires
+    returns
+    checks-of-requires
+    slice-aggregate-judge-chunk
+    judge-chunk-requires
+    of-requires-2
+    returns-2
+    slice-aggregate-put
+    mul-put
+    put-requires
+    found-requires
+    same-length
+    returns-3)

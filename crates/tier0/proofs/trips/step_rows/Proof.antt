@@ -56,7 +56,7 @@ loop-again : tie.Need-loop-again Inv-loop μ-loop
 loop-again c = let l = c .before .before .before .before .before .before .before .before .before .before .before .loop in (omega (arith, c .before .before .before .before .before .before .before .before .before .before .loop-test .taken), (l .inv .1 .0, stride binary64 _ _ _ _ _ _ _ _ _ _ (l .inv .1 .1) (c .before .before .before .before .before .before .before .before .before .raw-row .ensures) (c .before .before .before .before .before .before .before .before .row-before .ensures) (c .before .before .before .before .before .distance .ensures) (c .before .before .before .before .max .ensures) (c .before .out-of-box .ensures) (c .finite .ensures)))
 
 returns : tie.Need-returns Inv-loop μ-loop
-returns c = let l = c .before .loop in let g = c .before .before .before .args in strides-are (g .s) (g .slow) _ _ (le-antisymm (l .inv .0) (c .loop-test .left)) (l .inv .1 .1)
+returns c = let l = c .before .loop in let g = c .before .before .before .args in strides-are binary64 (g .s) (g .slow) _ _ (le-antisymm (l .inv .0) (c .loop-test .left)) (l .inv .1 .1)
 
 pub step-rows-spec : {M : Type 1} → statement M
 step-rows-spec =
