@@ -5,10 +5,10 @@ ghost use Prim.Native.Nat.{_+_, _*_, _≤_, _<_};
 ghost use lib.Dec.{leb, ltb};
 ghost use lib.ListN.{length};
 ghost use lib.Ieee.{binary64};
-ghost use Rattle.fmath.specs.Checked.{pure};
-ghost use Rattle.fmath.specs.Finite.{+0};
+ghost use Rattle.checked.specs.Checked.{pure};
+ghost use Rattle.checked.specs.Finite.{+0};
 ghost use Rattle.tier1.specs.Rule.{shared, tce, acc, acmNeg, njr, reach, speedPeak, overlap, boundaryAt, ifThere, boundary, boundaryBits};
-ghost use Rattle.conformal.specs.Bits.{bitsWhere};
+ghost use Rattle.bits.specs.Bits.{bitsWhere};
 ghost use Rattle.tier1.specs.Of.{featureFrom, pairFrom, metFrom, boundaryFrom};
 use crate::EPS;
 use crate::Feature;
@@ -171,11 +171,11 @@ fn speed_peak(m: Manifest, pos: &[f64], b: &[f64], h: usize) -> Feature
 fn boundary_bits(l: usize, h: usize, n: usize) -> u32
     ensures { λ r. ⌜ r ≡ bitsWhere (boundaryAt l h n) 6 ⌝ }
 {
-    let a = conformal::weight(2 <= l, TCE);
-    let b = conformal::weight(2 <= l, ACC);
-    let c = conformal::weight(2 <= h, ACM_NEG);
-    let d = conformal::weight(4 <= h, NJR);
-    let e = conformal::weight(0 < n, REACH);
+    let a = bits::weight(2 <= l, TCE);
+    let b = bits::weight(2 <= l, ACC);
+    let c = bits::weight(2 <= h, ACM_NEG);
+    let d = bits::weight(4 <= h, NJR);
+    let e = bits::weight(0 < n, REACH);
     a + b + c + d + e + SPEED_PEAK
 }
 

@@ -91,7 +91,7 @@ fn gathered(
     while j < Feat::COUNT {
         let on = valid_at(held_valid, len, ext.len(), j, w);
         f[j] = feature_at(on, &held, &trail, ext, j);
-        valid += conformal::weight(on, w);
+        valid += bits::weight(on, w);
         w *= 2;
         j += 1;
     }

@@ -5,8 +5,8 @@ use native.Mathlib.Nat.{le-antisymm}
 use native.Mathlib.Omega.{arith}
 use denote.Ref.{now}
 use lib.Ieee.{binary64, ofBits}
-use Rattle.fmath.specs.Checked.{sumFrom}
-use Rattle.fmath.proofs.Sums.{sum-more}
+use Rattle.checked.specs.Checked.{sumFrom}
+use Rattle.checked.proofs.Sums.{sum-more}
 use Rattle.tier1.specs.Rule.{normal, jolt}
 use borrow.Author.Needs.{needs}
 use Rattle.tier1.proofs.sums.row_jolts.Statement.{statement}

@@ -3,7 +3,7 @@ use mathlib.Core.Path.{_∙_}
 use native.Mathlib.Omega.{arith}
 use borrow.Author.Needs.{needs}
 use denote.Ref.{now}
-use Rattle.fmath.proofs.Copy.{all-put, all-padded}
+use Rattle.checked.proofs.Copy.{all-put, all-padded}
 use Rattle.tier1.specs.Rule.{startRow}
 use Rattle.tier1.proofs.sums.start_row.Statement.{statement}
 use Rattle.tier1.proofs.sums.start_row.Tie as tie

@@ -7,9 +7,9 @@ use denote.Ref.{now}
 use lib.Ieee.{binary64, ofBits}
 use lib.ListN.{length}
 use Rattle.root.specs.Root.{rootOf}
-use Rattle.fmath.specs.Checked.{sumFrom}
-use Rattle.fmath.specs.Finite.{+0}
-use Rattle.fmath.proofs.Sums.{sum-more}
+use Rattle.checked.specs.Checked.{sumFrom}
+use Rattle.checked.specs.Finite.{+0}
+use Rattle.checked.proofs.Sums.{sum-more}
 use Rattle.chunk.proofs.Rows.{row-fits}
 use Rattle.tier1.specs.Rule.{stepLength}
 use Rattle.tier1.proofs.Rows.{row-long}

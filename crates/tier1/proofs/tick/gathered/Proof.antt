@@ -5,10 +5,10 @@ use native.Mathlib.Omega.{arith}
 use denote.Ref.{now}
 use lib.Pow.{pow-pos}
 use lib.ListN.{length, take, length-set}
-use Rattle.fmath.specs.Each.{table}
-use Rattle.fmath.proofs.Each.{table-more, table-all}
-use Rattle.conformal.specs.Bits.{bitsWhere}
-use Rattle.conformal.proofs.Bits.{Turned, turn}
+use Rattle.checked.specs.Each.{table}
+use Rattle.checked.proofs.Each.{table-more, table-all}
+use Rattle.bits.specs.Bits.{bitsWhere}
+use Rattle.bits.proofs.Bits.{Turned, turn}
 use Rattle.envelope.specs.Derive.{kept}
 use Rattle.tier1.specs.Rule.{validAt, valueAt}
 use borrow.Author.Needs.{needs}

@@ -2,7 +2,7 @@
 use Prim.Native.Nat.{ℕ, zero, suc, _+_, _/_, _%_, _^_}
 use mathlib.Core.Bool.{Bool}
 use lib.Dec.{eqb}
-use Rattle.refusal.specs.Order.{if_then_else_}
+use Rattle.bits.specs.Choice.{if_then_else_}
 
 -- bit j of w is set
 unfoldable pub bit : ℕ → ℕ → Bool

@@ -4,7 +4,7 @@ use mathlib.Core.Bool.{Bool, true, false, _&&_}
 use mathlib.Core.List.{List}
 use lib.IntN.{pos}
 use lib.Ieee.{Float, nan, inf, fin, lt, le}
-use Rattle.fmath.specs.Each.{all, at}
+use Rattle.checked.specs.Each.{all, at}
 
 -- the zero that sums start from
 abbrev pub +0 : Float

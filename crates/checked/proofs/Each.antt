@@ -11,7 +11,7 @@ use borrow.Author.Count.{below-more}
 use lib.ListN.{length, getD, take, set, length-append, length-set, List·getD-append, List·getD-eq-default}
 use lib.Seq.{take-suc-set, take-all, set-out, getD-append-seam, getD-set-same, getD-set-other}
 use lib.Ieee.{Float, nan}
-use Rattle.fmath.specs.Each.{at, all, some, every, every-from, table, over}
+use Rattle.checked.specs.Each.{at, all, some, every, every-from, table, over}
 
 -- ---- conjunctions
 

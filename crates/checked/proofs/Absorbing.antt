@@ -4,7 +4,7 @@ use mathlib.Core.Bool.{Bool, true, false, cond}
 use lib.Dec.{eqb}
 use lib.Ieee.{Float, Format, nan, inf, fin, add, sub, mul, div, neg}
 use Rattle.root.specs.Root.{rootOf}
-use Rattle.fmath.specs.Finite.{finite}
+use Rattle.checked.specs.Finite.{finite}
 
 abbrev pub Fine : Float → Type 0
 Fine x = finite x ≡ true

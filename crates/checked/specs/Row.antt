@@ -3,8 +3,8 @@ use Prim.Native.Nat.{ℕ}
 use mathlib.Core.List.{List}
 use lib.Ieee.{Float}
 use lib.ListN.{replicate}
-use Rattle.fmath.specs.Each.{at, over}
-use Rattle.fmath.specs.Finite.{+0}
+use Rattle.checked.specs.Each.{at, over}
+use Rattle.checked.specs.Finite.{+0}
 
 -- the first n numbers of a list, and zeros up to eight
 unfoldable pub padded : List Float → ℕ → List Float

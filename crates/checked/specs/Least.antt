@@ -1,4 +1,4 @@
--- Least, greatest and clamp, as document 01's module 1 has them.
+-- The lesser and the greater of two numbers, and the least and the greatest of some.
 use Prim.Native.Nat.{ℕ, zero, suc}
 use mathlib.Core.Bool.{false, cond}
 use lib.Ieee.{Float, inf, lt}
@@ -10,10 +10,6 @@ lesser a b = cond (lt a b) a b
 -- the first where it is strictly greater, else the second
 unfoldable pub greater : Float → Float → Float
 greater a b = cond (lt b a) a b
-
--- lo if x < lo, hi if x > hi, else x
-unfoldable pub clamped : Float → Float → Float → Float
-clamped x lo hi = cond (lt x lo) lo (cond (lt hi x) hi x)
 
 -- the least of g at 0, .., n - 1, from infinity
 unfoldable pub least : (ℕ → Float) → ℕ → Float

@@ -6,12 +6,10 @@ use mathlib.Core.List.{List}
 use Prim.Native.Nat.{ℕ, zero, suc, _+_}
 use native.Mathlib.Numerals.{add-one}
 use lib.ListN.{set}
-use lib.Ieee.{Float, Format, sub}
-use Rattle.fmath.specs.Each.{at}
-use Rattle.fmath.specs.Finite.{finite, +0}
-use Rattle.fmath.specs.Checked.{Checked, sumFrom, each}
-use Rattle.fmath.specs.Norm.{squareAt, norm, squaredGap, dist}
-use Rattle.fmath.proofs.Absorbing.{Fine, fine-add-left, fine-add-right, fine-mul-left, fine-root}
+use lib.Ieee.{Float, Format}
+use Rattle.checked.specs.Finite.{finite}
+use Rattle.checked.specs.Checked.{Checked, sumFrom, each}
+use Rattle.checked.proofs.Absorbing.{Fine, fine-add-left, fine-add-right}
 
 abbrev pub Tells : Checked Float → Type 0
 Tells x = x .sound ≡ finite (x .value)
@@ -22,19 +20,11 @@ implied true z h = refl
 implied false true h = h refl
 implied false false h = refl
 
--- .. where it is itself told
-told : (x y z : Bool) → x ≡ y → (z ≡ true → y ≡ true) → (x && z) ≡ z
+-- where it is itself told
+pub told : (x y z : Bool) → x ≡ y → (z ≡ true → y ≡ true) → (x && z) ≡ z
 told x y z e h = rw e (implied y z h)
 
 module _ (f : Format) where
-  pub gap-tells : (a b : List Float) (j : ℕ) → Tells (squaredGap f a b j)
-  unfolding squaredGap
-  gap-tells a b j = implied _ _ (fine-mul-left f (sub f (at a j) (at b j)) (sub f (at a j) (at b j)))
-
-  pub square-tells : (v : List Float) (j : ℕ) → Tells (squareAt f v j)
-  unfolding squareAt
-  square-tells v j = refl
-
   pub sum-tells : (z : Float) (g : ℕ → Checked Float) → Fine z → ((j : ℕ) → Tells (g j)) → (n : ℕ) → Tells (sumFrom f z g n)
   unfolding sumFrom
   sum-tells z g h t zero = sym h
@@ -43,14 +33,6 @@ module _ (f : Format) where
       let x = g j .value in
       ap (λ (b : Bool). sumFrom f z g j .sound && b) (told _ _ _ (t j) (fine-add-right f s x))
       ∙ told _ _ _ (sum-tells z g h t j) (fine-add-left f s x)
-
-  pub dist-tells : (a b : List Float) (n : ℕ) → Tells (dist f a b n)
-  unfolding dist finite
-  dist-tells a b n = told _ _ _ (sum-tells +0 (squaredGap f a b) refl (gap-tells a b) n) (fine-root f (sumFrom f +0 (squaredGap f a b) n .value))
-
-  pub norm-tells : (v : List Float) (n : ℕ) → Tells (norm f v n)
-  unfolding norm finite
-  norm-tells v n = told _ _ _ (sum-tells +0 (squareAt f v) refl (square-tells v) n) (fine-root f (sumFrom f +0 (squareAt f v) n .value))
 
 -- one turn of a loop that puts a number over each coordinate: one test of the number that it puts there is enough
 module _ (g : ℕ → Checked Float) (l : List Float) (i : ℕ) where

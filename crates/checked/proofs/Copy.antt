@@ -8,10 +8,10 @@ use native.Mathlib.Omega.{arith}
 use lib.Ieee.{Float, nan}
 use lib.ListN.{length, getD, set, replicate}
 use lib.Seq.{paste, paste-zero, paste-suc}
-use Rattle.fmath.specs.Each.{at, over}
-use Rattle.fmath.specs.Finite.{+0}
-use Rattle.fmath.specs.Row.{padded}
-use Rattle.fmath.proofs.Each.{over-at}
+use Rattle.checked.specs.Each.{at, over}
+use Rattle.checked.specs.Finite.{+0}
+use Rattle.checked.specs.Row.{padded}
+use Rattle.checked.proofs.Each.{over-at}
 
 pub copy-more : (l₀ l r : List Float) (at j : ℕ) → at + j < length l₀ → j < length r → l ≡ paste l₀ at r j → set l (at + j) (getD r j nan) ≡ paste l₀ at r (j + 1)
 copy-more l₀ l r at j hl hr e = ap (λ (x : List Float). set x (at + j) (getD r j nan)) e ∙ paste-suc l₀ at r j nan hl hr ∙ ap (paste l₀ at r) (sym (add-one j))

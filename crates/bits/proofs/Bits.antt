@@ -7,8 +7,8 @@ use native.Mathlib.Omega.{arith}
 use native.Mathlib.Numerals.{add-one}
 use borrow.Author.Count.{below-more}
 use lib.Pow.{pow-mono, pow-pos, pow-add}
-use Rattle.refusal.specs.Order.{if_then_else_}
-use Rattle.conformal.specs.Bits.{bit, bitsWhere}
+use Rattle.bits.specs.Choice.{if_then_else_}
+use Rattle.bits.specs.Bits.{bit, bitsWhere}
 
 pub weight-most : (t : Bool) (w : ℕ) → (if t then w else 0) ≤ w
 weight-most true w = omega arith

@@ -5,9 +5,9 @@ use mathlib.Core.List.{List}
 use lib.ListN.{set}
 use lib.Ieee.{Float, Format, add, sub, mul, div}
 use Rattle.root.specs.Root.{rootOf}
-use Rattle.fmath.specs.Each.{all}
-use Rattle.fmath.specs.Finite.{finite}
-use Rattle.fmath.specs.Least.{least}
+use Rattle.checked.specs.Each.{all}
+use Rattle.checked.specs.Finite.{finite}
+use Rattle.checked.specs.Least.{least}
 
 pub record Checked (A : Type 0) : Type 0 where
   pub value : A

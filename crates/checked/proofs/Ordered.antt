@@ -11,7 +11,7 @@ use lib.Dec.{T, ltb, eqb}
 use lib.Ieee.{Float, nan, inf, fin, lt, le, eq, below, up, down, isNan}
 use lib.Ieee.Fits.{down-pos}
 use lib.Ieee.Positive.{through}
-use Rattle.fmath.specs.Finite.{finite}
+use Rattle.checked.specs.Finite.{finite}
 
 -- a number, or an infinity
 abbrev pub Real : Float → Type 0

@@ -7,8 +7,8 @@ use native.Mathlib.Omega.{arith}
 use borrow.Author.Count.{below-more}
 use mathlib.Core.Logic.{_⊎_, inl, inr}
 use lib.Ieee.{Float, nan, inf, fin, lt, isNan}
-use Rattle.fmath.specs.Least.{lesser, greater, least, greatest}
-use Rattle.fmath.proofs.Ordered.{Real, lt-not-below, lt-asymmetric, lt-irrefl}
+use Rattle.checked.specs.Least.{lesser, greater, least, greatest}
+use Rattle.checked.proofs.Ordered.{Real, lt-not-below, lt-asymmetric, lt-irrefl}
 
 -- ---- of two
 

@@ -12,10 +12,10 @@ use lib.Pow.{pow-add, pow-pos}
 use lib.Ieee.{Float, Format, nan, inf, fin, prec, emax, low, up, down, size, nearest, odd, units, round, sum, add, sub, neg, lt, below, fits}
 use lib.Ieee.Digits.{size-lt, size-reaches}
 use lib.Ieee.Exact.{HasValue, odd-sign}
-use lib.Ieee.Fits.{core, round-is, two, up-pos, down-pos, and-l, and-r}
+use lib.Ieee.Fits.{round-is, two, up-pos, down-pos, and-l, and-r}
 use lib.Ieee.Nearest.{nearest-ge}
 use lib.Ieee.Positive.{first-pos}
-use Rattle.fmath.specs.Finite.{finite, +0}
+use Rattle.checked.specs.Finite.{finite, +0}
 
 abbrev Down : Float → Type 0
 Down x = lt x +0 ≡ true
