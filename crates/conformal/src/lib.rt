@@ -1,15 +1,17 @@
 // Module 8: scores held against a calibration. Standardise, aggregate over the gate, trip strictly; and the time bin.
 ghost use mathlib.Core.Path.{_≡_};
 ghost use mathlib.Core.Bool.{not};
-ghost use Prim.Native.Nat.{_≤_, _<_, min};
+ghost use Prim.Native.Nat.{_<_, min};
 ghost use lib.Ieee.{binary64, isNan};
-ghost use Rattle.refusal.specs.Order.{if_then_else_};
-ghost use Rattle.fmath.specs.Least.{lesser, greater};
-ghost use Rattle.conformal.specs.Bits.{bit};
+ghost use Rattle.bits.specs.Choice.{if_then_else_};
+ghost use Rattle.checked.specs.Least.{lesser, greater};
+ghost use Rattle.bits.specs.Bits.{bit};
 ghost use Rattle.conformal.specs.Rule.{live, standard, standards, aggregate, firedBits};
 ghost use Rattle.conformal.specs.Refusals.{sizesOk, numbersOk, scoresOk};
 ghost use Rattle.conformal.specs.Answer.{judged, scored, standardised, aggregated, tripped, timeBinOf};
-ghost use Rattle.conformal.specs.Of.{tables, standardFrom, standardsFrom, termFrom};
+ghost use Rattle.checked.specs.Of.{reckonedFrom};
+ghost use Rattle.conformal.specs.Of.{tables, standardsFrom, termFrom};
+use checked::Reckoned;
 use refusal::Refusal;
 
 // The bits of the twelve features.
@@ -93,12 +95,6 @@ pub enum TimeBin {
 // The z of all features; `sound` says that each number computed on the way is finite.
 struct AllZ {
     z: [f64; 12],
-    sound: bool,
-}
-
-// z of one feature, likewise.
-struct OneZ {
-    z: f64,
     sound: bool,
 }
 
@@ -200,18 +196,21 @@ fn bit(w: u32, j: usize) -> bool
 }
 
 // z of one feature.
-fn standard(live: bool, x: f64, center: f64, scale: f64) -> OneZ
-    ensures { λ r. ⌜ r ≡ standardFrom (standard binary64 live x center scale) ⌝ }
+fn standard(live: bool, x: f64, center: f64, scale: f64) -> Reckoned
+    ensures { λ r. ⌜ r ≡ reckonedFrom (standard binary64 live x center scale) ⌝ }
 {
     let d = x - center;
     let z = d / scale;
     let a = fmath::finite(d);
     let b = fmath::finite(z);
     if live {
-        OneZ { z, sound: a & b }
+        Reckoned {
+            value: z,
+            sound: a & b,
+        }
     } else {
-        OneZ {
-            z: 0.0,
+        Reckoned {
+            value: 0.0,
             sound: true,
         }
     }
@@ -242,7 +241,7 @@ fn standards(
     while j < 12 {
         let live = bit(mask, j) & bit(valid, j);
         let one = standard(live, x[j], center[row + j], scale[row + j]);
-        z[j] = one.z;
+        z[j] = one.value;
         sound = sound & one.sound;
         j += 1;
     }
@@ -330,13 +329,6 @@ fn greatest(gate: GateSpec, mask: u32, valid: u32, z: &[f64; 12]) -> f64
     s
 }
 
-// The weight of a bit that is set, else 0.
-pub fn weight(on: bool, w: u32) -> u32
-    ensures { λ r. ⌜ (r ≡ (if on then w else 0)) × (r ≤ w) ⌝ }
-{
-    if on { w } else { 0 }
-}
-
 // A bit for each live feature whose z is above tau.
 fn fired_bits(mask: u32, valid: u32, tau: f64, z: &[f64; 12]) -> u32
     ensures { λ r. ⌜ r ≡ firedBits (live mask valid) tau (now (z .entry)) ⌝ }
@@ -346,7 +338,7 @@ fn fired_bits(mask: u32, valid: u32, tau: f64, z: &[f64; 12]) -> u32
     let mut j = 0usize;
     while j < 12 {
         let live = bit(mask, j) & bit(valid, j);
-        bits += weight(live & (z[j] > tau), w);
+        bits += bits::weight(live & (z[j] > tau), w);
         w *= 2;
         j += 1;
     }

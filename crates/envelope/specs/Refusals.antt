@@ -5,8 +5,8 @@ use mathlib.Core.List.{List, [], _∷_}
 use lib.Dec.{leb, ltb, eqb}
 use lib.Ieee.{Float, Format, lt}
 use Rattle.refusal.specs.Order.{Judged, size, number, steps, channels, _when_, refusal}
-use Rattle.fmath.specs.Each.{at, all, every}
-use Rattle.fmath.specs.Finite.{finite, aboveZero, notBelowZero, allFinite, allAboveZero}
+use Rattle.checked.specs.Each.{at, all, every}
+use Rattle.checked.specs.Finite.{finite, aboveZero, notBelowZero, allFinite, allAboveZero}
 use Rattle.conformal.specs.Refusals as calibration
 use Rattle.conformal.specs.Rule.{Tables}
 use Rattle.envelope.specs.Derive.{derived}

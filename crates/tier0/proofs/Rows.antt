@@ -11,15 +11,16 @@ use lib.Bits.{bitOr}
 use lib.Dec.{eqb}
 use lib.ListN.{length, set, replicate, length-set}
 use lib.Ieee.{Float, Format, add, sub, mul, lt}
-use Rattle.fmath.specs.Each.{at, all, some, over}
-use Rattle.fmath.specs.Finite.{finite, +0}
-use Rattle.fmath.specs.Checked.{Checked, each}
-use Rattle.fmath.specs.Least.{greater, greatest}
+use Rattle.checked.specs.Each.{at, all, some, over}
+use Rattle.checked.specs.Finite.{finite, +0}
+use Rattle.checked.specs.Checked.{Checked, each}
+use Rattle.checked.specs.Least.{greater, greatest}
 use Rattle.fmath.specs.Norm.{norm, dist}
-use Rattle.fmath.proofs.Absorbing.{fine-add-left, fine-add-right, fine-sub-left, fine-sub-right, fine-mul-left}
-use Rattle.fmath.proofs.Each.{all-more, some-more}
-use Rattle.fmath.proofs.Extremes.{greatest-more}
-use Rattle.fmath.proofs.Told.{Tells, implied, dist-tells, norm-tells}
+use Rattle.checked.proofs.Absorbing.{fine-add-left, fine-add-right, fine-sub-left, fine-sub-right, fine-mul-left}
+use Rattle.checked.proofs.Each.{all-more, some-more}
+use Rattle.checked.proofs.Extremes.{greatest-more}
+use Rattle.checked.proofs.Told.{Tells, implied}
+use Rattle.fmath.proofs.Lengths.{dist-tells, norm-tells}
 use Rattle.chunk.proofs.Rows.{row-fits}
 use Rattle.envelope.specs.declared.ClampMode.{ClampMode}
 use Rattle.envelope.specs.declared.ClampMode.the-variants as M
@@ -28,13 +29,14 @@ use Rattle.tier0.specs.declared.Difference.{Difference}
 use Rattle.tier0.specs.declared.Difference.the-variants as D
 use Rattle.tier0.specs.declared.SlowZone.{SlowZone}
 use Rattle.tier0.specs.declared.Ruling.{Ruling}
-use Rattle.tier0.specs.declared.Row.{Row}
+use Rattle.checked.specs.declared.Row.{Row}
 use Rattle.tier0.specs.declared.Test.{Test}
 use Rattle.tier0.specs.declared.Stride.{Stride}
 use Rattle.tier0.specs.declared.Ran.{Ran}
 use Rattle.tier0.specs.Rule.{Slow, SPEED, arms, slowZone, outOfBox, outOfReach, tripBits, moves, moved, Projected}
 use Rattle.tier0.specs.Chunk.{rawRow, startRow, rowBefore, stepTo, peakStep, someLonger, someOutOfBox, someOf, bend, jolt, bends, jolts, exceeds, largeAt, further, tripOf, tooLarge, putRow, Run, nextRow, runRows, projectedRows, checkChunk}
-use Rattle.tier0.specs.Of.{slowOf, zoneFrom, rowFrom, testFrom, stepsFrom, runFrom, ranFrom, rulingFrom}
+use Rattle.tier0.specs.Of.{slowOf, zoneFrom, testFrom, stepsFrom, runFrom, ranFrom, rulingFrom}
+use Rattle.checked.specs.Of.{rowFrom}
 
 -- ---- one row
 

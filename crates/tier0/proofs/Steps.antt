@@ -4,13 +4,13 @@ use mathlib.Core.Path.{_≡_, refl, sym, ap, _∙_}
 use mathlib.Core.Bool.{Bool, true, false, _&&_, _||_, and-true}
 use mathlib.Core.List.{List, [], _∷_}
 use lib.Ieee.{Float, Format, mul, div, lt, le}
-use Rattle.fmath.specs.Each.{at}
-use Rattle.fmath.specs.Finite.{finite, +0}
-use Rattle.fmath.specs.Row.{padded}
-use Rattle.fmath.specs.Checked.{Checked, pure, each}
+use Rattle.checked.specs.Each.{at}
+use Rattle.checked.specs.Finite.{finite, +0}
+use Rattle.checked.specs.Row.{padded}
+use Rattle.checked.specs.Checked.{Checked, pure, each}
 use Rattle.fmath.specs.Norm.{dist}
-use Rattle.fmath.proofs.Absorbing.{fine-mul-left}
-use Rattle.fmath.proofs.Told.{dist-tells}
+use Rattle.checked.proofs.Absorbing.{fine-mul-left}
+use Rattle.fmath.proofs.Lengths.{dist-tells}
 use Rattle.workspace.specs.Of.{wallsOf}
 use Rattle.workspace.specs.Rule.{outside, inward}
 use Rattle.envelope.specs.declared.ClampMode.{ClampMode}
@@ -19,12 +19,13 @@ use Rattle.envelope.specs.declared.Contact.{Contact}
 use Rattle.envelope.specs.declared.Contact.the-variants as C
 use Rattle.tier0.specs.declared.Checks.{Checks}
 use Rattle.tier0.specs.declared.SlowZone.{SlowZone}
-use Rattle.tier0.specs.declared.Row.{Row}
+use Rattle.checked.specs.declared.Row.{Row}
 use Rattle.tier0.specs.declared.Test.{Test}
 use Rattle.tier0.specs.declared.Clamped.{Clamped}
 use Rattle.tier0.specs.declared.Verdict.{Verdict}
 use Rattle.tier0.specs.Rule.{Slow, WORKSPACE, SPEED, ACCEL, JERK, REACH, CONTACT, arms, shared, clear, seen, inZone, zoneIn, slowZone, outOfBox, outOfReach, bit, tripBits, shrink, towards, shortened, pulled, leash, boxed, leashed, reached, moves, moved, project, projection, checkAction}
-use Rattle.tier0.specs.Of.{slowOf, zoneFrom, rowFrom, testFrom, clampedFrom, verdictFrom}
+use Rattle.tier0.specs.Of.{slowOf, zoneFrom, testFrom, clampedFrom, verdictFrom}
+use Rattle.checked.specs.Of.{rowFrom}
 
 pub a-row : (x : Checked (List Float)) {r : List Float} {k : Bool} → r ≡ x .value → k ≡ x .sound → _≡_ {A = Row} (record { at = r; sound = k }) (rowFrom x)
 a-row x e h = rw (e, h)

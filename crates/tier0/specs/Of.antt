@@ -7,8 +7,8 @@ use lib.ListN.{length, replicate}
 use lib.Ieee.{Float, Format}
 use Rattle.refusal.specs.Order.{Judged, width, short, notFinite, computed, _when_, refusal}
 use Rattle.fmath.specs.Answer.{someLentNotFinite}
-use Rattle.fmath.specs.Finite.{+0}
-use Rattle.fmath.specs.Checked.{Checked}
+use Rattle.checked.specs.Finite.{+0}
+use Rattle.checked.specs.Checked.{Checked}
 use Rattle.chunk.specs.Refusals.{chunkReasons}
 use Rattle.conformal.specs.Rule.{Tables}
 use Rattle.envelope.specs.Derive.{derived}
@@ -18,7 +18,6 @@ use Rattle.envelope.specs.declared.FuseConfig.{FuseConfig}
 use Rattle.tier0.specs.declared.Check.{Check}
 use Rattle.tier0.specs.declared.Checks.{Checks}
 use Rattle.tier0.specs.declared.SlowZone.{SlowZone}
-use Rattle.tier0.specs.declared.Row.{Row}
 use Rattle.tier0.specs.declared.Test.{Test}
 use Rattle.tier0.specs.declared.Clamped.{Clamped}
 use Rattle.tier0.specs.declared.Verdict.{Verdict}
@@ -58,9 +57,6 @@ slowOf z = record { inside = z .inside; step = z .step }
 
 abbrev pub zoneFrom : Checked Slow → SlowZone
 zoneFrom x = record { inside = x .value .inside; step = x .value .step; sound = x .sound }
-
-abbrev pub rowFrom : Checked (List Float) → Row
-rowFrom x = record { at = x .value; sound = x .sound }
 
 abbrev pub testFrom : Checked Bool → Test
 testFrom x = record { holds = x .value; sound = x .sound }

@@ -5,14 +5,15 @@ use mathlib.Core.List.{List, [], _∷_}
 use lib.Dec.{leb}
 use lib.ListN.{length, replicate}
 use lib.Ieee.{Float, Format, binary64}
-use Rattle.refusal.specs.Order.{Reason, computed, _when_, among, given, _or_, refusedFor, if_then_else_}
-use Rattle.fmath.specs.Each.{table}
-use Rattle.fmath.specs.Finite.{+0}
-use Rattle.fmath.specs.Checked.{Checked, _>>=_, pure}
+use Rattle.refusal.specs.Order.{Reason, computed, _when_, among, given, _or_, refusedFor}
+use Rattle.bits.specs.Choice.{if_then_else_}
+use Rattle.checked.specs.Each.{table}
+use Rattle.checked.specs.Finite.{+0}
+use Rattle.checked.specs.Checked.{Checked, _>>=_, pure}
 use Rattle.chunk.specs.Of as chunk
 use Rattle.chunk.specs.declared.ChunkBuf.{ChunkBuf}
 use Rattle.window.specs.Of as window
-use Rattle.conformal.specs.Bits.{bitsWhere}
+use Rattle.bits.specs.Bits.{bitsWhere}
 use Rattle.conformal.specs.declared.Scores.{Scores}
 use Rattle.envelope.specs.Derive.{kept, derived}
 use Rattle.envelope.specs.Refusals.{configJudged}
@@ -20,7 +21,6 @@ use Rattle.envelope.specs.declared.Derived.{Derived}
 use Rattle.envelope.specs.declared.FuseConfig.{FuseConfig}
 use Rattle.tier1.specs.declared.Manifest.{Manifest}
 use Rattle.tier1.specs.declared.Kept.{Kept}
-use Rattle.tier1.specs.declared.Feature.{Feature}
 use Rattle.tier1.specs.declared.Pair.{Pair}
 use Rattle.tier1.specs.declared.SixFeatures.{SixFeatures}
 use Rattle.tier1.specs.declared.AllFeatures.{AllFeatures}
@@ -56,9 +56,6 @@ keptOf rt = record {
 }
 
 -- ---- what a private function answers: the rule's value, and whether all that was computed is finite
-
-abbrev pub featureFrom : Checked Float → Feature
-featureFrom x = record { at = x .value; sound = x .sound }
 
 abbrev pub pairFrom : Checked Float → Checked Float → Pair
 pairFrom x y = record { first = x .value; second = y .value; sound = x .sound && y .sound }

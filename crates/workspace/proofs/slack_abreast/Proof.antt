@@ -5,8 +5,8 @@ use borrow.Author.Needs.{needs}
 use borrow.Author.Tests.{not-false, ltb-false}
 use lib.Dec.{ltb}
 use lib.Ieee.{binary64}
-use Rattle.fmath.specs.Finite.{finite}
-use Rattle.fmath.proofs.Each.{neither}
+use Rattle.checked.specs.Finite.{finite}
+use Rattle.checked.proofs.Each.{neither}
 use Rattle.workspace.specs.Of.{wallsOf}
 use Rattle.workspace.proofs.Gaps.{slack-from}
 use Rattle.workspace.proofs.slack_abreast.Statement.{statement}
@@ -37,7 +37,7 @@ returns-2 c =
     let t = tested (c .before .before) in
     let m = c .before .before .before .before .around-all in
     let e = slack-from binary64 (wallsOf (s .w)) (s .p) (m .result .near) 8 (s .n) (ltb-false _ _ (t .0)) (m .ensures .0) (m .ensures .1 (t .1)) in
-    λ i. record { least = (c .least-of .ensures ∙ e .0) i; sound = e .1 i }
+    λ i. record { value = (c .least-of .ensures ∙ e .0) i; sound = e .1 i }
 
 pub slack-abreast-spec : {M : Type 1} → statement M
 slack-abreast-spec =
