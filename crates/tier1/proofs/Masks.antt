@@ -6,7 +6,7 @@ use mathlib.Core.List.{List, [], _∷_}
 use native.Mathlib.Nat.{zero-add}
 use borrow.Author.Tests.{lt-ltb, le-ltb}
 use lib.Dec.{leb, ltb, eqb}
-use lib.Ieee.{Float, binary64}
+use lib.Ieee.{Float, Format}
 use Rattle.bits.specs.Choice.{if_then_else_}
 use Rattle.checked.specs.Each.{at}
 use Rattle.checked.specs.Finite.{+0}
@@ -34,19 +34,19 @@ both-first : (a b c : Bool) → (a && b) && c ≡ a && (b && c)
 both-first true b c = refl
 both-first false b c = refl
 
-module _ (m : Manifest) (k : Kept) (a p : List Float) (t h : ℕ) (b : List Float) where
+module _ (f : Format) (m : Manifest) (k : Kept) (a p : List Float) (t h : ℕ) (b : List Float) where
   pub bits-are : {l n v : ℕ} → l ≡ overlap k t h (m .dim) → n ≡ shared m p → v ≡ bitsWhere (boundaryAt l h n) 6 → v ≡ boundaryBits m k p t h
   unfolding boundaryBits
   bits-are e g i = i ∙ rw (e, g)
 
   pub boundary-is : {v : ℕ} {u : Pair} {w x y z : Reckoned} → v ≡ boundaryBits m k p t h
-      → u ≡ metFrom m k a t b h
-      → w ≡ reckonedFrom (ifThere (leb 2 h) (acmNeg binary64 m b h))
-      → x ≡ reckonedFrom (ifThere (leb 4 h) (njr binary64 m b h))
-      → y ≡ reckonedFrom (ifThere (ltb 0 (shared m p)) (reach binary64 m p b))
-      → z ≡ reckonedFrom (speedPeak binary64 m p b h)
+      → u ≡ metFrom f m k a t b h
+      → w ≡ reckonedFrom (ifThere (leb 2 h) (acmNeg f m b h))
+      → x ≡ reckonedFrom (ifThere (leb 4 h) (njr f m b h))
+      → y ≡ reckonedFrom (ifThere (ltb 0 (shared m p)) (reach f m p b))
+      → z ≡ reckonedFrom (speedPeak f m p b h)
       → _≡_ {A = SixFeatures} (record { held = u .first ∷ u .second ∷ w .value ∷ x .value ∷ y .value ∷ z .value ∷ []; valid = v; sound = u .sound && (w .sound && (x .sound && (y .sound && z .sound))) })
-      (boundaryFrom (boundary binary64 m k a p t h b) (boundaryBits m k p t h))
+      (boundaryFrom (boundary f m k a p t h b) (boundaryBits m k p t h))
   unfolding boundary
   boundary-is ev eu ew ex ey ez = rw (ev, eu, ew, ex, ey, ez, and-true, both-first)
 
@@ -82,8 +82,8 @@ module _ (held trail ext : List Float) (j : ℕ) (on : Bool) where
     unfolding valueAt
     value-lent g h i = rw (e, le-ltb j 6 g, le-ltb j 8 h) i
 
-module _ (m : Manifest) (t : Trail) (held : List Float) (hv : ℕ) (ext : List Float) where
-  pub twelve-is : {x : Pair} {r : AllFeatures} → x ≡ pairFrom (ifThere (leb 20 (t .len)) (pathIneff binary64 m t)) (ifThere (leb 20 (t .len)) (stall binary64 m t))
-      → r ≡ gatheredFrom held hv (t .len) (x .first ∷ x .second ∷ []) (x .sound) ext → r ≡ twelveFrom (twelve binary64 m t held hv ext)
+module _ (f : Format) (m : Manifest) (t : Trail) (held : List Float) (hv : ℕ) (ext : List Float) where
+  pub twelve-is : {x : Pair} {r : AllFeatures} → x ≡ pairFrom (ifThere (leb 20 (t .len)) (pathIneff f m t)) (ifThere (leb 20 (t .len)) (stall f m t))
+      → r ≡ gatheredFrom held hv (t .len) (x .first ∷ x .second ∷ []) (x .sound) ext → r ≡ twelveFrom (twelve f m t held hv ext)
   unfolding twelve moving
   twelve-is e g = g ∙ rw (e, and-true, and-true)

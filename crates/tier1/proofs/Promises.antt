@@ -7,7 +7,7 @@ use native.Mathlib.Omega.{arith}
 use borrow.Author.Tests.{lt-ltb, le-ltb}
 use lib.Dec.{leb, ltb}
 use lib.ListN.{length}
-use lib.Ieee.{Float, binary64}
+use lib.Ieee.{Float, Format}
 use Rattle.refusal.specs.Order.{refusedFor}
 use Rattle.checked.specs.Each.{at, table}
 use Rattle.checked.specs.Finite.{+0}
@@ -18,6 +18,7 @@ use Rattle.conformal.specs.declared.Scores.{Scores}
 use Rattle.bits.proofs.Bits.{bit-where, no-bit-past}
 use Rattle.envelope.specs.Derive.{kept}
 use Rattle.window.specs.declared.Trail.{Trail}
+use Rattle.conformal.specs.Rule.{Tables}
 use Rattle.envelope.specs.declared.FuseConfig.{FuseConfig}
 use Rattle.tier1.specs.declared.Head.{Head}
 use Rattle.tier1.specs.declared.Tier1Rt.{Tier1Rt}
@@ -26,18 +27,18 @@ use Rattle.tier1.specs.Rule.{shared, overlap, boundaryAt, boundary, boun
 use Rattle.tier1.proofs.Ticks.{chunk-keeps-trail}
 use Rattle.tier1.specs.Of.{keptOf, manifestOf, afterChunk, Tick, tick, scoresWith, featuredAt, ticked, featuresRefusal, featuresOf}
 
-module _ (c : FuseConfig) (p ext : List Float) (there : Bool) (k : Head) (rows : List Float) (rt : Tier1Rt) (sc : Scores) where
+module _ (fm : Format) (c : FuseConfig) (tabs : Tables) (p ext : List Float) (there : Bool) (k : Head) (rows : List Float) (rt : Tier1Rt) (sc : Scores) where
   abbrev answer : Featured
-  answer = featuresOf c p ext there k rows rt sc
+  answer = featuresOf fm c tabs p ext there k rows rt sc
 
   abbrev found : Tick
-  found = ticked c p ext there k rows rt sc .value
+  found = ticked fm c tabs p ext there k rows rt sc .value
 
   abbrev Passed : Type 0
-  Passed = featuresRefusal c p ext there k rows rt sc ≡ 0
+  Passed = featuresRefusal fm c tabs p ext there k rows rt sc ≡ 0
 
   -- on refusal state and scores come back as they went in, whole
-  pub refused-whole : (n : ℕ) → featuresRefusal c p ext there k rows rt sc ≡ suc n → answer ≡ record { refusal = refusedFor (suc n); rt = rt; scores = sc }
+  pub refused-whole : (n : ℕ) → featuresRefusal fm c tabs p ext there k rows rt sc ≡ suc n → answer ≡ record { refusal = refusedFor (suc n); rt = rt; scores = sc }
   unfolding featuresOf
   refused-whole n e = rw e
 
@@ -49,7 +50,7 @@ module _ (c : FuseConfig) (p ext : List Float) (there : Bool) (k : Head) (rows :
   -- whatever is answered, what the features do not replace stays: z, s and fired
   stays : {A : Type 0} (part : Scores → A) → part (scoresWith (found .found) sc) ≡ part sc → part (answer .scores) ≡ part sc
   unfolding featuresOf
-  stays part e = go (featuresRefusal c p ext there k rows rt sc)
+  stays part e = go (featuresRefusal fm c tabs p ext there k rows rt sc)
     where
       go : (n : ℕ) → part (featuredAt n found rt sc .scores) ≡ part sc
       go zero = e
@@ -66,12 +67,12 @@ module _ (c : FuseConfig) (p ext : List Float) (there : Bool) (k : Head) (rows :
 
   same-trail : found .rt .trail ≡ rt .trail
   unfolding ticked tick
-  same-trail = chunk-keeps-trail (manifestOf c) p k rows rt there
+  same-trail = chunk-keeps-trail fm (manifestOf fm c) p k rows rt there
 
   -- .. and so does the trail
   pub trail-kept : answer .rt .trail ≡ rt .trail
   unfolding featuresOf
-  trail-kept = go (featuresRefusal c p ext there k rows rt sc)
+  trail-kept = go (featuresRefusal fm c tabs p ext there k rows rt sc)
     where
       go : (n : ℕ) → featuredAt n found rt sc .rt .trail ≡ rt .trail
       go zero = same-trail
@@ -94,7 +95,7 @@ module _ (c : FuseConfig) (p ext : List Float) (there : Bool) (k : Head) (rows :
   no-further-bit e j l = rw (passed-is e, valid-is) (no-bit-past says 12 j l)
 
   abbrev value : ℕ → Float
-  value = valueAt (found .rt .held) (moving binary64 (manifestOf c) (found .rt .trail) .value) ext
+  value = valueAt (found .rt .held) (moving fm (manifestOf fm c) (found .rt .trail) .value) ext
 
   f-is : found .found .f ≡ table (λ (j : ℕ). kept (says j) (value j)) 12
   unfolding ticked tick twelve
@@ -118,66 +119,66 @@ module _ (c : FuseConfig) (p ext : List Float) (there : Bool) (k : Head) (rows :
 
 -- ---- with a chunk: each held feature is valid exactly under its condition
 
-module _ (c : FuseConfig) (p ext : List Float) (k : Head) (rows : List Float) (rt : Tier1Rt) (sc : Scores) (e : featuresRefusal c p ext true k rows rt sc ≡ 0) where
+module _ (fm : Format) (c : FuseConfig) (tabs : Tables) (p ext : List Float) (k : Head) (rows : List Float) (rt : Tier1Rt) (sc : Scores) (e : featuresRefusal fm c tabs p ext true k rows rt sc ≡ 0) where
   -- the rows that overlap
   abbrev common : ℕ
-  common = overlap (keptOf rt) (k .«t_emit») (k .horizon) (manifestOf c .dim)
+  common = overlap (keptOf rt) (k .«t_emit») (k .horizon) (manifestOf fm c .dim)
 
   abbrev holds : ℕ → Bool
-  holds = boundaryAt common (k .horizon) (shared (manifestOf c) p)
+  holds = boundaryAt common (k .horizon) (shared (manifestOf fm c) p)
 
-  chunk-bit : (j : ℕ) → j < 6 → bit (featuresOf c p ext true k rows rt sc .scores .valid) j ≡ holds j
+  chunk-bit : (j : ℕ) → j < 6 → bit (featuresOf fm c tabs p ext true k rows rt sc .scores .valid) j ≡ holds j
   unfolding validAt ticked tick afterChunk boundaryBits
-  chunk-bit j l = valid-exactly c p ext true k rows rt sc e j (omega arith) ∙ rw (lt-ltb j 6 l) (bit-where holds 6 j l)
+  chunk-bit j l = valid-exactly fm c tabs p ext true k rows rt sc e j (omega arith) ∙ rw (lt-ltb j 6 l) (bit-where holds 6 j l)
 
-  pub tce-exactly : bit (featuresOf c p ext true k rows rt sc .scores .valid) TCE ≡ leb 2 common
+  pub tce-exactly : bit (featuresOf fm c tabs p ext true k rows rt sc .scores .valid) TCE ≡ leb 2 common
   tce-exactly = chunk-bit TCE (omega arith)
 
-  pub acc-exactly : bit (featuresOf c p ext true k rows rt sc .scores .valid) ACC ≡ leb 2 common
+  pub acc-exactly : bit (featuresOf fm c tabs p ext true k rows rt sc .scores .valid) ACC ≡ leb 2 common
   acc-exactly = chunk-bit ACC (omega arith)
 
-  pub acm-neg-exactly : bit (featuresOf c p ext true k rows rt sc .scores .valid) ACM-NEG ≡ leb 2 (k .horizon)
+  pub acm-neg-exactly : bit (featuresOf fm c tabs p ext true k rows rt sc .scores .valid) ACM-NEG ≡ leb 2 (k .horizon)
   acm-neg-exactly = chunk-bit ACM-NEG (omega arith)
 
-  pub njr-exactly : bit (featuresOf c p ext true k rows rt sc .scores .valid) NJR ≡ leb 4 (k .horizon)
+  pub njr-exactly : bit (featuresOf fm c tabs p ext true k rows rt sc .scores .valid) NJR ≡ leb 4 (k .horizon)
   njr-exactly = chunk-bit NJR (omega arith)
 
-  pub reach-exactly : bit (featuresOf c p ext true k rows rt sc .scores .valid) REACH ≡ ltb 0 (shared (manifestOf c) p)
+  pub reach-exactly : bit (featuresOf fm c tabs p ext true k rows rt sc .scores .valid) REACH ≡ ltb 0 (shared (manifestOf fm c) p)
   reach-exactly = chunk-bit REACH (omega arith)
 
-  pub speed-peak-always : bit (featuresOf c p ext true k rows rt sc .scores .valid) SPEED-PEAK ≡ true
+  pub speed-peak-always : bit (featuresOf fm c tabs p ext true k rows rt sc .scores .valid) SPEED-PEAK ≡ true
   speed-peak-always = chunk-bit SPEED-PEAK (omega arith)
 
   -- the held features are replaced by the chunk's, which were taken against the one before
-  pub held-replaced : featuresOf c p ext true k rows rt sc .rt .held ≡ boundary binary64 (manifestOf c) (keptOf rt) (rt .prev .«data») p (k .«t_emit») (k .horizon) rows .value
+  pub held-replaced : featuresOf fm c tabs p ext true k rows rt sc .rt .held ≡ boundary fm (manifestOf fm c) (keptOf rt) (rt .prev .«data») p (k .«t_emit») (k .horizon) rows .value
   unfolding ticked tick afterChunk
-  held-replaced = rw (passed-is c p ext true k rows rt sc e)
+  held-replaced = rw (passed-is fm c tabs p ext true k rows rt sc e)
 
 -- ---- without a chunk
 
-module _ (c : FuseConfig) (p ext : List Float) (k : Head) (rows : List Float) (rt : Tier1Rt) (sc : Scores) where
+module _ (fm : Format) (c : FuseConfig) (tabs : Tables) (p ext : List Float) (k : Head) (rows : List Float) (rt : Tier1Rt) (sc : Scores) where
   -- the state stays, so held features change only on a chunk
-  pub state-kept : featuresOf c p ext false k rows rt sc .rt ≡ rt
+  pub state-kept : featuresOf fm c tabs p ext false k rows rt sc .rt ≡ rt
   unfolding featuresOf ticked tick afterChunk
-  state-kept = go (featuresRefusal c p ext false k rows rt sc)
+  state-kept = go (featuresRefusal fm c tabs p ext false k rows rt sc)
     where
-      go : (n : ℕ) → featuredAt n (tick binary64 (manifestOf c) p ext false k rows rt .value) rt sc .rt ≡ rt
+      go : (n : ℕ) → featuredAt n (tick fm (manifestOf fm c) p ext false k rows rt .value) rt sc .rt ≡ rt
       go zero = refl
       go (suc n) = refl
 
   -- the features are those of the state, whatever else is lent
-  quiet : featuresRefusal c p ext false k rows rt sc ≡ 0 → featuresOf c p ext false k rows rt sc .scores ≡ scoresWith (twelve binary64 (manifestOf c) (rt .trail) (rt .held) (rt .«held_valid») ext .value) sc
+  quiet : featuresRefusal fm c tabs p ext false k rows rt sc ≡ 0 → featuresOf fm c tabs p ext false k rows rt sc .scores ≡ scoresWith (twelve fm (manifestOf fm c) (rt .trail) (rt .held) (rt .«held_valid») ext .value) sc
   unfolding ticked tick afterChunk
-  quiet e = rw (passed-is c p ext false k rows rt sc e)
+  quiet e = rw (passed-is fm c tabs p ext false k rows rt sc e)
 
 -- two calls with one configuration, state and externals and no chunk give the same features, the second from the state that the first gave
-module _ (c : FuseConfig) (p ext : List Float) (k l : Head) (rows others : List Float) (rt : Tier1Rt) (sc tc : Scores)
-    (e : featuresRefusal c p ext false k rows rt sc ≡ 0) (g : featuresRefusal c p ext false l others rt tc ≡ 0) where
-  pub same-again : featuresOf c p ext false l others (featuresOf c p ext false k rows rt sc .rt) tc ≡ featuresOf c p ext false l others rt tc
-  same-again = ap (λ (s : Tier1Rt). featuresOf c p ext false l others s tc) (state-kept c p ext k rows rt sc)
+module _ (fm : Format) (c : FuseConfig) (tabs : Tables) (p ext : List Float) (k l : Head) (rows others : List Float) (rt : Tier1Rt) (sc tc : Scores)
+    (e : featuresRefusal fm c tabs p ext false k rows rt sc ≡ 0) (g : featuresRefusal fm c tabs p ext false l others rt tc ≡ 0) where
+  pub same-again : featuresOf fm c tabs p ext false l others (featuresOf fm c tabs p ext false k rows rt sc .rt) tc ≡ featuresOf fm c tabs p ext false l others rt tc
+  same-again = ap (λ (s : Tier1Rt). featuresOf fm c tabs p ext false l others s tc) (state-kept fm c tabs p ext k rows rt sc)
 
-  pub same-features : featuresOf c p ext false l others rt tc .scores .f ≡ featuresOf c p ext false k rows rt sc .scores .f
-  same-features = rw (quiet c p ext k rows rt sc e, quiet c p ext l others rt tc g)
+  pub same-features : featuresOf fm c tabs p ext false l others rt tc .scores .f ≡ featuresOf fm c tabs p ext false k rows rt sc .scores .f
+  same-features = rw (quiet fm c tabs p ext k rows rt sc e, quiet fm c tabs p ext l others rt tc g)
 
-  pub same-valid : featuresOf c p ext false l others rt tc .scores .valid ≡ featuresOf c p ext false k rows rt sc .scores .valid
-  same-valid = rw (quiet c p ext k rows rt sc e, quiet c p ext l others rt tc g)
+  pub same-valid : featuresOf fm c tabs p ext false l others rt tc .scores .valid ≡ featuresOf fm c tabs p ext false k rows rt sc .scores .valid
+  same-valid = rw (quiet fm c tabs p ext k rows rt sc e, quiet fm c tabs p ext l others rt tc g)

@@ -7,7 +7,7 @@ use native.Mathlib.Omega.{arith}
 use borrow.Author.Tests.{eqb-true, not-false}
 use lib.Dec.{eqb}
 use lib.ListN.{length}
-use lib.Ieee.{Float}
+use lib.Ieee.{Float, Format}
 use Rattle.refusal.specs.Order.{Reason, leftover, width, notFinite, _when_, among, given, refusal, _or_, earlier}
 use Rattle.bits.specs.Choice.{if_then_else_}
 use Rattle.refusal.proofs.Joint.{given-or, neither-applies}
@@ -19,6 +19,7 @@ use Rattle.chunk.specs.Of.{heldRefusalOf}
 use Rattle.chunk.specs.declared.ChunkBuf.{ChunkBuf}
 use Rattle.chunk.proofs.Judged as sizes
 use Rattle.window.specs.Answer.{outOfSize, unfit, trailReasons}
+use Rattle.conformal.specs.Rule.{Tables}
 use Rattle.conformal.specs.Refusals.{scoresOk}
 use Rattle.conformal.specs.declared.Scores.{Scores}
 use Rattle.envelope.specs.Refusals.{configJudged}
@@ -64,16 +65,16 @@ pub lent-is : (p ext : List Float) (there : Bool) (rows : List Float) (sc : Scor
 unfolding someNotFiniteIn
 lent-is p ext there rows sc ek el em en = rw (ek, el, em, en)
 
-module _ (c : FuseConfig) (p ext : List Float) (there : Bool) (k : Head) (rows : List Float) (rt : Tier1Rt) (sc : Scores) where
+module _ (fm : Format) (c : FuseConfig) (tabs : Tables) (p ext : List Float) (there : Bool) (k : Head) (rows : List Float) (rt : Tier1Rt) (sc : Scores) where
   abbrev all-judged : Reason → Bool
-  all-judged = judged c p ext there k rows rt sc
+  all-judged = judged fm c tabs p ext there k rows rt sc
 
-  pub judged-is : {a b d e u v r : ℕ} {t : Bool} → a ≡ refusal (configJudged c) → b ≡ given (newJudged there k (length rows) (c .dim)) → d ≡ given (stateJudged rt) → t ≡ someNotFiniteIn p ext there rows sc → e ≡ (if t then 12 else 0)
+  pub judged-is : {a b d e u v r : ℕ} {t : Bool} → a ≡ refusal (configJudged fm c tabs) → b ≡ given (newJudged there k (length rows) (c .dim)) → d ≡ given (stateJudged rt) → t ≡ someNotFiniteIn p ext there rows sc → e ≡ (if t then 12 else 0)
       → u ≡ earlier d e → v ≡ earlier b u → r ≡ earlier a v → r ≡ given all-judged
   judged-is ea eb ed et ee eu ev er =
       er ∙ rw (ev, eu, ea, eb, ed, ee, et)
-      (sym (given-or (among (configJudged c)) (newJudged there k (length rows) (c .dim) or (stateJudged rt or lentJudged p ext there rows sc))
-      ∙ ap (earlier (refusal (configJudged c))) (given-or (newJudged there k (length rows) (c .dim)) (stateJudged rt or lentJudged p ext there rows sc)
+      (sym (given-or (among (configJudged fm c tabs)) (newJudged there k (length rows) (c .dim) or (stateJudged rt or lentJudged p ext there rows sc))
+      ∙ ap (earlier (refusal (configJudged fm c tabs))) (given-or (newJudged there k (length rows) (c .dim)) (stateJudged rt or lentJudged p ext there rows sc)
       ∙ ap (earlier (given (newJudged there k (length rows) (c .dim)))) (given-or (stateJudged rt) (lentJudged p ext there rows sc)))))
 
   -- nothing that is lent is refused by 14
@@ -110,16 +111,16 @@ prev-fits b e t =
     let w = sizes.sizes-accepted (b .horizon) (b .dim) (b .«exec_steps») n s in
     (w .not-long, sizes.accepted-fits w)
 
-module _ (c : FuseConfig) (p ext : List Float) (there : Bool) (k : Head) (rows : List Float) (rt : Tier1Rt) (sc : Scores) {r : ℕ} (er : r ≡ given (judged c p ext there k rows rt sc)) (ez : r ≡ 0) where
-  parts : (refusal (configJudged c) ≡ 0) × ((given (newJudged there k (length rows) (c .dim)) ≡ 0) × ((given (stateJudged rt) ≡ 0) × (given (lentJudged p ext there rows sc) ≡ 0)))
+module _ (fm : Format) (c : FuseConfig) (tabs : Tables) (p ext : List Float) (there : Bool) (k : Head) (rows : List Float) (rt : Tier1Rt) (sc : Scores) {r : ℕ} (er : r ≡ given (judged fm c tabs p ext there k rows rt sc)) (ez : r ≡ 0) where
+  parts : (refusal (configJudged fm c tabs) ≡ 0) × ((given (newJudged there k (length rows) (c .dim)) ≡ 0) × ((given (stateJudged rt) ≡ 0) × (given (lentJudged p ext there rows sc) ≡ 0)))
   parts =
-      let u = neither-applies (among (configJudged c)) (newJudged there k (length rows) (c .dim) or (stateJudged rt or lentJudged p ext there rows sc)) (sym er ∙ ez) in
+      let u = neither-applies (among (configJudged fm c tabs)) (newJudged there k (length rows) (c .dim) or (stateJudged rt or lentJudged p ext there rows sc)) (sym er ∙ ez) in
       let v = neither-applies (newJudged there k (length rows) (c .dim)) (stateJudged rt or lentJudged p ext there rows sc) (u .1) in
       let w = neither-applies (stateJudged rt) (lentJudged p ext there rows sc) (v .1) in
       (u .0, (v .0, (w .0, w .1)))
 
   pub narrow : c .dim ≤ 8
-  narrow = config.dim-most c (config.accepted c (parts .0))
+  narrow = config.dim-most fm c tabs (config.accepted fm c tabs (parts .0))
 
   rows-finite : there ≡ true → allFinite rows (length rows) ≡ true
   unfolding someNotFiniteIn

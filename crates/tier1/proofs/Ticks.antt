@@ -6,7 +6,7 @@ use mathlib.Core.List.{List, [], _∷_}
 use native.Mathlib.Omega.{arith}
 use borrow.Author.Tests.{eq-eqb}
 use lib.ListN.{length}
-use lib.Ieee.{Float, binary64}
+use lib.Ieee.{Float, Format}
 use Rattle.refusal.specs.Order.{computed, _when_, among, given, refusal, refusedFor}
 use Rattle.bits.specs.Choice.{if_then_else_}
 use Rattle.refusal.specs.declared.Refusal.{Refusal}
@@ -16,7 +16,10 @@ use Rattle.chunk.specs.Of.{heldOf, fillOf}
 use Rattle.chunk.specs.declared.ChunkBuf.{ChunkBuf}
 use Rattle.chunk.specs.declared.Filled.{Filled}
 use Rattle.chunk.proofs.Judged.{lent-accepted, accepted-fits}
+use Rattle.conformal.specs.Rule.{Tables}
 use Rattle.conformal.specs.declared.Scores.{Scores}
+use Rattle.envelope.specs.Derive.{derived}
+use Rattle.envelope.specs.declared.Derived.{Derived}
 use Rattle.envelope.specs.declared.FuseConfig.{FuseConfig}
 use Rattle.tier1.specs.declared.Manifest.{Manifest}
 use Rattle.tier1.specs.declared.Kept.{Kept}
@@ -29,7 +32,7 @@ use Rattle.tier1.specs.declared.Featured.{Featured}
 use Rattle.tier1.specs.declared.Cleared.{Cleared}
 use Rattle.tier1.specs.Rule.{boundary, boundaryBits, twelve}
 use Rattle.tier1.specs.Refusals.{stateJudged}
-use Rattle.tier1.specs.Of.{boundaryFrom, twelveFrom, heldFrom, outOf, wholeAnswer, keptOf, manifestOf, clearedRt, afterChunk, Tick, tick, scoresWith, featuredAt, judged, ticked, featuresRefusal, featuresOf, clearedAt, resetOf}
+use Rattle.tier1.specs.Of.{boundaryFrom, twelveFrom, heldFrom, outOf, wholeAnswer, keptOf, manifestFrom, manifestOf, clearedRt, afterChunk, Tick, tick, scoresWith, featuredAt, judged, ticked, featuresRefusal, featuresOf, clearedAt, resetOf}
 use Rattle.tier1.proofs.Ready.{no-leftover, new-fits}
 
 -- ---- the state after a chunk
@@ -39,45 +42,45 @@ filled-is : (b : ChunkBuf) (s t h d e : ℕ) (l : List Float) → refusal (lentR
 unfolding fillOf
 filled-is b s t h d e l z er = rw (er, eq-eqb (refusal (lentReasons l h d e)) 0 z)
 
-module _ (m : Manifest) (p : List Float) (k : Head) (rows : List Float) (rt : Tier1Rt) (there : Bool) where
-  pub no-chunk : there ≡ false → _≡_ {A = SixFeatures} (record { held = rt .held; valid = rt .«held_valid»; sound = true }) (heldFrom (afterChunk binary64 m p there k rows rt))
+module _ (fm : Format) (m : Manifest) (p : List Float) (k : Head) (rows : List Float) (rt : Tier1Rt) (there : Bool) where
+  pub no-chunk : there ≡ false → _≡_ {A = SixFeatures} (record { held = rt .held; valid = rt .«held_valid»; sound = true }) (heldFrom (afterChunk fm m p there k rows rt))
   unfolding afterChunk
   no-chunk e = rw e
 
   pub chunk-held : {v : Kept} {b : SixFeatures} → there ≡ true → v ≡ keptOf rt
-      → b ≡ boundaryFrom (boundary binary64 m v (rt .prev .«data») p (k .«t_emit») (k .horizon) rows) (boundaryBits m v p (k .«t_emit») (k .horizon))
-      → b ≡ heldFrom (afterChunk binary64 m p there k rows rt)
+      → b ≡ boundaryFrom (boundary fm m v (rt .prev .«data») p (k .«t_emit») (k .horizon) rows) (boundaryBits m v p (k .«t_emit») (k .horizon))
+      → b ≡ heldFrom (afterChunk fm m p there k rows rt)
   unfolding afterChunk
   chunk-held e ev eb = rw (eb, ev, e, and-true)
 
   -- the trail is never written
-  pub chunk-keeps-trail : afterChunk binary64 m p there k rows rt .value .trail ≡ rt .trail
+  pub chunk-keeps-trail : afterChunk fm m p there k rows rt .value .trail ≡ rt .trail
   unfolding afterChunk
   chunk-keeps-trail = go there
     where
-      go : (t : Bool) → afterChunk binary64 m p t k rows rt .value .trail ≡ rt .trail
+      go : (t : Bool) → afterChunk fm m p t k rows rt .value .trail ≡ rt .trail
       go true = refl
       go false = refl
 
   -- a chunk replaces the one before
-  pub chunk-replaces : afterChunk binary64 m p there k rows rt .value
+  pub chunk-replaces : afterChunk fm m p there k rows rt .value
       ≡ record {
         prev = if there then heldOf (rt .prev) (k .seq) (k .«t_emit») (k .horizon) (k .dim) (k .«exec_steps») rows else rt .prev;
         «have_prev» = there || rt .«have_prev»;
         trail = rt .trail;
-        held = afterChunk binary64 m p there k rows rt .value .held;
-        «held_valid» = afterChunk binary64 m p there k rows rt .value .«held_valid»;
+        held = afterChunk fm m p there k rows rt .value .held;
+        «held_valid» = afterChunk fm m p there k rows rt .value .«held_valid»;
       }
   unfolding afterChunk
   chunk-replaces = go there
     where
-      go : (t : Bool) → afterChunk binary64 m p t k rows rt .value
+      go : (t : Bool) → afterChunk fm m p t k rows rt .value
           ≡ record {
             prev = if t then heldOf (rt .prev) (k .seq) (k .«t_emit») (k .horizon) (k .dim) (k .«exec_steps») rows else rt .prev;
             «have_prev» = t || rt .«have_prev»;
             trail = rt .trail;
-            held = afterChunk binary64 m p t k rows rt .value .held;
-            «held_valid» = afterChunk binary64 m p t k rows rt .value .«held_valid»;
+            held = afterChunk fm m p t k rows rt .value .held;
+            «held_valid» = afterChunk fm m p t k rows rt .value .«held_valid»;
           }
       go true = refl
       go false = refl
@@ -88,6 +91,11 @@ module _ (m : Manifest) (p : List Float) (k : Head) (rows : List Float) (rt : Ti
       let a = lent-accepted rows (k .horizon) (k .dim) (k .«exec_steps») (w .0) .0 in
       let e : length rows ≡ k .horizon * m .dim = rw (w .1) at (a .all-there) in
       (n, (a .some-rows, (a .not-long, omega arith)))
+
+-- the manifest reads what is derived
+pub manifest-is : (fm : Format) (c : FuseConfig) {d : Derived} {m : Manifest} → m ≡ manifestFrom c d → d ≡ derived fm c → m ≡ manifestOf fm c
+unfolding manifestOf
+manifest-is fm c em ed = em ∙ ap (manifestFrom c) ed
 
 -- ---- reset
 
@@ -109,31 +117,31 @@ at-number : (n : ℕ) → (n ≡ 0 → ⊥) → (x : Tick) (rt : Tier1Rt) (sc : 
 at-number zero f x rt sc = absurd (f refl)
 at-number (suc n) f x rt sc = refl
 
-module _ (c : FuseConfig) (p ext : List Float) (there : Bool) (k : Head) (rows : List Float) (rt : Tier1Rt) (sc : Scores) where
+module _ (fm : Format) (c : FuseConfig) (tabs : Tables) (p ext : List Float) (there : Bool) (k : Head) (rows : List Float) (rt : Tier1Rt) (sc : Scores) where
   abbrev answer : Featured
-  answer = featuresOf c p ext there k rows rt sc
+  answer = featuresOf fm c tabs p ext there k rows rt sc
 
   abbrev number : ℕ
-  number = given (judged c p ext there k rows rt sc)
+  number = given (judged fm c tabs p ext there k rows rt sc)
 
-  numbered : (n : ℕ) → n ≡ featuresRefusal c p ext there k rows rt sc → (n ≡ 0 → ⊥) → {r : Refusal} → r ≡ refusedFor n → _≡_ {A = Featured} (record { refusal = r; rt = rt; scores = sc }) answer
+  numbered : (n : ℕ) → n ≡ featuresRefusal fm c tabs p ext there k rows rt sc → (n ≡ 0 → ⊥) → {r : Refusal} → r ≡ refusedFor n → _≡_ {A = Featured} (record { refusal = r; rt = rt; scores = sc }) answer
   unfolding featuresOf
-  numbered n e f er = rw (er, ← e) (at-number n f (ticked c p ext there k rows rt sc .value) rt sc)
+  numbered n e f er = rw (er, ← e) (at-number n f (ticked fm c tabs p ext there k rows rt sc .value) rt sc)
 
   pub lent-refused : (n : ℕ) → n ≡ number → (n ≡ 0 → ⊥) → {r : Refusal} → r ≡ refusedFor n → _≡_ {A = Featured} (record { refusal = r; rt = rt; scores = sc }) answer
   unfolding featuresRefusal
-  lent-refused n e f = numbered n (e ∙ sym (refused-first (judged c p ext there k rows rt sc) (not (ticked c p ext there k rows rt sc .sound)) (no-leftover c p ext there k rows rt sc, tt) (λ z. f (e ∙ z)))) f
+  lent-refused n e f = numbered n (e ∙ sym (refused-first (judged fm c tabs p ext there k rows rt sc) (not (ticked fm c tabs p ext there k rows rt sc .sound)) (no-leftover fm c tabs p ext there k rows rt sc, tt) (λ z. f (e ∙ z)))) f
 
-  module _ {n : ℕ} (en : n ≡ number) (ez : n ≡ 0) {m : Manifest} {x : SixFeatures} {y : AllFeatures} (em : m ≡ manifestOf c) (ex : x ≡ heldFrom (afterChunk binary64 m p there k rows rt))
-      (ey : y ≡ twelveFrom (twelve binary64 m (rt .trail) (x .held) (x .valid) ext)) where
-    tick-sound : x .sound && y .sound ≡ ticked c p ext there k rows rt sc .sound
+  module _ {n : ℕ} (en : n ≡ number) (ez : n ≡ 0) {m : Manifest} {x : SixFeatures} {y : AllFeatures} (em : m ≡ manifestOf fm c) (ex : x ≡ heldFrom (afterChunk fm m p there k rows rt))
+      (ey : y ≡ twelveFrom (twelve fm m (rt .trail) (x .held) (x .valid) ext)) where
+    tick-sound : x .sound && y .sound ≡ ticked fm c tabs p ext there k rows rt sc .sound
     unfolding ticked tick
-    tick-sound = rw (ey, ex, em, and-true, chunk-keeps-trail (manifestOf c) p k rows rt there)
+    tick-sound = rw (ey, ex, em, and-true, chunk-keeps-trail fm (manifestOf fm c) p k rows rt there)
 
-    known : (b : Bool) → x .sound && y .sound ≡ b → featuresRefusal c p ext there k rows rt sc ≡ (if not b then 13 else 0)
+    known : (b : Bool) → x .sound && y .sound ≡ b → featuresRefusal fm c tabs p ext there k rows rt sc ≡ (if not b then 13 else 0)
     unfolding featuresRefusal
     known b e =
-        only-computed (judged c p ext there k rows rt sc) (not (ticked c p ext there k rows rt sc .sound)) (sym en ∙ ez)
+        only-computed (judged fm c tabs p ext there k rows rt sc) (not (ticked fm c tabs p ext there k rows rt sc .sound)) (sym en ∙ ez)
         ∙ ap (λ (t : Bool). if not t then 13 else 0) (sym tick-sound ∙ e)
 
     pub not-sound : x .sound && y .sound ≡ false → _≡_ {A = Featured} (record { refusal = refusedFor 13; rt = rt; scores = sc }) answer
@@ -141,7 +149,7 @@ module _ (c : FuseConfig) (p ext : List Float) (there : Bool) (k : Head) (rows :
 
     pub passes : x .sound && y .sound ≡ true → {r : Refusal} → r ≡ refusedFor 0 → _≡_ {A = TickOut} (record { refusal = r; held = x .held; «held_valid» = x .valid; f = y .f; valid = y .valid }) (outOf answer)
     unfolding featuresOf ticked tick
-    passes e er = rw (er, known true e, ey, ex, em, chunk-keeps-trail (manifestOf c) p k rows rt there)
+    passes e er = rw (er, known true e, ey, ex, em, chunk-keeps-trail fm (manifestOf fm c) p k rows rt there)
 
   -- ---- the whole answer, from what a tick comes to
 
@@ -149,29 +157,29 @@ module _ (c : FuseConfig) (p ext : List Float) (there : Bool) (k : Head) (rows :
   abbrev keptChunk : ChunkBuf
   keptChunk = if there then heldOf (rt .prev) (k .seq) (k .«t_emit») (k .horizon) (k .dim) (k .«exec_steps») rows else rt .prev
 
-  whole-at : (n : ℕ) → n ≡ 0 → featuredAt n (ticked c p ext there k rows rt sc .value) rt sc ≡ wholeAnswer keptChunk there rt sc (outOf (featuredAt n (ticked c p ext there k rows rt sc .value) rt sc))
+  whole-at : (n : ℕ) → n ≡ 0 → featuredAt n (ticked fm c tabs p ext there k rows rt sc .value) rt sc ≡ wholeAnswer keptChunk there rt sc (outOf (featuredAt n (ticked fm c tabs p ext there k rows rt sc .value) rt sc))
   unfolding ticked tick
-  whole-at zero e = ap (λ (s : Tier1Rt). record { refusal = refusedFor 0; rt = s; scores = scoresWith (ticked c p ext there k rows rt sc .value .found) sc }) (chunk-replaces (manifestOf c) p k rows rt there)
+  whole-at zero e = ap (λ (s : Tier1Rt). record { refusal = refusedFor 0; rt = s; scores = scoresWith (ticked fm c tabs p ext there k rows rt sc .value .found) sc }) (chunk-replaces fm (manifestOf fm c) p k rows rt there)
   whole-at (suc n) e = absurd (omega arith)
 
-  number-is : answer .refusal .number ≡ featuresRefusal c p ext there k rows rt sc
+  number-is : answer .refusal .number ≡ featuresRefusal fm c tabs p ext there k rows rt sc
   unfolding featuresOf
-  number-is = go (featuresRefusal c p ext there k rows rt sc)
+  number-is = go (featuresRefusal fm c tabs p ext there k rows rt sc)
     where
-      go : (n : ℕ) → featuredAt n (ticked c p ext there k rows rt sc .value) rt sc .refusal .number ≡ n
+      go : (n : ℕ) → featuredAt n (ticked fm c tabs p ext there k rows rt sc .value) rt sc .refusal .number ≡ n
       go zero = refl
       go (suc n) = refl
 
   pub passed-whole : answer .refusal .number ≡ 0 → answer ≡ wholeAnswer keptChunk there rt sc (outOf answer)
   unfolding featuresOf
-  passed-whole e = whole-at (featuresRefusal c p ext there k rows rt sc) (sym number-is ∙ e)
+  passed-whole e = whole-at (featuresRefusal fm c tabs p ext there k rows rt sc) (sym number-is ∙ e)
 
   -- an accepted chunk has room in the buffer
   accepted-chunk : answer .refusal .number ≡ 0 → there ≡ true → refusal (lentReasons rows (k .horizon) (k .dim) (k .«exec_steps»)) ≡ 0
   unfolding featuresRefusal
   accepted-chunk e t =
-      let z = neither-applies (judged c p ext there k rows rt sc) (among ((computed when not (ticked c p ext there k rows rt sc .sound)) ∷ [])) (sym number-is ∙ e) .0 in
-      new-fits c p ext there k rows rt sc refl z t .0
+      let z = neither-applies (judged fm c tabs p ext there k rows rt sc) (among ((computed when not (ticked fm c tabs p ext there k rows rt sc .sound)) ∷ [])) (sym number-is ∙ e) .0 in
+      new-fits fm c tabs p ext there k rows rt sc refl z t .0
 
   pub rows-fit : answer .refusal .number ≡ 0 → there ≡ true → length rows ≤ 512
   rows-fit e t = accepted-fits (lent-accepted rows (k .horizon) (k .dim) (k .«exec_steps») (accepted-chunk e t) .0)
@@ -193,9 +201,9 @@ module _ (c : FuseConfig) (p ext : List Float) (there : Bool) (k : Head) (rows :
 
   pub refused-from : {a : TickOut} → a ≡ outOf answer → (a .refusal .number ≡ 0 → ⊥) → _≡_ {A = Featured} (record { refusal = a .refusal; rt = rt; scores = sc }) answer
   unfolding featuresOf
-  refused-from {a} ea f = rw ea (go (featuresRefusal c p ext there k rows rt sc) (λ z. f (rw ea z)))
+  refused-from {a} ea f = rw ea (go (featuresRefusal fm c tabs p ext there k rows rt sc) (λ z. f (rw ea z)))
     where
-      go : (n : ℕ) → (featuredAt n (ticked c p ext there k rows rt sc .value) rt sc .refusal .number ≡ 0 → ⊥)
-          → _≡_ {A = Featured} (record { refusal = featuredAt n (ticked c p ext there k rows rt sc .value) rt sc .refusal; rt = rt; scores = sc }) (featuredAt n (ticked c p ext there k rows rt sc .value) rt sc)
+      go : (n : ℕ) → (featuredAt n (ticked fm c tabs p ext there k rows rt sc .value) rt sc .refusal .number ≡ 0 → ⊥)
+          → _≡_ {A = Featured} (record { refusal = featuredAt n (ticked fm c tabs p ext there k rows rt sc .value) rt sc .refusal; rt = rt; scores = sc }) (featuredAt n (ticked fm c tabs p ext there k rows rt sc .value) rt sc)
       go zero f = absurd (f refl)
       go (suc n) f = refl

@@ -4,7 +4,7 @@ use mathlib.Core.Bool.{Bool, true, false, not, _&&_, _||_}
 use mathlib.Core.List.{List, [], _∷_}
 use lib.Dec.{leb}
 use lib.ListN.{length, replicate}
-use lib.Ieee.{Float, Format, binary64}
+use lib.Ieee.{Float, Format}
 use Rattle.refusal.specs.Order.{Reason, computed, _when_, among, given, _or_, refusedFor}
 use Rattle.bits.specs.Choice.{if_then_else_}
 use Rattle.checked.specs.Each.{table}
@@ -14,6 +14,7 @@ use Rattle.chunk.specs.Of as chunk
 use Rattle.chunk.specs.declared.ChunkBuf.{ChunkBuf}
 use Rattle.window.specs.Of as window
 use Rattle.bits.specs.Bits.{bitsWhere}
+use Rattle.conformal.specs.Rule.{Tables}
 use Rattle.conformal.specs.declared.Scores.{Scores}
 use Rattle.envelope.specs.Derive.{kept, derived}
 use Rattle.envelope.specs.Refusals.{configJudged}
@@ -43,8 +44,8 @@ manifestFrom c d = record {
   iso = d .«norm_scale_iso»;
 }
 
-unfoldable pub manifestOf : FuseConfig → Manifest
-manifestOf c = manifestFrom c (derived binary64 c)
+unfoldable pub manifestOf : Format → FuseConfig → Manifest
+manifestOf f c = manifestFrom c (derived f c)
 
 -- the chunk before, where one was delivered and is held
 abbrev pub keptOf : Tier1Rt → Kept
@@ -61,11 +62,11 @@ abbrev pub pairFrom : Checked Float → Checked Float → Pair
 pairFrom x y = record { first = x .value; second = y .value; sound = x .sound && y .sound }
 
 -- Tce and Acc, where two rows or more overlap
-abbrev pub metFrom : Manifest → Kept → List Float → ℕ → List Float → ℕ → Pair
-metFrom m k a t b h =
+abbrev pub metFrom : Format → Manifest → Kept → List Float → ℕ → List Float → ℕ → Pair
+metFrom f m k a t b h =
     pairFrom
-    (ifThere (leb 2 (overlap k t h (m .dim))) (tce binary64 m a (t - k .«t_emit») b (overlap k t h (m .dim))))
-    (ifThere (leb 2 (overlap k t h (m .dim))) (acc binary64 m a (t - k .«t_emit») b (overlap k t h (m .dim))))
+    (ifThere (leb 2 (overlap k t h (m .dim))) (tce f m a (t - k .«t_emit») b (overlap k t h (m .dim))))
+    (ifThere (leb 2 (overlap k t h (m .dim))) (acc f m a (t - k .«t_emit») b (overlap k t h (m .dim))))
 
 abbrev pub boundaryFrom : Checked (List Float) → ℕ → SixFeatures
 boundaryFrom x bits = record { held = x .value; valid = bits; sound = x .sound }
@@ -137,13 +138,13 @@ abbrev pub featuredAt : ℕ → Tick → Tier1Rt → Scores → Featured
 featuredAt zero x rt sc = record { refusal = refusedFor 0; rt = x .rt; scores = scoresWith (x .found) sc }
 featuredAt (suc n) x rt sc = record { refusal = refusedFor (suc n); rt = rt; scores = sc }
 
-module _ (c : FuseConfig) (p ext : List Float) (there : Bool) (k : Head) (rows : List Float) (rt : Tier1Rt) (sc : Scores) where
+module _ (f : Format) (c : FuseConfig) (t : Tables) (p ext : List Float) (there : Bool) (k : Head) (rows : List Float) (rt : Tier1Rt) (sc : Scores) where
   -- 1 to 12
   abbrev pub judged : Reason → Bool
-  judged = among (configJudged c) or (newJudged there k (length rows) (c .dim) or (stateJudged rt or lentJudged p ext there rows sc))
+  judged = among (configJudged f c t) or (newJudged there k (length rows) (c .dim) or (stateJudged rt or lentJudged p ext there rows sc))
 
   unfoldable pub ticked : Checked Tick
-  ticked = tick binary64 (manifestOf c) p ext there k rows rt
+  ticked = tick f (manifestOf f c) p ext there k rows rt
 
   -- .. and 13
   unfoldable pub featuresRefusal : ℕ

@@ -97,7 +97,7 @@ fn matched(m: Manifest, a: &[f64], k: usize, b: &[f64], l: usize) -> Pair
 // The same for a chunk of h rows, emitted at t, where two rows or more overlap.
 fn met(m: Manifest, k: Kept, a: &[f64], t: u32, b: &[f64], h: usize) -> Pair
     requires { ⌜ (m .dim ≤ 8) × (h * m .dim ≤ length (now b)) × (k .there ≡ true → (k .horizon ≤ 64) × (k .horizon * k .dim ≤ length (now a))) ⌝ }
-    ensures { λ r. ⌜ r ≡ metFrom m k (now (a .entry)) t (now (b .entry)) h ⌝ }
+    ensures { λ r. ⌜ r ≡ metFrom binary64 m k (now (a .entry)) t (now (b .entry)) h ⌝ }
 {
     let l = overlap(k, t, h, m.dim);
     if l < 2 {

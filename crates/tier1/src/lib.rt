@@ -1,13 +1,12 @@
 // Tier 1: the scores that the gate decides on, each larger the less ordinary the motion is.
 ghost use mathlib.Core.Path.{_≡_};
 ghost use mathlib.Core.Bool.{true};
-ghost use mathlib.Core.List.{List};
 ghost use Prim.Native.Nat.{_*_, _≤_};
-ghost use lib.Ieee.{Float, binary64};
+ghost use lib.Ieee.{binary64};
 ghost use Rattle.bits.specs.Choice.{if_then_else_};
 ghost use Rattle.refusal.specs.Order.{refusal, refusedFor};
-ghost use Rattle.envelope.specs.Whole.{whole};
-ghost use Rattle.tier1.specs.Of.{wholeAnswer, keptOf, manifestOf, newRt, heldFrom, outOf, afterChunk, featuresOf, resetOf};
+ghost use Rattle.conformal.specs.Of.{tables};
+ghost use Rattle.tier1.specs.Of.{wholeAnswer, keptOf, manifestFrom, newRt, heldFrom, outOf, afterChunk, featuresOf, resetOf};
 ghost use Rattle.chunk.specs.Refusals.{lentReasons};
 ghost use Rattle.chunk.specs.Of.{fillOf};
 use crate::held::boundary;
@@ -16,8 +15,8 @@ use crate::refusals::state_refusal;
 use crate::tick::twelve;
 use chunk::ChunkBuf;
 use conformal::Scores;
+use envelope::Derived;
 use envelope::FuseConfig;
-use envelope::Settings;
 use refusal::Refusal;
 use window::Trail;
 
@@ -105,18 +104,15 @@ pub struct Cleared {
     pub rt: Tier1Rt,
 }
 
-fn manifest_of(c: Settings) -> Manifest
-    ensures { λ r. ⌜ ((t u : List Float) → r ≡ manifestOf (whole c t u)) ⌝ }
+fn manifest_of(c: FuseConfig, d: Derived) -> Manifest
+    ensures { λ r. ⌜ r ≡ manifestFrom c d ⌝ }
 {
-    let l = c.limits;
-    let norm = c.norm;
-    let d = envelope::derive_from(l, norm, c.walls, c.dim, c.pos_dim);
-    let center = norm.center;
+    let center = c.norm.center;
     let inverse = d.inv_norm_scale;
     Manifest {
         dim: c.dim,
         pos_dim: c.pos_dim,
-        dt: l.dt,
+        dt: c.limits.dt,
         center,
         inverse,
         iso: d.norm_scale_iso,
@@ -225,11 +221,11 @@ fn held_after(
     boundary(m, kept, &rt.prev.data, pos, k.t_emit, h, rows)
 }
 
-// What a tick finds, of settings and lent tables.
-pub fn tick_with<'a>(
-    c: Settings,
-    center: &'a [f64; 192],
-    scale: &'a [f64; 192],
+// What a tick finds: the features of `features`, without the chunk that is kept.
+pub fn one_tick(
+    c: FuseConfig,
+    center: &[f64; 192],
+    scale: &[f64; 192],
     rt: Tier1Rt,
     pos: &[f64],
     ext: &[f64],
@@ -238,13 +234,14 @@ pub fn tick_with<'a>(
     rows: &[f64],
     sc: Scores,
 ) -> TickOut
-    ensures { λ r. ⌜ r ≡ outOf (featuresOf (whole c (now (center .entry)) (now (scale .entry))) (now (pos .entry)) (now (ext .entry)) there k (now (rows .entry)) rt sc) ⌝ }
+    ensures { λ r. ⌜ r ≡ outOf (featuresOf binary64 c (tables (now (center .entry)) (now (scale .entry))) (now (pos .entry)) (now (ext .entry)) there k (now (rows .entry)) rt sc) ⌝ }
 {
-    let number = features_refusal(c, center, scale, rt, pos, ext, there, k, rows, sc);
+    let compiled = envelope::compile(c, center, scale);
+    let number = features_refusal(c, compiled.number, rt, pos, ext, there, k, rows, sc);
     if number != 0 {
         return unchanged(number, rt, sc);
     }
-    let m = manifest_of(c);
+    let m = manifest_of(c, compiled.derived);
     let next = held_after(m, rt, pos, there, k, rows);
     let trail = rt.trail;
     let held = next.held;
@@ -308,6 +305,8 @@ fn passed(prev: ChunkBuf, there: bool, rt: Tier1Rt, sc: Scores, a: TickOut) -> F
 // replaces the held features and the chunk before; the trail stays. On refusal state and scores are as they came.
 pub fn features(
     c: FuseConfig,
+    center: &[f64; 192],
+    scale: &[f64; 192],
     rt: Tier1Rt,
     pos: &[f64],
     ext: &[f64],
@@ -316,21 +315,9 @@ pub fn features(
     rows: &[f64],
     sc: Scores,
 ) -> Featured
-    ensures { λ r. ⌜ r ≡ featuresOf c (now (pos .entry)) (now (ext .entry)) there k (now (rows .entry)) rt sc ⌝ }
+    ensures { λ r. ⌜ r ≡ featuresOf binary64 c (tables (now (center .entry)) (now (scale .entry))) (now (pos .entry)) (now (ext .entry)) there k (now (rows .entry)) rt sc ⌝ }
 {
-    let s = envelope::settings_of(c);
-    let a = tick_with(
-        s,
-        &c.calib.center,
-        &c.calib.scale,
-        rt,
-        pos,
-        ext,
-        there,
-        k,
-        rows,
-        sc,
-    );
+    let a = one_tick(c, center, scale, rt, pos, ext, there, k, rows, sc);
     let refusal = a.refusal;
     if refusal.number != 0 {
         return Featured {

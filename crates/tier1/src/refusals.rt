@@ -1,13 +1,15 @@
 // The number that a tick is refused with before anything is computed.
 ghost use mathlib.Core.Path.{_≡_};
-ghost use Rattle.refusal.specs.Order.{given};
-ghost use Rattle.envelope.specs.Whole.{whole};
+ghost use lib.Ieee.{binary64};
+ghost use Rattle.refusal.specs.Order.{given, refusal};
+ghost use Rattle.conformal.specs.Rule.{Tables};
+ghost use Rattle.envelope.specs.Refusals.{configJudged};
 ghost use Rattle.tier1.specs.Of.{judged};
 ghost use Rattle.tier1.specs.Refusals.{newJudged, stateJudged, someNotFiniteIn};
 use crate::Head;
 use crate::Tier1Rt;
 use conformal::Scores;
-use envelope::Settings;
+use envelope::FuseConfig;
 use refusal::Refusal;
 
 // The number for a new chunk's sizes and its width.
@@ -49,11 +51,10 @@ fn not_finite(pos: &[f64], ext: &[f64], there: bool, rows: &[f64], sc: Scores) -
     !k | !l | (there & !m) | !n
 }
 
-// The number for all that is lent, before anything is computed.
-pub(crate) fn features_refusal<'a>(
-    c: Settings,
-    center: &'a [f64; 192],
-    scale: &'a [f64; 192],
+// The number for all that is lent, after the configuration's own, before anything is computed.
+pub(crate) fn features_refusal(
+    c: FuseConfig,
+    config: u8,
     rt: Tier1Rt,
     pos: &[f64],
     ext: &[f64],
@@ -62,9 +63,8 @@ pub(crate) fn features_refusal<'a>(
     rows: &[f64],
     sc: Scores,
 ) -> u8
-    ensures { λ r. ⌜ r ≡ given (judged (whole c (now (center .entry)) (now (scale .entry))) (now (pos .entry)) (now (ext .entry)) there k (now (rows .entry)) rt sc) ⌝ }
+    ensures { λ r. ⌜ ((t : Tables) → config ≡ refusal (configJudged binary64 c t) → r ≡ given (judged binary64 c t (now (pos .entry)) (now (ext .entry)) there k (now (rows .entry)) rt sc)) ⌝ }
 {
-    let config = envelope::settings_refusal(c, center, scale);
     let new = new_refusal(there, k, rows.len(), c.dim);
     let state = state_refusal(rt);
     let bad = not_finite(pos, ext, there, rows, sc);

@@ -2,6 +2,7 @@
 use denote.Ref.{now}
 use Rattle.tier1.proofs.Masks.{bits-are, boundary-is}
 use borrow.Author.Needs.{needs}
+use lib.Ieee.{binary64}
 use Rattle.tier1.proofs.held.boundary.Statement.{statement}
 use Rattle.tier1.proofs.held.boundary.Tie as tie
 
@@ -32,8 +33,8 @@ speed-peak-requires c κs = search needs
 returns : tie.Need-returns
 returns c =
     let g = c .before .before .before .before .before .before .before .before .before .before .before .before .before .before .before .before .args in
-    boundary-is (g .m) (g .k) (now (g .a)) (now (g .pos)) (g .t) (g .h) (now (g .b))
-    (bits-are (g .m) (g .k) (now (g .a)) (now (g .pos)) (g .t) (g .h) (now (g .b)) (c .before .before .before .before .before .before .before .before .before .before .before .before .overlap .ensures) (c .before .before .before .before .before .before .before .before .before .before .before .shared .ensures) (c .before .before .before .before .before .before .before .before .before .before .boundary-bits .ensures))
+    boundary-is binary64 (g .m) (g .k) (now (g .a)) (now (g .pos)) (g .t) (g .h) (now (g .b))
+    (bits-are binary64 (g .m) (g .k) (now (g .a)) (now (g .pos)) (g .t) (g .h) (now (g .b)) (c .before .before .before .before .before .before .before .before .before .before .before .before .overlap .ensures) (c .before .before .before .before .before .before .before .before .before .before .before .shared .ensures) (c .before .before .before .before .before .before .before .before .before .before .boundary-bits .ensures))
     (c .before .before .before .before .before .before .before .before .before .met .ensures) (c .before .before .before .before .before .before .before .before .acm-neg .ensures) (c .before .before .before .before .before .before .before .njr .ensures) (c .before .before .before .before .before .before .reach .ensures) (c .before .before .before .before .before .speed-peak .ensures)
 
 pub boundary-spec : {M : Type 1} → statement M
