@@ -20,6 +20,7 @@ use Rattle.checked.specs.Finite.{+0, finite, allFinite}
 use Rattle.checked.specs.Row.{padded}
 use Rattle.checked.proofs.Each.{all-at, neither, over-at, over-keeps}
 use Rattle.checked.proofs.Ordered.{finite-real}
+use Rattle.conformal.specs.Rule.{Tables}
 use Rattle.envelope.specs.Refusals.{configJudged}
 use Rattle.envelope.specs.declared.ActionKind.{ActionKind}
 use Rattle.envelope.specs.declared.ActionKind.the-variants.{EePosition, EeDelta, JointPosition, JointVelocity, Other}
@@ -59,40 +60,40 @@ positions JointPosition h = inr (inl refl)
 positions JointVelocity h = absurd (false≢true h)
 positions Other h = inr (inr refl)
 
-module _ (c : FuseConfig) (p l : List Float) (unfit : Bool) (passed : refusal (configJudged c ++ rowLent c unfit (length l)) ≡ 0) where
+module _ (c : FuseConfig) (tabs : Tables) (p l : List Float) (unfit : Bool) (passed : refusal (configJudged binary64 c tabs ++ rowLent c unfit (length l)) ≡ 0) where
   fit-position : unfit ≡ false
   fit-position =
-      let w = both-pass (configJudged c) (rowLent c unfit (length l)) passed .1 in
+      let w = both-pass (configJudged binary64 c tabs) (rowLent c unfit (length l)) passed .1 in
       let a = passes-at short (ltb (length l) (c .dim)) ((notFinite when unfit) ∷ []) w in
       passes-at notFinite unfit [] (a .1) .0
 
   written-inside : someNotFinite p ≡ false → (j : ℕ) → j < c .dim → InBox c j (at (over (at (setpoint (wallsAt binary64 c) p (c .dim))) l (c .dim)) j)
   unfolding setpoint
   written-inside real j in-it =
-      let fit = accepted c (both-pass (configJudged c) (rowLent c unfit (length l)) passed .0) in
-      let few = dim-most c fit in
-      let room = sized c unfit (length l) passed .1 in
+      let fit = accepted binary64 c tabs (both-pass (configJudged binary64 c tabs) (rowLent c unfit (length l)) passed .0) in
+      let few = dim-most binary64 c tabs fit in
+      let room = sized binary64 c tabs unfit (length l) passed .1 in
       let below : j < 8 = omega arith in
       let point = finite-real (at (eight p 8) j) (eight-finite p j below real) in
-      let low = finite-real (at (wallsAt binary64 c .lo) j) (low-wall-finite c fit j below) in
-      let high = finite-real (at (wallsAt binary64 c .hi) j) (high-wall-finite c fit j below) in
+      let low = finite-real (at (wallsAt binary64 c .lo) j) (low-wall-finite binary64 c tabs fit j below) in
+      let high = finite-real (at (wallsAt binary64 c .hi) j) (high-wall-finite binary64 c tabs fit j below) in
       rw (over-at (at (setpoint (wallsAt binary64 c) p (c .dim))) l (c .dim) j in-it (omega arith))
-      (inward-inside (wallsAt binary64 c) (eight p 8) (c .dim) j in-it (omega (arith, length-eight p 8)) point low high (walls-ordered c fit j below))
+      (inward-inside (wallsAt binary64 c) (eight p 8) (c .dim) j in-it (omega (arith, length-eight p 8)) point low high (walls-ordered binary64 c tabs fit j below))
 
-module _ (c : FuseConfig) (is : isPosition (c .kind) ≡ true) (p l : List Float) where
-  pub brake-inside : (v : List Float) → BrakesInside c p v l
+module _ (c : FuseConfig) (tabs : Tables) (is : isPosition (c .kind) ≡ true) (p l : List Float) where
+  pub brake-inside : (v : List Float) → BrakesInside c tabs p v l
   unfolding brakeAnswer brakeOutput brakeRefusal brakeSent
   brake-inside v done j in-it =
-      let z = sent-zero (brakeRefusal c p v (length l)) done in
+      let z = sent-zero (brakeRefusal binary64 c tabs p v (length l)) done in
       let unfit = someNotFinite p || someNotFinite v in
-      let passed = both-pass (configJudged c ++ rowLent c unfit (length l)) ((computed when not (brakeSent c p v .sound)) ∷ []) z .0 in
-      let real = neither (someNotFinite p) (someNotFinite v) (fit-position c p l unfit passed) .0 in
+      let passed = both-pass (configJudged binary64 c tabs ++ rowLent c unfit (length l)) ((computed when not (brakeSent binary64 c p v .sound)) ∷ []) z .0 in
+      let real = neither (someNotFinite p) (someNotFinite v) (fit-position c tabs p l unfit passed) .0 in
       rw (z, position-brakes (wallsAt binary64 c) p (c .dim) binary64 (c .limits .«a_max») (c .limits .dt) v (c .kind) (positions (c .kind) is))
-      (written-inside c p l unfit passed real j in-it)
+      (written-inside c tabs p l unfit passed real j in-it)
 
-  pub hold-inside : HoldsInside c p l
+  pub hold-inside : HoldsInside c tabs p l
   unfolding holdAnswer holdOutput holdRefusal
   hold-inside done j in-it =
-      let z = sent-zero (holdRefusal c p (length l)) done in
+      let z = sent-zero (holdRefusal binary64 c tabs p (length l)) done in
       rw (z, position-holds (wallsAt binary64 c) p (c .dim) (c .kind) (positions (c .kind) is))
-      (written-inside c p l (someNotFinite p) z (fit-position c p l (someNotFinite p) z) j in-it)
+      (written-inside c tabs p l (someNotFinite p) z (fit-position c tabs p l (someNotFinite p) z) j in-it)

@@ -6,7 +6,7 @@ use mathlib.Core.List.{List, [], _∷_}
 use native.Mathlib.Omega.{arith}
 use types.Run.{OneOf}
 use denote.Enum.Declared.{tagOf}
-use lib.Ieee.{Float, Format, binary64}
+use lib.Ieee.{Float, Format}
 use Rattle.envelope.specs.declared.BrakeKind.{BrakeKind}
 use Rattle.envelope.specs.declared.BrakeKind.the-variants.{PdSecondOrder, FirstOrderDecay, BoundedAccel, JerkLimited, ZeroVelocityHold}
 use Rattle.envelope.specs.declared.BrakeModel.{BrakeModel}
@@ -59,12 +59,12 @@ module _ (f : Format) (c : FuseConfig) (p v rows : List Float) (h d from : ℕ) 
   count-is (ZeroVelocityHold kp kv dt) = refl
 
 -- the forecast of what the code builds is the configuration's
-module _ (c : FuseConfig) (p v rows : List Float) (h d from : ℕ) {w : Workspace} {course : Course} {start : Plant} (ew : w ≡ workspaceFor c) (ec : course ≡ courseFor c h d from) (es : start ≡ startFor c p v) where
+module _ (f : Format) (c : FuseConfig) (p v rows : List Float) (h d from : ℕ) {w : Workspace} {course : Course} {start : Plant} (ew : w ≡ workspaceFor f c) (ec : course ≡ courseFor c h d from) (es : start ≡ startFor c p v) where
   pub second-order-is : (kp kv dt : Float) → c .brake .kind ≡ PdSecondOrder kp kv dt
-      → rollout.forecast binary64 (rolled.taskOf (record { «k_p» = kp; «k_v» = kv; dt = dt }) w course start rows) ≡ forecastOf binary64 c p v rows h d from
+      → rollout.forecast f (rolled.taskOf (record { «k_p» = kp; «k_v» = kv; dt = dt }) w course start rows) ≡ forecastOf f c p v rows h d from
   unfolding forecastBy
   second-order-is kp kv dt e = rw (ew, ec, es, e)
 
   pub closed-is : {arm : Arm} → arm ≡ armOf c → Other (c .brake .kind)
-      → stopping.forecast binary64 (stopped.taskOf arm (c .brake .«react_ticks») w course start rows) ≡ forecastOf binary64 c p v rows h d from
-  closed-is ea o = rw (ew, ec, es, ea) (sym (other-forecast binary64 c p v rows h d from (c .brake .kind) o))
+      → stopping.forecast f (stopped.taskOf arm (c .brake .«react_ticks») w course start rows) ≡ forecastOf f c p v rows h d from
+  closed-is ea o = rw (ew, ec, es, ea) (sym (other-forecast f c p v rows h d from (c .brake .kind) o))

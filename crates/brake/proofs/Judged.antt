@@ -8,7 +8,7 @@ use native.Mathlib.Omega.{arith}
 use borrow.Author.Tests.{eqb-true, eqb-false, eq-eqb, ne-eqb, ltb-false, not-false}
 use lib.Dec.{eqb, ltb}
 use lib.ListN.{length}
-use lib.Ieee.{Float, binary64}
+use lib.Ieee.{Float, Format}
 use Rattle.refusal.specs.Order.{Judged, numberOf, width, short, notFinite, computed, _when_, refusal, refusedFor}
 use Rattle.bits.specs.Choice.{if_then_else_}
 use Rattle.refusal.specs.Chain.{chain, first-refuses, first-passes, both-pass, passes-at}
@@ -17,6 +17,7 @@ use Rattle.fmath.specs.Answer.{someLentNotFinite}
 use Rattle.checked.proofs.Each.{neither}
 use Rattle.chunk.specs.Refusals.{chunkReasons}
 use Rattle.chunk.proofs.Judged.{sizes-accepted}
+use Rattle.conformal.specs.Rule.{Tables}
 use Rattle.envelope.specs.Refusals.{configJudged}
 use Rattle.envelope.specs.declared.BrakeKind.{BrakeKind}
 use Rattle.envelope.specs.declared.BrakeKind.the-variants.{PdSecondOrder, FirstOrderDecay, BoundedAccel, JerkLimited, ZeroVelocityHold}
@@ -41,104 +42,112 @@ never k ((r when true) ∷ l) z a e = eqb-false (numberOf r) k (neither (eqb (nu
 never k ((r when false) ∷ l) z a e = never k l z (neither (eqb (numberOf r) k) (listed k l) a .1) e
 
 -- the whole answer
-pub record Answered (c : FuseConfig) (p v rows : List Float) (h d e from : ℕ) (l : List Float) (r : BrakeOut) (m : List Float) : Type 0 where
-  pub gives : r ≡ forecastAnswer c p v rows h d e from (length l)
-  pub leaves : m ≡ forecastSlacks c p v rows h d e from l
+pub record Answered (f : Format) (c : FuseConfig) (tabs : Tables) (p v rows : List Float) (h d e from : ℕ) (l : List Float) (r : BrakeOut) (m : List Float) : Type 0 where
+  pub gives : r ≡ forecastAnswer f c tabs p v rows h d e from (length l)
+  pub leaves : m ≡ forecastSlacks f c tabs p v rows h d e from l
 
 -- at most 4,096 entries
-few-entries : (c : FuseConfig) (from : ℕ) (k : BrakeKind) → Fit c → countFor (c .brake) k from ≤ 4096
-few-entries c from (PdSecondOrder kp kv dt) w =
+few-entries : (f : Format) (c : FuseConfig) (tabs : Tables) (from : ℕ) (k : BrakeKind) → Fit f c tabs → countFor (c .brake) k from ≤ 4096
+few-entries f c tabs from (PdSecondOrder kp kv dt) w =
     let b = c .brake in
     let less : rowsLeft (b .commit) from .0 + b .«brake_steps» .0 ≤ b .commit .0 + b .«brake_steps» .0 = omega arith in
-    le-trans (mul-le-mul-right (b .substeps .0) less) (substeps-in-all c w)
-few-entries c from (FirstOrderDecay kp kv dt) w = let b = commit-most c w in omega arith
-few-entries c from (BoundedAccel kp kv dt) w = let b = commit-most c w in omega arith
-few-entries c from (JerkLimited kp kv dt) w = let b = commit-most c w in omega arith
-few-entries c from (ZeroVelocityHold kp kv dt) w = let b = commit-most c w in omega arith
+    le-trans (mul-le-mul-right (b .substeps .0) less) (substeps-in-all f c tabs w)
+few-entries f c tabs from (FirstOrderDecay kp kv dt) w = let b = commit-most f c tabs w in omega arith
+few-entries f c tabs from (BoundedAccel kp kv dt) w = let b = commit-most f c tabs w in omega arith
+few-entries f c tabs from (JerkLimited kp kv dt) w = let b = commit-most f c tabs w in omega arith
+few-entries f c tabs from (ZeroVelocityHold kp kv dt) w = let b = commit-most f c tabs w in omega arith
 
-module _ (c : FuseConfig) (p v rows : List Float) (h d e from : ℕ) where
-  abbrev sizes : List Judged
-  sizes = chunkReasons h d e (length rows)
+-- ---- the number of what is lent
 
-  abbrev brief : ℕ → Bool
-  brief room = tooShort (c .«pos_dim») (length p) (length v) (plan c p v rows h d e from .count) room
+module _ (f : Format) (c : FuseConfig) (p v rows : List Float) (h d from room : ℕ) where
+  abbrev brief : Bool
+  brief = tooShort (c .«pos_dim») (length p) (length v) (plan f c p v rows h d from .count) room
 
   abbrev unfit : Bool
   unfit = someLentNotFinite (p ∷ v ∷ rows ∷ [])
 
+  abbrev lent : List Judged
+  lent = lentJudged f c p v rows h d from room
+
+  -- the tests that are made are the ones that are judged
+  pub brief-is : {s : Bool} {n : ℕ} → s ≡ tooShort (c .«pos_dim») (length p) (length v) n room → n ≡ countFor (c .brake) (c .brake .kind) from → s ≡ brief
+  brief-is g y = g ∙ ap (λ (n : ℕ). tooShort (c .«pos_dim») (length p) (length v) n room) (y ∙ sym (count-is f c p v rows h d from (c .brake .kind)))
+
+  pub by-width : (d ≡ c .dim → ⊥) → 10 ≡ refusal lent
+  by-width g = rw (ne-eqb d (c .dim) g)
+
+  module _ (ew : d ≡ c .dim) {s : Bool} (es : s ≡ brief) where
+    pub by-11 : s ≡ true → 11 ≡ refusal lent
+    by-11 g = rw (eq-eqb d (c .dim) ew, sym es ∙ g)
+
+    pub by-12 : s ≡ false → {u : Bool} → u ≡ unfit → u ≡ true → 12 ≡ refusal lent
+    by-12 g eu y = rw (eq-eqb d (c .dim) ew, sym es ∙ g, sym eu ∙ y)
+
+    pub by-none : s ≡ false → {u : Bool} → u ≡ unfit → u ≡ false → 0 ≡ refusal lent
+    by-none g eu y = rw (eq-eqb d (c .dim) ew, sym es ∙ g, sym eu ∙ y)
+
+  enough : brief ≡ false → countFor (c .brake) (c .brake .kind) from ≤ room
+  unfolding tooShort
+  enough g =
+      let k = plan f c p v rows h d from .count in
+      let b : k ≤ room = ltb-false room k (neither (ltb (length p) (c .«pos_dim») || ltb (length v) (c .«pos_dim»)) (ltb room k) g .1) in
+      rw (← count-is f c p v rows h d from (c .brake .kind)) b
+
+-- ---- the number, and the answer
+
+module _ (f : Format) (c : FuseConfig) (tabs : Tables) (p v rows : List Float) (h d e from : ℕ) where
+  abbrev sizes : List Judged
+  sizes = chunkReasons h d e (length rows)
+
   module _ (room : ℕ) where
-    abbrev lent : List Judged
-    lent = lentJudged c p v rows h d e from room
+    abbrev later : List Judged
+    later = lent f c p v rows h d from room
 
     abbrev before : List Judged
-    before = configJudged c ++ (sizes ++ lent)
+    before = configJudged f c tabs ++ (sizes ++ later)
 
-    -- the tests that are made are the ones that are judged
-    pub brief-is : {s : Bool} {n : ℕ} → s ≡ tooShort (c .«pos_dim») (length p) (length v) n room → n ≡ countFor (c .brake) (c .brake .kind) from → s ≡ brief room
-    brief-is g y = g ∙ ap (λ (n : ℕ). tooShort (c .«pos_dim») (length p) (length v) n room) (y ∙ sym (count-is binary64 c p v rows h d from (c .brake .kind)))
+    pub by-config : {r : ℕ} → r ≡ refusal (configJudged f c tabs) → (r ≡ 0 → ⊥) → r ≡ refusal before
+    by-config g y = g ∙ sym (first-refuses (configJudged f c tabs) (sizes ++ later) (λ z. y (g ∙ z)))
 
-    pub by-width : (d ≡ c .dim → ⊥) → 10 ≡ refusal lent
-    by-width g = rw (ne-eqb d (c .dim) g)
-
-    module _ (ew : d ≡ c .dim) {s : Bool} (es : s ≡ brief room) where
-      pub by-11 : s ≡ true → 11 ≡ refusal lent
-      by-11 g = rw (eq-eqb d (c .dim) ew, sym es ∙ g)
-
-      pub by-12 : s ≡ false → {u : Bool} → u ≡ unfit → u ≡ true → 12 ≡ refusal lent
-      by-12 g eu y = rw (eq-eqb d (c .dim) ew, sym es ∙ g, sym eu ∙ y)
-
-      pub by-none : s ≡ false → {u : Bool} → u ≡ unfit → u ≡ false → 0 ≡ refusal lent
-      by-none g eu y = rw (eq-eqb d (c .dim) ew, sym es ∙ g, sym eu ∙ y)
-
-    pub by-config : {r : ℕ} → r ≡ refusal (configJudged c) → (r ≡ 0 → ⊥) → r ≡ refusal before
-    by-config g y = g ∙ sym (first-refuses (configJudged c) (sizes ++ lent) (λ z. y (g ∙ z)))
-
-    module _ {k : ℕ} (ek : k ≡ refusal (configJudged c)) (ez : k ≡ 0) where
-      passed-on : refusal before ≡ chain (sizes ++ lent)
-      passed-on = first-passes (configJudged c) (sizes ++ lent) (sym ek ∙ ez)
+    module _ {k : ℕ} (ek : k ≡ refusal (configJudged f c tabs)) (ez : k ≡ 0) where
+      passed-on : refusal before ≡ chain (sizes ++ later)
+      passed-on = first-passes (configJudged f c tabs) (sizes ++ later) (sym ek ∙ ez)
 
       pub by-sizes : {r : ℕ} → r ≡ refusal sizes → (r ≡ 0 → ⊥) → r ≡ refusal before
-      by-sizes g y = g ∙ sym (passed-on ∙ first-refuses sizes lent (λ z. y (g ∙ z)))
+      by-sizes g y = g ∙ sym (passed-on ∙ first-refuses sizes later (λ z. y (g ∙ z)))
 
-      pub by-lent : {r q : ℕ} → r ≡ refusal sizes → r ≡ 0 → q ≡ refusal lent → q ≡ refusal before
-      by-lent g y i = i ∙ sym (passed-on ∙ first-passes sizes lent (sym g ∙ y))
-
-    enough : brief room ≡ false → countFor (c .brake) (c .brake .kind) from ≤ room
-    unfolding tooShort
-    enough g =
-        let k = plan c p v rows h d e from .count in
-        let b : k ≤ room = ltb-false room k (neither (ltb (length p) (c .«pos_dim») || ltb (length v) (c .«pos_dim»)) (ltb room k) g .1) in
-        rw (← count-is binary64 c p v rows h d from (c .brake .kind)) b
+      pub by-lent : {r q : ℕ} → r ≡ refusal sizes → r ≡ 0 → q ≡ refusal later → q ≡ refusal before
+      by-lent g y i = i ∙ sym (passed-on ∙ first-passes sizes later (sym g ∙ y))
 
     -- what is known where nothing is refused yet
     pub planned : refusal before ≡ 0 → Planned c (length rows) h d from room
     planned z =
-        let w = both-pass (configJudged c) (sizes ++ lent) z in
-        let x = both-pass sizes lent (w .1) in
-        let fit = accepted c (w .0) in
+        let w = both-pass (configJudged f c tabs) (sizes ++ later) z in
+        let x = both-pass sizes later (w .1) in
+        let fit = accepted f c tabs (w .0) in
         let sized = sizes-accepted h d e (length rows) (x .0) in
-        let a = passes-at width (not (eqb d (c .dim))) ((short when brief room) ∷ (notFinite when unfit) ∷ []) (x .1) in
-        let b = passes-at short (brief room) ((notFinite when unfit) ∷ []) (a .1) in
+        let a = passes-at width (not (eqb d (c .dim))) ((short when brief f c p v rows h d from room) ∷ (notFinite when unfit f c p v rows h d from room) ∷ []) (x .1) in
+        let b = passes-at short (brief f c p v rows h d from room) ((notFinite when unfit f c p v rows h d from room) ∷ []) (a .1) in
         record {
-          narrow = dim-most c fit;
+          narrow = dim-most f c tabs fit;
           wide = eqb-true d (c .dim) (not-false (eqb d (c .dim)) (a .0));
           rowed = omega (arith, sized .some-rows);
           there = sized .all-there;
-          parted = substeps-least c fit;
-          few = few-entries c from (c .brake .kind) fit;
-          space = enough (b .0);
+          parted = substeps-least f c tabs fit;
+          few = few-entries f c tabs from (c .brake .kind) fit;
+          space = enough f c p v rows h d from room (b .0);
         }
 
   -- what is judged last
   abbrev rest : List Judged
-  rest = (computed when not (eqb (placeOf (plan c p v rows h d e from)) 0)) ∷ []
+  rest = (computed when not (eqb (placeOf (plan f c p v rows h d from)) 0)) ∷ []
 
   either : (b : Bool) → (eqb (if b then 13 else 0) 0 || eqb (if b then 13 else 0) 13) ≡ true
   either true = refl
   either false = refl
 
   module _ (l : List Float) where
-    pub refused : {k : ℕ} → k ≡ refusal (before (length l)) → (k ≡ 0 → ⊥) → {r : Refusal} → r ≡ refusedFor k → Answered c p v rows h d e from l (out.Refused r) l
+    pub refused : {k : ℕ} → k ≡ refusal (before (length l)) → (k ≡ 0 → ⊥) → {r : Refusal} → r ≡ refusedFor k → Answered f c tabs p v rows h d e from l (out.Refused r) l
     unfolding forecastAnswer forecastSlacks forecastRefusal
     refused {k} g y i =
         let b = before (length l) in
@@ -147,10 +156,10 @@ module _ (c : FuseConfig) (p v rows : List Float) (h d e from : ℕ) where
         let m = ne-eqb k 13 (λ q. never 13 b (λ o. omega arith) refl (sym g ∙ q)) in
         record { gives = rw (z, n, m, i); leaves = rw (z, n, m) }
 
-    pub foreseen : refusal (before (length l)) ≡ 0 → {r : BrakeOut} {m : List Float} → r ≡ outcome (plan c p v rows h d e from) → m ≡ writtenOf (plan c p v rows h d e from) l → Answered c p v rows h d e from l r m
+    pub foreseen : refusal (before (length l)) ≡ 0 → {r : BrakeOut} {m : List Float} → r ≡ outcome (plan f c p v rows h d from) → m ≡ writtenOf (plan f c p v rows h d from) l → Answered f c tabs p v rows h d e from l r m
     unfolding forecastAnswer forecastSlacks forecastRefusal
     foreseen z i j =
         let b = before (length l) in
-        let k : chain (b ++ rest) ≡ (if not (eqb (placeOf (plan c p v rows h d e from)) 0) then 13 else 0) = first-passes b rest z in
-        let o = either (not (eqb (placeOf (plan c p v rows h d e from)) 0)) in
+        let k : chain (b ++ rest) ≡ (if not (eqb (placeOf (plan f c p v rows h d from)) 0) then 13 else 0) = first-passes b rest z in
+        let o = either (not (eqb (placeOf (plan f c p v rows h d from)) 0)) in
         record { gives = i ∙ rw (k, o); leaves = j ∙ rw (k, o) }

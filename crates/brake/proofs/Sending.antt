@@ -10,7 +10,7 @@ use denote.Enum.Declared.{tagOf}
 use borrow.Author.Tests.{lt-ltb, le-ltb, ltb-false}
 use lib.Dec.{ltb}
 use lib.ListN.{length}
-use lib.Ieee.{Float, Format, binary64}
+use lib.Ieee.{Float, Format}
 use Rattle.refusal.specs.Order.{Judged, short, notFinite, computed, _when_, refusal, refusedFor}
 use Rattle.bits.specs.Choice.{if_then_else_}
 use Rattle.refusal.specs.Chain.{chain, first-refuses, first-passes, both-pass, passes-at}
@@ -19,6 +19,7 @@ use Rattle.fmath.specs.Answer.{someNotFinite}
 use Rattle.checked.specs.Each.{at, over}
 use Rattle.checked.specs.Checked.{pure}
 use Rattle.checked.proofs.Copy.{all-put}
+use Rattle.conformal.specs.Rule.{Tables}
 use Rattle.envelope.specs.Refusals.{configJudged}
 use Rattle.envelope.specs.declared.ActionKind.{ActionKind}
 use Rattle.envelope.specs.declared.ActionKind.the-variants.{EePosition, EeDelta, JointPosition, JointVelocity, Other}
@@ -68,19 +69,19 @@ module _ (w : Walls) (p : List Float) (n : ℕ) where
 
 -- ---- the number
 
-module _ (c : FuseConfig) (unfit : Bool) (room : ℕ) where
+module _ (f : Format) (c : FuseConfig) (tabs : Tables) (unfit : Bool) (room : ℕ) where
   abbrev lent : List Judged
   lent = rowLent c unfit room
 
   abbrev before : ℕ
-  before = refusal (configJudged c ++ lent)
+  before = refusal (configJudged f c tabs ++ lent)
 
-  pub by-config : {r : ℕ} → r ≡ refusal (configJudged c) → (r ≡ 0 → ⊥) → r ≡ before
-  by-config g y = g ∙ sym (first-refuses (configJudged c) lent (λ z. y (g ∙ z)))
+  pub by-config : {r : ℕ} → r ≡ refusal (configJudged f c tabs) → (r ≡ 0 → ⊥) → r ≡ before
+  by-config g y = g ∙ sym (first-refuses (configJudged f c tabs) lent (λ z. y (g ∙ z)))
 
-  module _ {k : ℕ} (ek : k ≡ refusal (configJudged c)) (ez : k ≡ 0) where
+  module _ {k : ℕ} (ek : k ≡ refusal (configJudged f c tabs)) (ez : k ≡ 0) where
     passed-on : before ≡ chain lent
-    passed-on = first-passes (configJudged c) lent (sym ek ∙ ez)
+    passed-on = first-passes (configJudged f c tabs) lent (sym ek ∙ ez)
 
     pub by-11 : room < c .dim → 11 ≡ before
     by-11 g = sym (passed-on ∙ rw (lt-ltb _ _ g))
@@ -94,13 +95,13 @@ module _ (c : FuseConfig) (unfit : Bool) (room : ℕ) where
   -- an accepted row is narrow, and the output has room for it
   pub sized : before ≡ 0 → (c .dim ≤ 8) × (c .dim ≤ room)
   sized z =
-      let w = both-pass (configJudged c) lent z in
+      let w = both-pass (configJudged f c tabs) lent z in
       let a = passes-at short (ltb room (c .dim)) ((notFinite when unfit) ∷ []) (w .1) in
-      (dim-most c (accepted c (w .0)), ltb-false room (c .dim) (a .0))
+      (dim-most f c tabs (accepted f c tabs (w .0)), ltb-false room (c .dim) (a .0))
 
 -- .. so that all of it is put over the output
-all-sent : (c : FuseConfig) (unfit : Bool) (row l : List Float) → before c unfit (length l) ≡ 0 → length row ≡ 8 → {m : List Float} → m ≡ over (at row) l (min (c .dim) (min (length row) (length l))) → m ≡ over (at row) l (c .dim)
-all-sent c unfit row l z long = let w = sized c unfit (length l) z in all-put l row (omega (arith, w .0)) (w .1)
+all-sent : (f : Format) (c : FuseConfig) (tabs : Tables) (unfit : Bool) (row l : List Float) → before f c tabs unfit (length l) ≡ 0 → length row ≡ 8 → {m : List Float} → m ≡ over (at row) l (min (c .dim) (min (length row) (length l))) → m ≡ over (at row) l (c .dim)
+all-sent f c tabs unfit row l z long = let w = sized f c tabs unfit (length l) z in all-put l row (omega (arith, w .0)) (w .1)
 
 -- ---- the whole answer
 
@@ -112,59 +113,59 @@ kept-number : (k : ℕ) → (k ≡ 0 → ⊥) → (row : List Float) (n : ℕ) (
 kept-number zero h row n l = absurd (h refl)
 kept-number (suc k) h row n l = refl
 
-pub record Braked (c : FuseConfig) (p v l : List Float) (r : Sent) (m : List Float) : Type 0 where
-  pub gives : r ≡ brakeAnswer c p v (length l)
-  pub leaves : m ≡ brakeOutput c p v l
+pub record Braked (f : Format) (c : FuseConfig) (tabs : Tables) (p v l : List Float) (r : Sent) (m : List Float) : Type 0 where
+  pub gives : r ≡ brakeAnswer f c tabs p v (length l)
+  pub leaves : m ≡ brakeOutput f c tabs p v l
 
-module _ (c : FuseConfig) (p v l : List Float) {unfit : Bool} (ef : unfit ≡ someNotFinite p || someNotFinite v) where
+module _ (f : Format) (c : FuseConfig) (tabs : Tables) (p v l : List Float) {unfit : Bool} (ef : unfit ≡ someNotFinite p || someNotFinite v) where
   abbrev judged : List Judged
-  judged = configJudged c ++ rowLent c (someNotFinite p || someNotFinite v) (length l)
+  judged = configJudged f c tabs ++ rowLent c (someNotFinite p || someNotFinite v) (length l)
 
   abbrev rest : List Judged
-  rest = (computed when not (brakeSent c p v .sound)) ∷ []
+  rest = (computed when not (brakeSent f c p v .sound)) ∷ []
 
-  numbered : (k : ℕ) → brakeRefusal c p v (length l) ≡ k → (k ≡ 0 → ⊥) → {r : Refusal} → r ≡ refusedFor k → Braked c p v l (sent.Refused r) l
+  numbered : (k : ℕ) → brakeRefusal f c tabs p v (length l) ≡ k → (k ≡ 0 → ⊥) → {r : Refusal} → r ≡ refusedFor k → Braked f c tabs p v l (sent.Refused r) l
   unfolding brakeAnswer brakeOutput
   numbered k e y i = record { gives = rw e (sent-number k y i); leaves = rw e (kept-number k y _ _ l) }
 
-  same-judged : before c unfit (length l) ≡ refusal judged
-  same-judged = ap (λ (b : Bool). before c b (length l)) ef
+  same-judged : before f c tabs unfit (length l) ≡ refusal judged
+  same-judged = ap (λ (b : Bool). before f c tabs b (length l)) ef
 
-  pub brake-refused : {k : ℕ} → k ≡ before c unfit (length l) → (k ≡ 0 → ⊥) → {r : Refusal} → r ≡ refusedFor k → Braked c p v l (sent.Refused r) l
+  pub brake-refused : {k : ℕ} → k ≡ before f c tabs unfit (length l) → (k ≡ 0 → ⊥) → {r : Refusal} → r ≡ refusedFor k → Braked f c tabs p v l (sent.Refused r) l
   unfolding brakeRefusal
   brake-refused {k} g y = numbered k (first-refuses judged rest (λ z. y (g ∙ same-judged ∙ z)) ∙ sym (g ∙ same-judged)) y
 
-  module _ (z : before c unfit (length l) ≡ 0) {w : Workspace} {row : Row} (ew : w ≡ workspaceFor c)
-      (er : row ≡ rowFrom (brakeRow binary64 (c .kind) (c .limits .«a_max») (c .limits .dt) (wallsOf w) p v (c .dim))) where
-    is-sent : row ≡ rowFrom (brakeSent c p v)
+  module _ (z : before f c tabs unfit (length l) ≡ 0) {w : Workspace} {row : Row} (ew : w ≡ workspaceFor f c)
+      (er : row ≡ rowFrom (brakeRow f (c .kind) (c .limits .«a_max») (c .limits .dt) (wallsOf w) p v (c .dim))) where
+    is-sent : row ≡ rowFrom (brakeSent f c p v)
     unfolding brakeSent
-    is-sent = er ∙ ap (λ (x : Workspace). rowFrom (brakeRow binary64 (c .kind) (c .limits .«a_max») (c .limits .dt) (wallsOf x) p v (c .dim))) ew
+    is-sent = er ∙ ap (λ (x : Workspace). rowFrom (brakeRow f (c .kind) (c .limits .«a_max») (c .limits .dt) (wallsOf x) p v (c .dim))) ew
 
-    left : brakeRefusal c p v (length l) ≡ (if not (row .sound) then 13 else 0)
+    left : brakeRefusal f c tabs p v (length l) ≡ (if not (row .sound) then 13 else 0)
     unfolding brakeRefusal
     left = first-passes judged rest (sym same-judged ∙ z) ∙ ap (λ (x : Row). if not (x .sound) then 13 else 0) (sym is-sent)
 
-    pub brake-unsound : row .sound ≡ false → {r : Refusal} → r ≡ refusedFor 13 → Braked c p v l (sent.Refused r) l
+    pub brake-unsound : row .sound ≡ false → {r : Refusal} → r ≡ refusedFor 13 → Braked f c tabs p v l (sent.Refused r) l
     brake-unsound y = numbered 13 (left ∙ ap (λ (b : Bool). if not b then 13 else 0) y) (λ q. omega arith)
 
-    pub brake-done : row .sound ≡ true → length (row .at) ≡ 8 → {m : List Float} → m ≡ over (at (row .at)) l (min (c .dim) (min (length (row .at)) (length l))) → Braked c p v l sent.Done m
+    pub brake-done : row .sound ≡ true → length (row .at) ≡ 8 → {m : List Float} → m ≡ over (at (row .at)) l (min (c .dim) (min (length (row .at)) (length l))) → Braked f c tabs p v l sent.Done m
     unfolding brakeAnswer brakeOutput
-    brake-done y long i = let e = left ∙ ap (λ (b : Bool). if not b then 13 else 0) y in record { gives = rw e; leaves = all-sent c unfit (row .at) l z long i ∙ rw (e, is-sent) }
+    brake-done y long i = let e = left ∙ ap (λ (b : Bool). if not b then 13 else 0) y in record { gives = rw e; leaves = all-sent f c tabs unfit (row .at) l z long i ∙ rw (e, is-sent) }
 
-pub record Held (c : FuseConfig) (p l : List Float) (r : Sent) (m : List Float) : Type 0 where
-  pub gives : r ≡ holdAnswer c p (length l)
-  pub leaves : m ≡ holdOutput c p l
+pub record Held (f : Format) (c : FuseConfig) (tabs : Tables) (p l : List Float) (r : Sent) (m : List Float) : Type 0 where
+  pub gives : r ≡ holdAnswer f c tabs p (length l)
+  pub leaves : m ≡ holdOutput f c tabs p l
 
-module _ (c : FuseConfig) (p l : List Float) {unfit : Bool} (ef : unfit ≡ someNotFinite p) where
-  same-refusal : before c unfit (length l) ≡ holdRefusal c p (length l)
+module _ (f : Format) (c : FuseConfig) (tabs : Tables) (p l : List Float) {unfit : Bool} (ef : unfit ≡ someNotFinite p) where
+  same-refusal : before f c tabs unfit (length l) ≡ holdRefusal f c tabs p (length l)
   unfolding holdRefusal
-  same-refusal = ap (λ (b : Bool). before c b (length l)) ef
+  same-refusal = ap (λ (b : Bool). before f c tabs b (length l)) ef
 
-  pub hold-refused : {k : ℕ} → k ≡ before c unfit (length l) → (k ≡ 0 → ⊥) → {r : Refusal} → r ≡ refusedFor k → Held c p l (sent.Refused r) l
+  pub hold-refused : {k : ℕ} → k ≡ before f c tabs unfit (length l) → (k ≡ 0 → ⊥) → {r : Refusal} → r ≡ refusedFor k → Held f c tabs p l (sent.Refused r) l
   unfolding holdAnswer holdOutput
-  hold-refused {k} g y i = let e : holdRefusal c p (length l) ≡ k = sym (g ∙ same-refusal) in record { gives = rw e (sent-number k y i); leaves = rw e (kept-number k y _ _ l) }
+  hold-refused {k} g y i = let e : holdRefusal f c tabs p (length l) ≡ k = sym (g ∙ same-refusal) in record { gives = rw e (sent-number k y i); leaves = rw e (kept-number k y _ _ l) }
 
-  pub hold-done : before c unfit (length l) ≡ 0 → {w : Workspace} {row : List Float} → w ≡ workspaceFor c → row ≡ holdRow (c .kind) (wallsOf w) p (c .dim)
-      → length row ≡ 8 → {m : List Float} → m ≡ over (at row) l (min (c .dim) (min (length row) (length l))) → Held c p l sent.Done m
+  pub hold-done : before f c tabs unfit (length l) ≡ 0 → {w : Workspace} {row : List Float} → w ≡ workspaceFor f c → row ≡ holdRow (c .kind) (wallsOf w) p (c .dim)
+      → length row ≡ 8 → {m : List Float} → m ≡ over (at row) l (min (c .dim) (min (length row) (length l))) → Held f c tabs p l sent.Done m
   unfolding holdAnswer holdOutput
-  hold-done z {w} {row} ew er long i = let e = sym same-refusal ∙ z in record { gives = rw e; leaves = all-sent c unfit row l z long i ∙ rw (e, er, ew) }
+  hold-done z {w} {row} ew er long i = let e = sym same-refusal ∙ z in record { gives = rw e; leaves = all-sent f c tabs unfit row l z long i ∙ rw (e, er, ew) }

@@ -4,13 +4,14 @@ use mathlib.Core.Bool.{Bool, not, _||_}
 use mathlib.Core.List.{List, [], _∷_, _++_}
 use lib.Dec.{ltb, eqb}
 use lib.ListN.{length}
-use lib.Ieee.{Float, binary64}
+use lib.Ieee.{Float, Format}
 use Rattle.refusal.specs.Order.{Judged, width, short, notFinite, computed, numberOf, _when_, refusal, refusedFor}
 use Rattle.bits.specs.Choice.{if_then_else_}
 use Rattle.fmath.specs.Answer.{someNotFinite, someLentNotFinite}
 use Rattle.checked.specs.Each.{at, over}
 use Rattle.checked.specs.Checked.{Checked}
 use Rattle.chunk.specs.Refusals.{chunkReasons}
+use Rattle.conformal.specs.Rule.{Tables}
 use Rattle.envelope.specs.Refusals.{configJudged}
 use Rattle.envelope.specs.declared.FuseConfig.{FuseConfig}
 use Rattle.course.specs.Forecast.{Forecast, placeOf, marginOf, feasibleOf, writtenOf}
@@ -40,9 +41,9 @@ answerAt k t = if eqb k 0 || eqb k (numberOf computed) then outcome t else out.R
 abbrev pub slacksAt : ℕ → Forecast → List Float → List Float
 slacksAt k t l = if eqb k 0 || eqb k (numberOf computed) then writtenOf t l else l
 
-module _ (c : FuseConfig) (p v rows : List Float) (h d e from : ℕ) where
+module _ (f : Format) (c : FuseConfig) (p v rows : List Float) (h d from : ℕ) where
   abbrev pub plan : Forecast
-  plan = forecastOf binary64 c p v rows h d from
+  plan = forecastOf f c p v rows h d from
 
   -- 10, 11 and 12, where the entries have so much room
   abbrev pub lentJudged : ℕ → List Judged
@@ -51,14 +52,18 @@ module _ (c : FuseConfig) (p v rows : List Float) (h d e from : ℕ) where
       ∷ (short when tooShort (c .«pos_dim») (length p) (length v) (plan .count) room)
       ∷ (notFinite when someLentNotFinite (p ∷ v ∷ rows ∷ [])) ∷ []
 
+module _ (f : Format) (c : FuseConfig) (t : Tables) (p v rows : List Float) (h d e from : ℕ) where
+  abbrev planned : Forecast
+  planned = plan f c p v rows h d from
+
   unfoldable pub forecastRefusal : ℕ → ℕ
-  forecastRefusal room = refusal (configJudged c ++ (chunkReasons h d e (length rows) ++ (lentJudged room ++ (computed when not (eqb (placeOf plan) 0) ∷ []))))
+  forecastRefusal room = refusal (configJudged f c t ++ (chunkReasons h d e (length rows) ++ (lentJudged f c p v rows h d from room ++ (computed when not (eqb (placeOf planned) 0) ∷ []))))
 
   unfoldable pub forecastAnswer : ℕ → BrakeOut
-  forecastAnswer room = answerAt (forecastRefusal room) plan
+  forecastAnswer room = answerAt (forecastRefusal room) planned
 
   unfoldable pub forecastSlacks : List Float → List Float
-  forecastSlacks l = slacksAt (forecastRefusal (length l)) plan l
+  forecastSlacks l = slacksAt (forecastRefusal (length l)) planned l
 
 -- ---- brake and hold
 
@@ -75,25 +80,25 @@ rowAt (suc k) row n l = l
 abbrev pub rowLent : FuseConfig → Bool → ℕ → List Judged
 rowLent c unfit room = (short when ltb room (c .dim)) ∷ (notFinite when unfit) ∷ []
 
-module _ (c : FuseConfig) (p v : List Float) where
-  unfoldable pub brakeSent : Checked (List Float)
-  brakeSent = brakeRow binary64 (c .kind) (c .limits .«a_max») (c .limits .dt) (wallsAt binary64 c) p v (c .dim)
+unfoldable pub brakeSent : Format → FuseConfig → List Float → List Float → Checked (List Float)
+brakeSent f c p v = brakeRow f (c .kind) (c .limits .«a_max») (c .limits .dt) (wallsAt f c) p v (c .dim)
 
+module _ (f : Format) (c : FuseConfig) (t : Tables) (p v : List Float) where
   unfoldable pub brakeRefusal : ℕ → ℕ
-  brakeRefusal room = refusal (configJudged c ++ (rowLent c (someNotFinite p || someNotFinite v) room ++ (computed when not (brakeSent .sound) ∷ [])))
+  brakeRefusal room = refusal (configJudged f c t ++ (rowLent c (someNotFinite p || someNotFinite v) room ++ (computed when not (brakeSent f c p v .sound) ∷ [])))
 
   unfoldable pub brakeAnswer : ℕ → Sent
   brakeAnswer room = sentAt (brakeRefusal room)
 
   unfoldable pub brakeOutput : List Float → List Float
-  brakeOutput l = rowAt (brakeRefusal (length l)) (brakeSent .value) (c .dim) l
+  brakeOutput l = rowAt (brakeRefusal (length l)) (brakeSent f c p v .value) (c .dim) l
 
-module _ (c : FuseConfig) (p : List Float) where
+module _ (f : Format) (c : FuseConfig) (t : Tables) (p : List Float) where
   unfoldable pub holdRefusal : ℕ → ℕ
-  holdRefusal room = refusal (configJudged c ++ rowLent c (someNotFinite p) room)
+  holdRefusal room = refusal (configJudged f c t ++ rowLent c (someNotFinite p) room)
 
   unfoldable pub holdAnswer : ℕ → Sent
   holdAnswer room = sentAt (holdRefusal room)
 
   unfoldable pub holdOutput : List Float → List Float
-  holdOutput l = rowAt (holdRefusal (length l)) (holdRow (c .kind) (wallsAt binary64 c) p (c .dim)) (c .dim) l
+  holdOutput l = rowAt (holdRefusal (length l)) (holdRow (c .kind) (wallsAt f c) p (c .dim)) (c .dim) l

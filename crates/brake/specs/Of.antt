@@ -2,12 +2,13 @@
 use Prim.Native.Nat.{ℕ, suc, _*_, _≤_}
 use mathlib.Core.Path.{_≡_}
 use mathlib.Core.List.{List}
-use lib.Ieee.{Float, binary64}
+use lib.Ieee.{Float, Format}
 use Rattle.envelope.specs.Derive.{derived}
 use Rattle.envelope.specs.Steps.{substepsIn}
 use Rattle.envelope.specs.declared.BrakeKind.{BrakeKind}
 use Rattle.envelope.specs.declared.BrakeKind.the-variants.{PdSecondOrder, FirstOrderDecay, BoundedAccel, JerkLimited, ZeroVelocityHold}
 use Rattle.envelope.specs.declared.BrakeModel.{BrakeModel}
+use Rattle.envelope.specs.declared.Derived.{Derived}
 use Rattle.envelope.specs.declared.FuseConfig.{FuseConfig}
 use Rattle.workspace.specs.declared.Workspace.{Workspace}
 use Rattle.course.specs.declared.Course.{Course}
@@ -15,8 +16,11 @@ use Rattle.course.specs.declared.Plant.{Plant}
 use Rattle.course.specs.Rows.{rowsLeft}
 use Rattle.brake.specs.Rule.{live, eight}
 
-abbrev pub workspaceFor : FuseConfig → Workspace
-workspaceFor c = record { lo = derived binary64 c .«box_lo»; hi = derived binary64 c .«box_hi» }
+abbrev pub workspaceFrom : Derived → Workspace
+workspaceFrom d = record { lo = d .«box_lo»; hi = d .«box_hi» }
+
+abbrev pub workspaceFor : Format → FuseConfig → Workspace
+workspaceFor f c = workspaceFrom (derived f c)
 
 abbrev pub courseFor : FuseConfig → ℕ → ℕ → ℕ → Course
 courseFor c h d from = record {

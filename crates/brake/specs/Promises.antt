@@ -9,6 +9,7 @@ use lib.Ieee.{Float, binary64, inf, lt, le}
 use Rattle.refusal.specs.declared.Refusal.{Refusal}
 use Rattle.checked.specs.Each.{at}
 use Rattle.checked.specs.Finite.{+0}
+use Rattle.conformal.specs.Rule.{Tables}
 use Rattle.envelope.specs.declared.ActionKind.{ActionKind}
 use Rattle.envelope.specs.declared.ActionKind.the-variants.{EePosition, EeDelta, JointPosition, JointVelocity, Other}
 use Rattle.envelope.specs.declared.BrakeKind.the-variants.{PdSecondOrder}
@@ -28,6 +29,7 @@ use Rattle.brake.specs.Answer.{forecastAnswer, forecastSlacks, brakeAnsw
 
 pub record Call : Type 0 where
   pub config : FuseConfig
+  pub tables : Tables
   pub position : List Float
   pub velocity : List Float
   pub rows : List Float
@@ -39,10 +41,10 @@ pub record Call : Type 0 where
 
 -- what it answers, and the lent entries afterwards, as the entry's contract has them
 abbrev pub answer : Call → BrakeOut
-answer x = forecastAnswer (x .config) (x .position) (x .velocity) (x .rows) (x .horizon) (x .dim) (x .exec) (x .from) (length (x .lent))
+answer x = forecastAnswer binary64 (x .config) (x .tables) (x .position) (x .velocity) (x .rows) (x .horizon) (x .dim) (x .exec) (x .from) (length (x .lent))
 
 abbrev pub entries : Call → List Float
-entries x = forecastSlacks (x .config) (x .position) (x .velocity) (x .rows) (x .horizon) (x .dim) (x .exec) (x .from) (x .lent)
+entries x = forecastSlacks binary64 (x .config) (x .tables) (x .position) (x .velocity) (x .rows) (x .horizon) (x .dim) (x .exec) (x .from) (x .lent)
 
 -- no refusal but 13 stops the call
 abbrev pub OnlyThirteen : Call → Type 0
@@ -145,6 +147,7 @@ withBraking c b = record {
 abbrev pub braked : Call → ControlSteps → List Float → Call
 braked x b l = record {
   config = withBraking (x .config) b;
+  tables = x .tables;
   position = x .position;
   velocity = x .velocity;
   rows = x .rows;
@@ -175,11 +178,11 @@ isPosition JointVelocity = false
 isPosition Other = true
 
 -- each coordinate that brake writes, or hold, lies in its box
-abbrev pub BrakesInside : FuseConfig → List Float → List Float → List Float → Type 0
-BrakesInside c p v l = brakeAnswer c p v (length l) ≡ Done → (j : ℕ) → j < c .dim → InBox c j (at (brakeOutput c p v l) j)
+abbrev pub BrakesInside : FuseConfig → Tables → List Float → List Float → List Float → Type 0
+BrakesInside c t p v l = brakeAnswer binary64 c t p v (length l) ≡ Done → (j : ℕ) → j < c .dim → InBox c j (at (brakeOutput binary64 c t p v l) j)
 
-abbrev pub HoldsInside : FuseConfig → List Float → List Float → Type 0
-HoldsInside c p l = holdAnswer c p (length l) ≡ Done → (j : ℕ) → j < c .dim → InBox c j (at (holdOutput c p l) j)
+abbrev pub HoldsInside : FuseConfig → Tables → List Float → List Float → Type 0
+HoldsInside c t p l = holdAnswer binary64 c t p (length l) ≡ Done → (j : ℕ) → j < c .dim → InBox c j (at (holdOutput binary64 c t p l) j)
 
 -- ---- a feasible forecast is inside as numbers, and not only by rounded differences
 
@@ -209,5 +212,5 @@ pub record Promised : Type 0 where
   pub shorter-begins-longer : ShorterBegins
   pub feasible-exactly-where : FeasibleExactly
   pub feasible-is-inside : (x : Call) (g : Gains) → SecondOrder x g → (n : ℕ) (margin stop : Float) → answer x ≡ Accepted n margin true stop → StaysInside x g
-  pub brakes-inside : (c : FuseConfig) → isPosition (c .kind) ≡ true → (p v l : List Float) → BrakesInside c p v l
-  pub holds-inside : (c : FuseConfig) → isPosition (c .kind) ≡ true → (p l : List Float) → HoldsInside c p l
+  pub brakes-inside : (c : FuseConfig) (t : Tables) → isPosition (c .kind) ≡ true → (p v l : List Float) → BrakesInside c t p v l
+  pub holds-inside : (c : FuseConfig) (t : Tables) → isPosition (c .kind) ≡ true → (p l : List Float) → HoldsInside c t p l

@@ -7,6 +7,8 @@ ghost use lib.ListN.{length};
 ghost use lib.Ieee.{binary64};
 ghost use Rattle.refusal.specs.Order.{refusal};
 ghost use Rattle.chunk.specs.Refusals.{chunkReasons};
+ghost use Rattle.conformal.specs.Rule.{Tables};
+ghost use Rattle.conformal.specs.Of.{tables};
 ghost use Rattle.envelope.specs.Refusals.{configJudged};
 ghost use Rattle.envelope.specs.Steps.{substepsIn};
 ghost use Rattle.workspace.specs.Of.{wallsOf};
@@ -19,7 +21,7 @@ ghost use Rattle.stopping.specs.Rule as stopping-rule;
 ghost use Rattle.stopping.specs.Of as stopped;
 ghost use Rattle.brake.specs.Rule.{armOf, forecastOf, setpoint, ramp, scaledAt, slowed, slower, shorter, brakeRow, holdRow};
 ghost use Rattle.brake.specs.Answer.{tooShort, outcome, lentJudged, forecastAnswer, forecastSlacks, rowLent, brakeAnswer, brakeOutput, holdAnswer, holdOutput};
-ghost use Rattle.brake.specs.Of.{workspaceFor, courseFor, startFor, countFor, Planned};
+ghost use Rattle.brake.specs.Of.{workspaceFrom, workspaceFor, courseFor, startFor, countFor, Planned};
 ghost use Rattle.checked.specs.Of.{rowFrom, reckonedFrom};
 use checked::Reckoned;
 use checked::Row;
@@ -29,6 +31,7 @@ use course::Run;
 use envelope::ActionKind;
 use envelope::BrakeKind;
 use envelope::BrakeModel;
+use envelope::Derived;
 use envelope::FuseConfig;
 use refusal::Refusal;
 use rollout::Law;
@@ -53,10 +56,9 @@ pub enum Sent {
 }
 
 // The walls that module 4 derives.
-fn workspace_of(c: FuseConfig) -> Workspace
-    ensures { λ r. ⌜ r ≡ workspaceFor c ⌝ }
+fn workspace_of(d: Derived) -> Workspace
+    ensures { λ r. ⌜ r ≡ workspaceFrom d ⌝ }
 {
-    let d = envelope::derive(c);
     let lo = d.box_lo;
     let hi = d.box_hi;
     Workspace { lo, hi }
@@ -168,6 +170,7 @@ fn closed(
 // The forecast of whichever kind, where nothing that is lent is refused.
 fn forecast(
     c: FuseConfig,
+    w: Workspace,
     pos: &[f64],
     vel: &[f64],
     rows: &[f64],
@@ -176,10 +179,9 @@ fn forecast(
     from: usize,
     slack: &mut [f64],
 ) -> BrakeOut
-    requires { ⌜ Planned c (length (now rows)) horizon dim from (length (now slack)) ⌝ }
+    requires { ⌜ Planned c (length (now rows)) horizon dim from (length (now slack)) × (w ≡ workspaceFor binary64 c) ⌝ }
     ensures { λ r. ⌜ (r ≡ outcome (forecastOf binary64 c (now (pos .entry)) (now (vel .entry)) (now (rows .entry)) horizon dim from)) × (now (slack .exit) ≡ writtenOf (forecastOf binary64 c (now (pos .entry)) (now (vel .entry)) (now (rows .entry)) horizon dim from) (now (slack .entry))) ⌝ }
 {
-    let w = workspace_of(c);
     let course = course_of(c, horizon, dim, from);
     let start = start_of(c, pos, vel);
     let arm = arm_of(c);
@@ -228,7 +230,7 @@ fn lent_refusal(
     from: usize,
     room: usize,
 ) -> u8
-    ensures { λ r. ⌜ r ≡ refusal (lentJudged c (now (pos .entry)) (now (vel .entry)) (now (rows .entry)) horizon dim 0 from room) ⌝ }
+    ensures { λ r. ⌜ r ≡ refusal (lentJudged binary64 c (now (pos .entry)) (now (vel .entry)) (now (rows .entry)) horizon dim from room) ⌝ }
 {
     if dim as usize != c.dim {
         return Refusal::WIDTH;
@@ -246,6 +248,7 @@ fn lent_refusal(
 // The number before anything is computed: the configuration's own, then the sizes', then that of what is lent; 0 where there is none.
 fn forecast_refusal(
     c: FuseConfig,
+    number: u8,
     pos: &[f64],
     vel: &[f64],
     rows: &[f64],
@@ -255,9 +258,8 @@ fn forecast_refusal(
     from: usize,
     room: usize,
 ) -> u8
-    ensures { λ r. ⌜ r ≡ refusal (configJudged c ++ (chunkReasons horizon dim «exec_steps» (length (now (rows .entry))) ++ lentJudged c (now (pos .entry)) (now (vel .entry)) (now (rows .entry)) horizon dim «exec_steps» from room)) ⌝ }
+    ensures { λ r. ⌜ ((t : Tables) → number ≡ refusal (configJudged binary64 c t) → r ≡ refusal (configJudged binary64 c t ++ (chunkReasons horizon dim «exec_steps» (length (now (rows .entry))) ++ lentJudged binary64 c (now (pos .entry)) (now (vel .entry)) (now (rows .entry)) horizon dim from room))) ⌝ }
 {
-    let number = envelope::config_refusal(c);
     if number != 0 {
         return number;
     }
@@ -273,6 +275,8 @@ fn forecast_refusal(
 // being written; any other refusal, by the lowest number that applies, writes nothing.
 pub fn brake_feasible(
     c: FuseConfig,
+    center: &[f64; 192],
+    scale: &[f64; 192],
     pos: &[f64],
     vel: &[f64],
     rows: &[f64],
@@ -282,10 +286,12 @@ pub fn brake_feasible(
     from: usize,
     slack: &mut [f64],
 ) -> BrakeOut
-    ensures { λ r. ⌜ (r ≡ forecastAnswer c (now (pos .entry)) (now (vel .entry)) (now (rows .entry)) horizon dim «exec_steps» from (length (now (slack .entry)))) × (now (slack .exit) ≡ forecastSlacks c (now (pos .entry)) (now (vel .entry)) (now (rows .entry)) horizon dim «exec_steps» from (now (slack .entry))) ⌝ }
+    ensures { λ r. ⌜ (r ≡ forecastAnswer binary64 c (tables (now (center .entry)) (now (scale .entry))) (now (pos .entry)) (now (vel .entry)) (now (rows .entry)) horizon dim «exec_steps» from (length (now (slack .entry)))) × (now (slack .exit) ≡ forecastSlacks binary64 c (tables (now (center .entry)) (now (scale .entry))) (now (pos .entry)) (now (vel .entry)) (now (rows .entry)) horizon dim «exec_steps» from (now (slack .entry))) ⌝ }
 {
+    let compiled = envelope::compile(c, center, scale);
     let number = forecast_refusal(
         c,
+        compiled.number,
         pos,
         vel,
         rows,
@@ -298,7 +304,8 @@ pub fn brake_feasible(
     if number != 0 {
         return BrakeOut::Refused(Refusal::of(number));
     }
-    forecast(c, pos, vel, rows, horizon, dim, from, slack)
+    let w = workspace_of(compiled.derived);
+    forecast(c, w, pos, vel, rows, horizon, dim, from, slack)
 }
 
 // ---- brake and hold
@@ -408,10 +415,9 @@ fn hold_row(kind: ActionKind, w: Workspace, pos: &[f64], n: usize) -> [f64; 8]
 }
 
 // The number for a row before it is computed: the configuration's own, then 11, then 12; 0 where there is none.
-fn row_refusal(c: FuseConfig, unfit: bool, room: usize) -> u8
-    ensures { λ r. ⌜ r ≡ refusal (configJudged c ++ rowLent c unfit room) ⌝ }
+fn row_refusal(c: FuseConfig, number: u8, unfit: bool, room: usize) -> u8
+    ensures { λ r. ⌜ ((t : Tables) → number ≡ refusal (configJudged binary64 c t) → r ≡ refusal (configJudged binary64 c t ++ rowLent c unfit room)) ⌝ }
 {
-    let number = envelope::config_refusal(c);
     if number != 0 {
         return number;
     }
@@ -425,15 +431,23 @@ fn row_refusal(c: FuseConfig, unfit: bool, room: usize) -> u8
 }
 
 // The row that brakes, written over the output's first dim numbers. A refusal, by the lowest number that applies, writes nothing.
-pub fn brake_action(c: FuseConfig, pos: &[f64], vel: &[f64], out: &mut [f64]) -> Sent
-    ensures { λ r. ⌜ (r ≡ brakeAnswer c (now (pos .entry)) (now (vel .entry)) (length (now (out .entry)))) × (now (out .exit) ≡ brakeOutput c (now (pos .entry)) (now (vel .entry)) (now (out .entry))) ⌝ }
+pub fn brake_action(
+    c: FuseConfig,
+    center: &[f64; 192],
+    scale: &[f64; 192],
+    pos: &[f64],
+    vel: &[f64],
+    out: &mut [f64],
+) -> Sent
+    ensures { λ r. ⌜ (r ≡ brakeAnswer binary64 c (tables (now (center .entry)) (now (scale .entry))) (now (pos .entry)) (now (vel .entry)) (length (now (out .entry)))) × (now (out .exit) ≡ brakeOutput binary64 c (tables (now (center .entry)) (now (scale .entry))) (now (pos .entry)) (now (vel .entry)) (now (out .entry))) ⌝ }
 {
+    let compiled = envelope::compile(c, center, scale);
     let unfit = !fmath::all_finite(pos, pos.len()) | !fmath::all_finite(vel, vel.len());
-    let number = row_refusal(c, unfit, out.len());
+    let number = row_refusal(c, compiled.number, unfit, out.len());
     if number != 0 {
         return Sent::Refused(Refusal::of(number));
     }
-    let w = workspace_of(c);
+    let w = workspace_of(compiled.derived);
     let kind = c.kind;
     let row = brake_row(kind, c.limits.a_max, c.limits.dt, w, pos, vel, c.dim);
     if !row.sound {
@@ -445,15 +459,22 @@ pub fn brake_action(c: FuseConfig, pos: &[f64], vel: &[f64], out: &mut [f64]) ->
 }
 
 // The row that holds a latched position, likewise.
-pub fn hold_action(c: FuseConfig, pos: &[f64], out: &mut [f64]) -> Sent
-    ensures { λ r. ⌜ (r ≡ holdAnswer c (now (pos .entry)) (length (now (out .entry)))) × (now (out .exit) ≡ holdOutput c (now (pos .entry)) (now (out .entry))) ⌝ }
+pub fn hold_action(
+    c: FuseConfig,
+    center: &[f64; 192],
+    scale: &[f64; 192],
+    pos: &[f64],
+    out: &mut [f64],
+) -> Sent
+    ensures { λ r. ⌜ (r ≡ holdAnswer binary64 c (tables (now (center .entry)) (now (scale .entry))) (now (pos .entry)) (length (now (out .entry)))) × (now (out .exit) ≡ holdOutput binary64 c (tables (now (center .entry)) (now (scale .entry))) (now (pos .entry)) (now (out .entry))) ⌝ }
 {
+    let compiled = envelope::compile(c, center, scale);
     let unfit = !fmath::all_finite(pos, pos.len());
-    let number = row_refusal(c, unfit, out.len());
+    let number = row_refusal(c, compiled.number, unfit, out.len());
     if number != 0 {
         return Sent::Refused(Refusal::of(number));
     }
-    let w = workspace_of(c);
+    let w = workspace_of(compiled.derived);
     let kind = c.kind;
     let row = hold_row(kind, w, pos, c.dim);
     fmath::put(&row, c.dim, out);

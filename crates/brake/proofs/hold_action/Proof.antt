@@ -3,10 +3,17 @@ use mathlib.Core.Path.{_≡_, sym, ap, _∙_}
 use mathlib.Core.Bool.{not}
 use denote.Ref.{now}
 use lib.ListN.{length}
+use lib.Ieee.{binary64}
+use Rattle.conformal.specs.Of.{tables}
+use Rattle.envelope.proofs.Accepted.{compiled-number, compiled-derived}
+use Rattle.brake.specs.Of.{workspaceFrom}
 use Rattle.brake.proofs.Sending.{hold-refused, hold-done}
 use borrow.Author.Needs.{needs}
 use Rattle.brake.proofs.hold_action.Statement.{statement}
 use Rattle.brake.proofs.hold_action.Tie as tie
+
+compile-requires : tie.Need-compile-requires
+compile-requires c κs = search needs
 
 all-finite-requires : tie.Need-all-finite-requires
 all-finite-requires c κs = search needs
@@ -18,7 +25,7 @@ of-requires : tie.Need-of-requires
 of-requires c κs = search needs
 
 returns : tie.Need-returns
-returns c = let g = c .before .before .before .before .before .before .args in let w = hold-refused (g .c) (now (g .pos)) (now (g .out)) (ap not (c .before .before .before .all-finite .ensures)) (c .before .before .row-refusal .ensures) (c .before .if1 .taken) (c .of .ensures) in (w .gives, w .leaves)
+returns c = let g = c .before .before .before .before .before .before .before .args in let w = hold-refused binary64 (g .c) (tables (now (g .center)) (now (g .scale))) (now (g .pos)) (now (g .out)) (ap not (c .before .before .before .all-finite .ensures)) (c .before .before .row-refusal .ensures _ (compiled-number (c .before .before .before .before .compile .ensures))) (c .before .if1 .taken) (c .of .ensures) in (w .gives, w .leaves)
 
 workspace-of-requires : tie.Need-workspace-of-requires
 workspace-of-requires c κs = search needs
@@ -41,14 +48,15 @@ long c = search needs
 
 returns-2 : tie.Need-returns-2
 returns-2 c =
-    let g = c .before .before .before .before .before .before .before .before .before .before .before .before .args in
-    let w = hold-done (g .c) (now (g .pos)) (now (g .out)) (ap not (c .before .before .before .before .before .before .before .before .before .all-finite .ensures)) (sym (c .before .before .before .before .before .before .before .before .row-refusal .ensures) ∙ c .before .before .before .before .before .before .before .if1 .left) (c .before .before .before .before .before .before .workspace-of .ensures) (c .before .before .before .before .before .hold-row .ensures) (long (c .before .before)) (c .before .before .put .ensures) in
+    let g = c .before .before .before .before .before .before .before .before .before .before .before .before .before .args in
+    let w = hold-done binary64 (g .c) (tables (now (g .center)) (now (g .scale))) (now (g .pos)) (now (g .out)) (ap not (c .before .before .before .before .before .before .before .before .before .all-finite .ensures)) (sym (c .before .before .before .before .before .before .before .before .row-refusal .ensures _ (compiled-number (c .before .before .before .before .before .before .before .before .before .before .compile .ensures))) ∙ c .before .before .before .before .before .before .before .if1 .left) (c .before .before .before .before .before .before .workspace-of .ensures ∙ ap workspaceFrom (compiled-derived (c .before .before .before .before .before .before .before .before .before .before .compile .ensures))) (c .before .before .before .before .before .hold-row .ensures) (long (c .before .before)) (c .before .before .put .ensures) in
     (w .gives, w .leaves)
 
 pub hold-action-spec : {M : Type 1} → statement M
 hold-action-spec =
     tie.close
     (tie.spec
+    compile-requires
     all-finite-requires
     row-refusal-requires
     of-requires
