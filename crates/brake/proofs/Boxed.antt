@@ -15,11 +15,11 @@ use lib.Ieee.{Float, nan, binary64}
 use Rattle.refusal.specs.Order.{short, notFinite, computed, _when_, refusal}
 use Rattle.refusal.specs.Chain.{both-pass, passes-at}
 use Rattle.fmath.specs.Answer.{someNotFinite}
-use Rattle.fmath.specs.Each.{at, over}
-use Rattle.fmath.specs.Finite.{+0, finite, allFinite}
-use Rattle.fmath.specs.Row.{padded}
-use Rattle.fmath.proofs.Each.{all-at, neither, over-at, over-keeps}
-use Rattle.fmath.proofs.Ordered.{finite-real}
+use Rattle.checked.specs.Each.{at, over}
+use Rattle.checked.specs.Finite.{+0, finite, allFinite}
+use Rattle.checked.specs.Row.{padded}
+use Rattle.checked.proofs.Each.{all-at, neither, over-at, over-keeps}
+use Rattle.checked.proofs.Ordered.{finite-real}
 use Rattle.envelope.specs.Refusals.{configJudged}
 use Rattle.envelope.specs.declared.ActionKind.{ActionKind}
 use Rattle.envelope.specs.declared.ActionKind.the-variants.{EePosition, EeDelta, JointPosition, JointVelocity, Other}

@@ -5,10 +5,10 @@ use mathlib.Core.List.{List}
 use native.Mathlib.Omega.{arith}
 use lib.ListN.{length, replicate}
 use lib.Ieee.{Float}
-use Rattle.fmath.specs.Each.{at}
-use Rattle.fmath.specs.Finite.{+0}
-use Rattle.fmath.specs.Row.{padded}
-use Rattle.fmath.proofs.Each.{length-over}
+use Rattle.checked.specs.Each.{at}
+use Rattle.checked.specs.Finite.{+0}
+use Rattle.checked.specs.Row.{padded}
+use Rattle.checked.proofs.Each.{length-over}
 use Rattle.brake.specs.Rule.{eight}
 
 pub eight-is : (l : List Float) (n : ℕ) {r : List Float} → n ≤ 8 → r ≡ padded l (min n (min (length l) 8)) → r ≡ eight l n

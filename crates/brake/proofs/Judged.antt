@@ -9,11 +9,12 @@ use borrow.Author.Tests.{eqb-true, eqb-false, eq-eqb, ne-eqb, ltb-false, not-fal
 use lib.Dec.{eqb, ltb}
 use lib.ListN.{length}
 use lib.Ieee.{Float, binary64}
-use Rattle.refusal.specs.Order.{Judged, numberOf, width, short, notFinite, computed, _when_, refusal, refusedFor, if_then_else_}
+use Rattle.refusal.specs.Order.{Judged, numberOf, width, short, notFinite, computed, _when_, refusal, refusedFor}
+use Rattle.bits.specs.Choice.{if_then_else_}
 use Rattle.refusal.specs.Chain.{chain, first-refuses, first-passes, both-pass, passes-at}
 use Rattle.refusal.specs.declared.Refusal.{Refusal}
 use Rattle.fmath.specs.Answer.{someLentNotFinite}
-use Rattle.fmath.proofs.Each.{neither}
+use Rattle.checked.proofs.Each.{neither}
 use Rattle.chunk.specs.Refusals.{chunkReasons}
 use Rattle.chunk.proofs.Judged.{sizes-accepted}
 use Rattle.envelope.specs.Refusals.{configJudged}

@@ -6,8 +6,8 @@ use native.Mathlib.Numerals.{add-one}
 use native.Mathlib.Omega.{arith}
 use borrow.Author.Tests.{ne-eqb}
 use lib.Ieee.{le}
-use Rattle.fmath.specs.Each.{all}
-use Rattle.fmath.specs.Finite.{+0}
+use Rattle.checked.specs.Each.{all}
+use Rattle.checked.specs.Finite.{+0}
 use Rattle.rollout.specs.Plant.{State}
 use Rattle.rollout.specs.Forecast.{Forecast, fine, reached, placeOf, marginOf}
 use Rattle.rollout.specs.Of.{runOf, reckonedFrom}

@@ -12,10 +12,10 @@ use lib.Dec.{eqb}
 use lib.ListN.{length}
 use lib.Ieee.{Float, binary64, lt}
 use Rattle.refusal.specs.Order.{Judged, refusal, refusedFor}
-use Rattle.fmath.specs.Each.{at, all}
-use Rattle.fmath.specs.Finite.{+0}
-use Rattle.fmath.proofs.Each.{all-at, all-from, length-over}
-use Rattle.fmath.proofs.Ordered.{Real}
+use Rattle.checked.specs.Each.{at, all}
+use Rattle.checked.specs.Finite.{+0}
+use Rattle.checked.proofs.Each.{all-at, all-from, length-over}
+use Rattle.checked.proofs.Ordered.{Real}
 use Rattle.chunk.specs.Refusals.{chunkReasons}
 use Rattle.envelope.specs.Refusals.{configJudged}
 use Rattle.envelope.specs.declared.ControlSteps.{ControlSteps}

@@ -5,7 +5,7 @@ use mathlib.Core.Bool.{true}
 use native.Mathlib.Omega.{arith}
 use borrow.Author.Tests.{le-leb, lt-ltb}
 use lib.Ieee.{Float}
-use Rattle.fmath.specs.Each.{every, every-from}
+use Rattle.checked.specs.Each.{every, every-from}
 use Rattle.envelope.specs.declared.BrakeKind.{BrakeKind}
 use Rattle.envelope.specs.declared.BrakeKind.the-variants.{PdSecondOrder}
 use Rattle.envelope.specs.declared.FuseConfig.{FuseConfig}

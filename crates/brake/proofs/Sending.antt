@@ -11,13 +11,14 @@ use borrow.Author.Tests.{lt-ltb, le-ltb, ltb-false}
 use lib.Dec.{ltb}
 use lib.ListN.{length}
 use lib.Ieee.{Float, Format, binary64}
-use Rattle.refusal.specs.Order.{Judged, short, notFinite, computed, _when_, refusal, refusedFor, if_then_else_}
+use Rattle.refusal.specs.Order.{Judged, short, notFinite, computed, _when_, refusal, refusedFor}
+use Rattle.bits.specs.Choice.{if_then_else_}
 use Rattle.refusal.specs.Chain.{chain, first-refuses, first-passes, both-pass, passes-at}
 use Rattle.refusal.specs.declared.Refusal.{Refusal}
 use Rattle.fmath.specs.Answer.{someNotFinite}
-use Rattle.fmath.specs.Each.{at, over}
-use Rattle.fmath.specs.Checked.{pure}
-use Rattle.fmath.proofs.Copy.{all-put}
+use Rattle.checked.specs.Each.{at, over}
+use Rattle.checked.specs.Checked.{pure}
+use Rattle.checked.proofs.Copy.{all-put}
 use Rattle.envelope.specs.Refusals.{configJudged}
 use Rattle.envelope.specs.declared.ActionKind.{ActionKind}
 use Rattle.envelope.specs.declared.ActionKind.the-variants.{EePosition, EeDelta, JointPosition, JointVelocity, Other}

@@ -6,15 +6,16 @@ use mathlib.Core.List.{List}
 use lib.Dec.{ltb}
 use lib.ListN.{length}
 use lib.Ieee.{Float, Format, add, sub, mul, div}
-use Rattle.refusal.specs.Order.{if_then_else_}
-use Rattle.fmath.specs.Constants.{1!, eps}
-use Rattle.fmath.specs.Each.{at}
-use Rattle.fmath.specs.Finite.{finite, +0}
-use Rattle.fmath.specs.Checked.{times, pure}
+use Rattle.bits.specs.Choice.{if_then_else_}
+use Rattle.checked.specs.Constants.{1!, eps}
+use Rattle.checked.specs.Each.{at}
+use Rattle.checked.specs.Finite.{finite, +0}
+use Rattle.checked.specs.Checked.{times, pure}
 use Rattle.fmath.specs.Norm.{norm}
-use Rattle.fmath.proofs.Absorbing.{fine-add-left, fine-sub-right, fine-div-left}
-use Rattle.fmath.proofs.Each.{and-left, and-right}
-use Rattle.fmath.proofs.Told.{Tells, implied, norm-tells}
+use Rattle.checked.proofs.Absorbing.{fine-add-left, fine-sub-right, fine-div-left}
+use Rattle.checked.proofs.Each.{and-left, and-right}
+use Rattle.checked.proofs.Told.{Tells, implied}
+use Rattle.fmath.proofs.Lengths.{norm-tells}
 use Rattle.brake.specs.Rule.{ramp, scaledAt}
 
 module _ (f : Format) (a dt : Float) (v : List Float) (n : ℕ) where

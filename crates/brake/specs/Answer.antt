@@ -5,10 +5,11 @@ use mathlib.Core.List.{List, [], _∷_, _++_}
 use lib.Dec.{ltb, eqb}
 use lib.ListN.{length}
 use lib.Ieee.{Float, binary64}
-use Rattle.refusal.specs.Order.{Judged, width, short, notFinite, computed, numberOf, _when_, refusal, refusedFor, if_then_else_}
+use Rattle.refusal.specs.Order.{Judged, width, short, notFinite, computed, numberOf, _when_, refusal, refusedFor}
+use Rattle.bits.specs.Choice.{if_then_else_}
 use Rattle.fmath.specs.Answer.{someNotFinite, someLentNotFinite}
-use Rattle.fmath.specs.Each.{at, over}
-use Rattle.fmath.specs.Checked.{Checked}
+use Rattle.checked.specs.Each.{at, over}
+use Rattle.checked.specs.Checked.{Checked}
 use Rattle.chunk.specs.Refusals.{chunkReasons}
 use Rattle.envelope.specs.Refusals.{configJudged}
 use Rattle.envelope.specs.declared.FuseConfig.{FuseConfig}

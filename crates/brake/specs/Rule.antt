@@ -4,13 +4,13 @@ use mathlib.Core.List.{List}
 use lib.Dec.{ltb}
 use lib.ListN.{length, replicate}
 use lib.Ieee.{Float, Format}
-use Rattle.refusal.specs.Order.{if_then_else_}
-use Rattle.fmath.specs.Constants.{1!, eps}
-use Rattle.fmath.specs.Each.{at}
-use Rattle.fmath.specs.Finite.{+0}
-use Rattle.fmath.specs.Row.{padded}
-use Rattle.fmath.specs.Least.{greater}
-use Rattle.fmath.specs.Checked.{Checked, _>>=_, pure, plus, minus, times, divided, each}
+use Rattle.bits.specs.Choice.{if_then_else_}
+use Rattle.checked.specs.Constants.{1!, eps}
+use Rattle.checked.specs.Each.{at}
+use Rattle.checked.specs.Finite.{+0}
+use Rattle.checked.specs.Row.{padded}
+use Rattle.checked.specs.Least.{greater}
+use Rattle.checked.specs.Checked.{Checked, _>>=_, pure, plus, minus, times, divided, each}
 use Rattle.fmath.specs.Norm.{norm}
 use Rattle.envelope.specs.Derive.{derived}
 use Rattle.envelope.specs.declared.ActionKind.{ActionKind}

@@ -6,15 +6,16 @@ use lib.IntN.{pos}
 use lib.ListN.{replicate}
 use lib.Ieee.{fin, binary64, round, add, sub, mul, div, lt, le, eq}
 use Rattle.root.specs.Root.{floorRoot, nearRoot, half, rootExponent, scaled, number, rootOf}
-use Rattle.fmath.specs.Constants.{1!, 2! }
-use Rattle.fmath.specs.Each.{over}
-use Rattle.fmath.specs.Finite.{finite, +0}
-use Rattle.fmath.specs.Least.{greater, clamped}
-use Rattle.fmath.specs.Checked.{sumFrom, each, pure}
+use Rattle.checked.specs.Constants.{1!, 2! }
+use Rattle.checked.specs.Each.{over}
+use Rattle.checked.specs.Finite.{finite, +0}
+use Rattle.checked.specs.Least.{greater}
+use Rattle.fmath.specs.Clamp.{clamped}
+use Rattle.checked.specs.Checked.{sumFrom, each, pure}
 use Rattle.fmath.specs.Norm.{squareAt, norm}
 use Rattle.envelope.specs.declared.ActionKind.the-variants.{EePosition, EeDelta, JointVelocity}
 use Rattle.workspace.specs.Rule.{Walls, inward}
-use Rattle.fmath.specs.Row.{padded}
+use Rattle.checked.specs.Row.{padded}
 use Rattle.brake.specs.Rule.{eight, setpoint, ramp, scaledAt, slowed, slower, shorter, brakeRow, holdRow}
 
 abbrev walls : Walls

@@ -8,7 +8,7 @@ use native.Mathlib.Omega.{arith}
 use borrow.Author.Tests.{eq-eqb, ne-eqb}
 use lib.Dec.{eqb}
 use lib.ListN.{length, take, drop, length-append}
-use Rattle.refusal.specs.Order.{if_then_else_}
+use Rattle.bits.specs.Choice.{if_then_else_}
 use Rattle.brake.specs.declared.BrakeOut.{BrakeOut}
 use Rattle.card.specs.declared.record.Card.{Card}
 use Rattle.card.specs.declared.desk.Answer.{Answer}

@@ -7,7 +7,7 @@ use native.Mathlib.Omega.{arith}
 use borrow.Author.Tests.{ltb-true, leb-true}
 use lib.Dec.{ltb, leb}
 use lib.ListN.{length}
-use Rattle.fmath.proofs.Each.{and-left, and-right}
+use Rattle.checked.proofs.Each.{and-left, and-right}
 use Rattle.card.specs.declared.block.Answered.{Answered}
 use Rattle.card.specs.Text.{Put}
 use Rattle.card.specs.Block.{text, fits, answeredFor, outFor}

@@ -6,7 +6,8 @@ use Prim.Native.Nat.{ℕ, zero, suc, _+_, _-_, _*_, _/_, _%_}
 use lib.Dec.{ltb, leb, eqb}
 use lib.ListN.{length}
 use lib.Seq.{sets}
-use Rattle.refusal.specs.Order.{numberOf, leftover, if_then_else_}
+use Rattle.refusal.specs.Order.{numberOf, leftover}
+use Rattle.bits.specs.Choice.{if_then_else_}
 use Rattle.card.specs.declared.desk.Answer.{Answer}
 use Rattle.card.specs.declared.block.Answered.{Answered}
 use Rattle.card.specs.Record.{cardAt}

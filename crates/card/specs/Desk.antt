@@ -5,9 +5,10 @@ use mathlib.Core.List.{List, [], _∷_}
 use lib.Dec.{eqb}
 use lib.ListN.{replicate}
 use lib.Ieee.{Float, binary64, ofBits, toBits}
-use Rattle.refusal.specs.Order.{computed, numberOf, if_then_else_}
-use Rattle.fmath.specs.Constants.{1! }
-use Rattle.fmath.specs.Finite.{+0}
+use Rattle.refusal.specs.Order.{computed, numberOf}
+use Rattle.bits.specs.Choice.{if_then_else_}
+use Rattle.checked.specs.Constants.{1! }
+use Rattle.checked.specs.Finite.{+0}
 use Rattle.conformal.specs.declared.Calibration.{Calibration}
 use Rattle.envelope.specs.declared.ActionKind.the-variants.{EePosition}
 use Rattle.envelope.specs.declared.ClampMode.the-variants.{Off}

@@ -2,7 +2,7 @@
 ghost use mathlib.Core.Path.{_≡_};
 ghost use Prim.Native.Nat.{_-_};
 ghost use lib.ListN.{length, replicate};
-ghost use Rattle.fmath.specs.Constants.{1! };
+ghost use Rattle.checked.specs.Constants.{1! };
 ghost use Rattle.card.specs.Desk.{calibrationOf, brakeOf, wallsOf, limitsOf, normOf, configOf, outcomeOf, slacksOf, countOf, answerFor};
 use crate::record::Card;
 use brake::BrakeOut;

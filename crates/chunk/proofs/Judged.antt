@@ -8,9 +8,10 @@ use borrow.Author.Tests.{eqb-true, eqb-false, ltb-false, not-false}
 use lib.Dec.{eqb}
 use lib.Ieee.{Float}
 use lib.ListN.{length}
-use Rattle.fmath.specs.Finite.{allFinite}
-use Rattle.fmath.proofs.Each.{neither}
-use Rattle.refusal.specs.Order.{Judged, _when_, empty, tooLong, tooWide, execExceedsHorizon, lenMismatch, notFinite, among, refusal, if_then_else_}
+use Rattle.checked.specs.Finite.{allFinite}
+use Rattle.checked.proofs.Each.{neither}
+use Rattle.refusal.specs.Order.{Judged, _when_, empty, tooLong, tooWide, execExceedsHorizon, lenMismatch, notFinite, among, refusal}
+use Rattle.bits.specs.Choice.{if_then_else_}
 use Rattle.refusal.specs.Exactly.{exactly-none}
 use Rattle.refusal.specs.Chain.{first-refuses, first-passes, both-pass, passes-at}
 use Rattle.chunk.specs.Refusals.{chunkReasons, lentReasons}

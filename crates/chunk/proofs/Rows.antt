@@ -11,9 +11,9 @@ use lib.Ieee.{Float}
 use lib.ListN.{length, take, drop, length-take, length-drop}
 use lib.Pow.{pow-pos}
 use lib.Seq.{paste, take-all, getD-take, getD-drop}
-use Rattle.fmath.specs.Each.{at}
-use Rattle.fmath.proofs.Each.{and-right}
-use Rattle.refusal.specs.Order.{if_then_else_}
+use Rattle.checked.specs.Each.{at}
+use Rattle.checked.proofs.Each.{and-right}
+use Rattle.bits.specs.Choice.{if_then_else_}
 use Rattle.chunk.specs.declared.Part.{Part}
 use Rattle.chunk.specs.Rule.{rowStart, rowWithin, rowIn, rowOf, rowSet}
 use Rattle.chunk.specs.Of.{partOf}

@@ -8,8 +8,9 @@ use lib.Ieee.{Float}
 use lib.ListN.{length, replicate}
 use lib.Seq.{paste}
 use denote.Ref.{RefT, now, ptr}
-use Rattle.fmath.specs.Finite.{+0}
-use Rattle.refusal.specs.Order.{refusal, refusedFor, if_then_else_}
+use Rattle.checked.specs.Finite.{+0}
+use Rattle.refusal.specs.Order.{refusal, refusedFor}
+use Rattle.bits.specs.Choice.{if_then_else_}
 use Rattle.chunk.specs.declared.ChunkBuf.{ChunkBuf}
 use Rattle.chunk.specs.declared.ChunkView.{ChunkView}
 use Rattle.chunk.specs.declared.Filled.{Filled}

@@ -6,7 +6,7 @@ use lib.Dec.{eqb, ltb}
 use lib.Ieee.{Float}
 use lib.ListN.{length}
 use Rattle.fmath.specs.Answer.{someNotFinite}
-use Rattle.fmath.specs.Finite.{allFinite}
+use Rattle.checked.specs.Finite.{allFinite}
 use Rattle.refusal.specs.Order.{Judged, _when_, empty, tooLong, tooWide, execExceedsHorizon, lenMismatch, notFinite}
 
 -- the reasons 5 to 9, for rows of n numbers

@@ -6,10 +6,10 @@ use mathlib.Core.Logic.{_⊎_, inl, inr, ⊎-elim}
 use native.Mathlib.Omega.{arith}
 use borrow.Author.Count.{below-more}
 use lib.Ieee.{Float, nan, inf, fin, lt, isNan}
-use Rattle.refusal.specs.Order.{if_then_else_}
-use Rattle.fmath.specs.Least.{lesser, greater}
-use Rattle.fmath.proofs.Extremes.{not-above-inf}
-use Rattle.fmath.proofs.Ordered.{Real}
+use Rattle.bits.specs.Choice.{if_then_else_}
+use Rattle.checked.specs.Least.{lesser, greater}
+use Rattle.checked.proofs.Extremes.{not-above-inf}
+use Rattle.checked.proofs.Ordered.{Real}
 use Rattle.conformal.specs.Rule.{joinWhere}
 
 -- an index below n of which p and Q hold

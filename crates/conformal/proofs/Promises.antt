@@ -6,15 +6,15 @@ use mathlib.Core.Logic.{_⊎_, ⊎-elim}
 use mathlib.Core.List.{List}
 use native.Mathlib.Omega.{arith}
 use lib.Ieee.{Float, inf, lt}
-use Rattle.fmath.specs.Each.{at, some}
-use Rattle.fmath.specs.Least.{lesser, greater}
-use Rattle.fmath.proofs.Each.{and-left}
-use Rattle.fmath.proofs.Ordered.{Real}
-use Rattle.fmath.proofs.Extremes.{lesser-left, lesser-right, greater-left, greater-right}
-use Rattle.conformal.specs.Bits.{bit}
+use Rattle.checked.specs.Each.{at, some}
+use Rattle.checked.specs.Least.{lesser, greater}
+use Rattle.checked.proofs.Each.{and-left}
+use Rattle.checked.proofs.Ordered.{Real}
+use Rattle.checked.proofs.Extremes.{lesser-left, lesser-right, greater-left, greater-right}
+use Rattle.bits.specs.Bits.{bit}
 use Rattle.conformal.specs.Rule.{liveTerm, leastOf, termAt, counts, aggregate, fires, firedBits}
 use Rattle.conformal.specs.declared.GateSpec.{GateSpec}
-use Rattle.conformal.proofs.Bits.{bit-where, no-bit-past}
+use Rattle.bits.proofs.Bits.{bit-where, no-bit-past}
 use Rattle.conformal.proofs.Picked.{Among, NoneOf, join-number, none-beyond, attained, lesser-either, lesser-start, greater-either, greater-start, real-∞}
 
 -- ---- s

@@ -4,8 +4,9 @@ use mathlib.Core.Bool.{Bool, true, not}
 use mathlib.Core.List.{[], _∷_, List}
 use lib.Dec.{eqb}
 use lib.Ieee.{Float, Format}
-use Rattle.refusal.specs.Order.{size, number, steps, notFinite, computed, _when_, refusal, refusedFor, if_then_else_}
-use Rattle.fmath.specs.Checked.{Checked}
+use Rattle.refusal.specs.Order.{size, number, steps, notFinite, computed, _when_, refusal, refusedFor}
+use Rattle.bits.specs.Choice.{if_then_else_}
+use Rattle.checked.specs.Checked.{Checked}
 use Rattle.conformal.specs.Rule.{live, standards, aggregate, firedBits, trips, binAt}
 use Rattle.conformal.specs.Refusals.{sizesOk, numbersOk, scoresOk}
 use Rattle.conformal.specs.declared.Calibration.{Calibration}

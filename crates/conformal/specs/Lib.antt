@@ -1,4 +1,3 @@
-pub mod Bits
 pub mod Feat
 pub mod Rule
 pub mod Refusals

@@ -3,7 +3,7 @@ use Prim.Native.Nat.{ℕ}
 use mathlib.Core.Bool.{Bool}
 use mathlib.Core.List.{List}
 use lib.Ieee.{Float}
-use Rattle.fmath.specs.Checked.{Checked}
+use Rattle.checked.specs.Checked.{Checked}
 use Rattle.conformal.specs.Rule.{liveTerm, leastOf}
 use Rattle.conformal.specs.declared.OneZ.{OneZ}
 use Rattle.conformal.specs.declared.AllZ.{AllZ}

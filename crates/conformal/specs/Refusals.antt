@@ -5,8 +5,8 @@ use mathlib.Core.List.{List, [], _∷_}
 use lib.Dec.{leb, ltb}
 use lib.ListN.{getD}
 use lib.Ieee.{Float, isNan}
-use Rattle.fmath.specs.Each.{all, every}
-use Rattle.fmath.specs.Finite.{finite, allFinite, allAboveZero}
+use Rattle.checked.specs.Each.{all, every}
+use Rattle.checked.specs.Finite.{finite, allFinite, allAboveZero}
 use Rattle.conformal.specs.declared.GateSpec.{GateSpec}
 use Rattle.conformal.specs.declared.Scores.{Scores}
 

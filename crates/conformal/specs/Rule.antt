@@ -5,12 +5,12 @@ use mathlib.Core.List.{List}
 use lib.Dec.{ltb}
 use lib.ListN.{getD}
 use lib.Ieee.{Float, Format, inf, lt}
-use Rattle.refusal.specs.Order.{if_then_else_}
-use Rattle.fmath.specs.Each.{at, all, some, table}
-use Rattle.fmath.specs.Finite.{+0}
-use Rattle.fmath.specs.Least.{lesser, greater}
-use Rattle.fmath.specs.Checked.{Checked, pure, minus, divided, _>>=_}
-use Rattle.conformal.specs.Bits.{bit, bitsWhere}
+use Rattle.bits.specs.Choice.{if_then_else_}
+use Rattle.checked.specs.Each.{at, all, some, table}
+use Rattle.checked.specs.Finite.{+0}
+use Rattle.checked.specs.Least.{lesser, greater}
+use Rattle.checked.specs.Checked.{Checked, pure, minus, divided, _>>=_}
+use Rattle.bits.specs.Bits.{bit, bitsWhere}
 use Rattle.conformal.specs.declared.GateSpec.{GateSpec}
 
 -- a feature is live where the calibration masks it in and the scores hold it

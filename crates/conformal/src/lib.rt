@@ -1,11 +1,11 @@
 // Module 8: scores held against a calibration. Standardise, aggregate over the gate, trip strictly; and the time bin.
 ghost use mathlib.Core.Path.{_≡_};
 ghost use mathlib.Core.Bool.{not};
-ghost use Prim.Native.Nat.{_≤_, _<_, min};
+ghost use Prim.Native.Nat.{_<_, min};
 ghost use lib.Ieee.{binary64, isNan};
-ghost use Rattle.refusal.specs.Order.{if_then_else_};
-ghost use Rattle.fmath.specs.Least.{lesser, greater};
-ghost use Rattle.conformal.specs.Bits.{bit};
+ghost use Rattle.bits.specs.Choice.{if_then_else_};
+ghost use Rattle.checked.specs.Least.{lesser, greater};
+ghost use Rattle.bits.specs.Bits.{bit};
 ghost use Rattle.conformal.specs.Rule.{live, standard, standards, aggregate, firedBits};
 ghost use Rattle.conformal.specs.Refusals.{sizesOk, numbersOk, scoresOk};
 ghost use Rattle.conformal.specs.Answer.{judged, scored, standardised, aggregated, tripped, timeBinOf};
@@ -320,13 +320,6 @@ fn greatest(gate: GateSpec, mask: u32, valid: u32, z: &[f64; 12]) -> f64
     s
 }
 
-// The weight of a bit that is set, else 0.
-pub fn weight(on: bool, w: u32) -> u32
-    ensures { λ r. ⌜ (r ≡ (if on then w else 0)) × (r ≤ w) ⌝ }
-{
-    if on { w } else { 0 }
-}
-
 // A bit for each live feature whose z is above tau.
 fn fired_bits(mask: u32, valid: u32, tau: f64, z: &[f64; 12]) -> u32
     ensures { λ r. ⌜ r ≡ firedBits (live mask valid) tau (now (z .entry)) ⌝ }
@@ -336,7 +329,7 @@ fn fired_bits(mask: u32, valid: u32, tau: f64, z: &[f64; 12]) -> u32
     let mut j = 0usize;
     while j < 12 {
         let live = bit(mask, j) & bit(valid, j);
-        bits += weight(live & (z[j] > tau), w);
+        bits += bits::weight(live & (z[j] > tau), w);
         w *= 2;
         j += 1;
     }

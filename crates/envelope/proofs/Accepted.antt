@@ -6,9 +6,9 @@ use borrow.Author.Tests.{leb-true, not-true, not-false}
 use lib.Ieee.{binary64, lt}
 use Rattle.refusal.specs.Order.{size, number, steps, channels, among, refusal}
 use Rattle.refusal.specs.Exactly.{exactly-none}
-use Rattle.fmath.specs.Each.{at}
-use Rattle.fmath.specs.Finite.{finite, allFinite}
-use Rattle.fmath.proofs.Each.{all-at, every-at}
+use Rattle.checked.specs.Each.{at}
+use Rattle.checked.specs.Finite.{finite, allFinite}
+use Rattle.checked.proofs.Each.{all-at, every-at}
 use Rattle.envelope.specs.Derive.{derived}
 use Rattle.envelope.specs.Steps.{substepsIn}
 use Rattle.envelope.specs.Refusals.{sizesOk, zoneOk, ordered, derivedOk, numbersOk, countsOk, stepsOk, sizesFit, stepsFit, channelsFit, configJudged}

@@ -8,10 +8,10 @@ use borrow.Author.Tests.{ltb-true}
 use lib.Dec.{ltb}
 use lib.Ieee.{Float, Format, binary64, add, sub, div}
 use Rattle.refusal.specs.Order.{refusal}
-use Rattle.fmath.specs.Constants.{1! }
-use Rattle.fmath.specs.Each.{at, all, every, table}
-use Rattle.fmath.specs.Finite.{finite, aboveZero, allFinite, allAboveZero}
-use Rattle.fmath.specs.Least.{least}
+use Rattle.checked.specs.Constants.{1! }
+use Rattle.checked.specs.Each.{at, all, every, table}
+use Rattle.checked.specs.Finite.{finite, aboveZero, allFinite, allAboveZero}
+use Rattle.checked.specs.Least.{least}
 use Rattle.conformal.specs.declared.Calibration.{Calibration}
 use Rattle.envelope.specs.Derive.{kept, lowWalls, highWalls, inverses, isotropic, derivedFrom, derived}
 use Rattle.envelope.specs.Refusals.{sizesOk, numbersOk, countsOk, stepsOk, normOk, boxOk, configJudged}

@@ -8,9 +8,9 @@ use lib.Dec.{T, ltb}
 use lib.ListN.{length, List·getD-eq-default}
 use lib.Ieee.{Float, Format, nan, fits}
 use lib.Ieee.Fits.{nan-fits, add-fits, sub-fits}
-use Rattle.fmath.specs.Each.{at, table}
-use Rattle.fmath.specs.Finite.{+0}
-use Rattle.fmath.proofs.Each.{table-long, table-at}
+use Rattle.checked.specs.Each.{at, table}
+use Rattle.checked.specs.Finite.{+0}
+use Rattle.checked.proofs.Each.{table-long, table-at}
 use Rattle.envelope.specs.Derive.{kept, lowWalls, highWalls, derivedFrom, derived}
 use Rattle.envelope.specs.declared.FuseConfig.{FuseConfig}
 

@@ -4,11 +4,11 @@ use mathlib.Core.Bool.{Bool}
 use mathlib.Core.List.{List}
 use lib.Dec.{ltb}
 use lib.Ieee.{Float, Format, add, sub, mul, div}
-use Rattle.refusal.specs.Order.{if_then_else_}
-use Rattle.fmath.specs.Constants.{1! }
-use Rattle.fmath.specs.Each.{at, table}
-use Rattle.fmath.specs.Finite.{+0}
-use Rattle.fmath.specs.Least.{least}
+use Rattle.bits.specs.Choice.{if_then_else_}
+use Rattle.checked.specs.Constants.{1! }
+use Rattle.checked.specs.Each.{at, table}
+use Rattle.checked.specs.Finite.{+0}
+use Rattle.checked.specs.Least.{least}
 use Rattle.envelope.specs.declared.Limits.{Limits}
 use Rattle.envelope.specs.declared.Norm.{Norm}
 use Rattle.envelope.specs.declared.Box.{Box}

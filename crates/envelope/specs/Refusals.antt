@@ -5,8 +5,8 @@ use mathlib.Core.List.{List, [], _∷_}
 use lib.Dec.{leb, ltb, eqb}
 use lib.Ieee.{Float, binary64, lt}
 use Rattle.refusal.specs.Order.{Judged, size, number, steps, channels, _when_}
-use Rattle.fmath.specs.Each.{at, all, every}
-use Rattle.fmath.specs.Finite.{finite, aboveZero, notBelowZero, allFinite, allAboveZero}
+use Rattle.checked.specs.Each.{at, all, every}
+use Rattle.checked.specs.Finite.{finite, aboveZero, notBelowZero, allFinite, allAboveZero}
 use Rattle.conformal.specs.Refusals as calibration
 use Rattle.conformal.specs.declared.GateSpec.{GateSpec}
 use Rattle.envelope.specs.Derive.{derived}

@@ -2,8 +2,8 @@
 use mathlib.Core.Path.{_≡_, refl, ap, _∙_}
 use mathlib.Core.Bool.{Bool, true, false, not, cond}
 use lib.Ieee.{Float, lt, le}
-use Rattle.fmath.specs.Least.{clamped}
-use Rattle.fmath.proofs.Ordered.{Real, lt-irrefl, le-not-above}
+use Rattle.fmath.specs.Clamp.{clamped}
+use Rattle.checked.proofs.Ordered.{Real, lt-irrefl, le-not-above}
 
 pub clamp-keeps : (x lo hi : Float) → lt x lo ≡ false → lt hi x ≡ false → clamped x lo hi ≡ x
 unfolding clamped

@@ -7,10 +7,10 @@ use Rattle.refusal.specs.declared.Refusal.{Refusal}
 use Rattle.refusal.specs.Order.{short, notFinite, computed, _when_, refusal, refusedFor}
 use Rattle.fmath.specs.declared.Number.{Number}
 use Rattle.fmath.specs.declared.Number.the-variants.{Value, Refused}
-use Rattle.fmath.specs.Finite.{finite}
-use Rattle.fmath.specs.Checked.{Checked}
+use Rattle.checked.specs.Finite.{finite}
+use Rattle.checked.specs.Checked.{Checked}
 use Rattle.fmath.specs.Answer.{numberOr}
-use Rattle.fmath.proofs.Told.{Tells}
+use Rattle.checked.proofs.Told.{Tells}
 
 module _ (s n : Bool) (x : Checked Float) where
   abbrev pub answer : Number

@@ -1,12 +1,4 @@
-pub mod Each
-pub mod Absorbing
-pub mod Sums
-pub mod Told
+pub mod Lengths
 pub mod Judged
-pub mod Ordered
-pub mod Sign
 pub mod Clamping
-pub mod Extremes
-pub mod Copy
 pub mod Promises
-pub mod Chosen

@@ -10,11 +10,12 @@ use borrow.Author.Tests.{lt-ltb, le-ltb}
 use lib.IntN.{ℤ, pos, negsuc}
 use lib.Ieee.{Float, Format, nan, inf, fin, prec, odd, lt, up, down}
 use lib.Ieee.Fits.{up-pos}
-use Rattle.refusal.specs.Order.{computed, _when_, refusal, refusedFor, if_then_else_}
+use Rattle.refusal.specs.Order.{computed, _when_, refusal, refusedFor}
+use Rattle.bits.specs.Choice.{if_then_else_}
 use Rattle.root.specs.Root.{number, rootOf}
 use Rattle.fmath.specs.declared.Number.{Number}
 use Rattle.fmath.specs.declared.Number.the-variants.{Value, Refused}
-use Rattle.fmath.specs.Finite.{finite, +0}
+use Rattle.checked.specs.Finite.{finite, +0}
 use Rattle.fmath.specs.Answer.{noRoot, numberOr, sqrtAnswer}
 
 odd-fine : (d : ℕ) (s : Bool) (q k l : ℕ) → finite (odd d s q k l) ≡ true

@@ -8,8 +8,8 @@ use lib.Ieee.{Float, Format, nan, inf, fin, lt}
 use Rattle.refusal.specs.Order.{short, notFinite, computed, _when_, refusal, refusedFor}
 use Rattle.fmath.specs.declared.Number.{Number}
 use Rattle.fmath.specs.declared.Number.the-variants.{Value, Refused}
-use Rattle.fmath.specs.Finite.{+0, allFinite}
-use Rattle.fmath.specs.Checked.{root}
+use Rattle.checked.specs.Finite.{+0, allFinite}
+use Rattle.checked.specs.Checked.{root}
 use Rattle.fmath.specs.Norm.{norm, dist}
 
 -- a number where the refusal is 0

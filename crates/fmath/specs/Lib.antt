@@ -1,8 +1,3 @@
-pub mod Each
-pub mod Finite
-pub mod Row
-pub mod Constants
-pub mod Least
-pub mod Checked
+pub mod Clamp
 pub mod Norm
 pub mod Answer

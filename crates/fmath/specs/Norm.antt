@@ -2,9 +2,9 @@
 use Prim.Native.Nat.{ℕ}
 use mathlib.Core.List.{List}
 use lib.Ieee.{Float, Format}
-use Rattle.fmath.specs.Each.{at}
-use Rattle.fmath.specs.Finite.{+0}
-use Rattle.fmath.specs.Checked.{Checked, _>>=_, minus, times, root, sumFrom}
+use Rattle.checked.specs.Each.{at}
+use Rattle.checked.specs.Finite.{+0}
+use Rattle.checked.specs.Checked.{Checked, _>>=_, minus, times, root, sumFrom}
 
 unfoldable pub squareAt : Format → List Float → ℕ → Checked Float
 squareAt f v j = times f (at v j) (at v j)

@@ -4,12 +4,13 @@ ghost use mathlib.Core.Path.{_≡_};
 ghost use mathlib.Core.List.{[], _∷_};
 ghost use lib.ListN.{length};
 ghost use lib.Ieee.{binary64};
-ghost use Rattle.fmath.specs.Each.{at, over};
-ghost use Rattle.fmath.specs.Row.{padded};
+ghost use Rattle.checked.specs.Each.{at, over};
+ghost use Rattle.checked.specs.Row.{padded};
 ghost use Rattle.fmath.specs.Norm.{norm, dist};
 ghost use Rattle.fmath.specs.Answer.{someLentNotFinite, sqrtAnswer, normAnswer, distAnswer};
-ghost use Rattle.fmath.specs.Finite.{finite, aboveZero, notBelowZero, allFinite, allAboveZero};
-ghost use Rattle.fmath.specs.Least.{lesser, greater, clamped};
+ghost use Rattle.checked.specs.Finite.{finite, aboveZero, notBelowZero, allFinite, allAboveZero};
+ghost use Rattle.checked.specs.Least.{lesser, greater};
+ghost use Rattle.fmath.specs.Clamp.{clamped};
 use refusal::Refusal;
 
 // A number, or why there is none.

@@ -4,7 +4,7 @@ use mathlib.Core.List.{List, [], _∷_}
 use Prim.Native.Nat.{ℕ, _+_}
 use native.Mathlib.Nat.{add-zero}
 use lib.Ieee.{Float}
-use Rattle.fmath.specs.Each.{at, table}
+use Rattle.checked.specs.Each.{at, table}
 use Rattle.layout.specs.Places.{part}
 
 pub eight-listed : (l : List Float) (s : ℕ) → (at l s ∷ at l (s + 1) ∷ at l (s + 2) ∷ at l (s + 3) ∷ at l (s + 4) ∷ at l (s + 5) ∷ at l (s + 6) ∷ at l (s + 7) ∷ []) ≡ part l s 8

@@ -4,7 +4,7 @@ use mathlib.Core.Bool.{Bool, _&&_, _||_}
 use mathlib.Core.List.{List, [], _∷_}
 use lib.Dec.{leb, eqb}
 use lib.Ieee.{Float}
-use Rattle.fmath.specs.Each.{every}
+use Rattle.checked.specs.Each.{every}
 use Rattle.chunk.specs.declared.ChunkBuf.{ChunkBuf}
 use Rattle.window.specs.Rule.{bit}
 use Rattle.layout.specs.Places.{count, long, in16, in32}

@@ -1,11 +1,11 @@
 -- The configuration in flat arrays: 44 numbers, 26 counts and codes, and the calibration's two tables of 192.
 use Prim.Native.Nat.{ℕ, zero, suc}
 use mathlib.Core.Bool.{Bool, _&&_, _||_}
-use Rattle.refusal.specs.Order.{if_then_else_}
+use Rattle.bits.specs.Choice.{if_then_else_}
 use mathlib.Core.List.{List, [], _∷_, _++_}
 use lib.Dec.{leb, eqb}
 use lib.Ieee.{Float}
-use Rattle.fmath.specs.Each.{at, every}
+use Rattle.checked.specs.Each.{at, every}
 use Rattle.conformal.specs.declared.GateSpec.{GateSpec}
 use Rattle.envelope.specs.declared.ActionKind.{ActionKind}
 use Rattle.envelope.specs.declared.ActionKind.the-variants as K

@@ -5,7 +5,7 @@ use mathlib.Core.List.{List}
 use lib.Dec.{leb}
 use lib.ListN.{getD}
 use lib.Ieee.{Float}
-use Rattle.fmath.specs.Each.{at, table}
+use Rattle.checked.specs.Each.{at, table}
 
 -- the count at a place
 abbrev pub count : List ℕ → ℕ → ℕ

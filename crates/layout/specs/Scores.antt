@@ -3,7 +3,7 @@ use Prim.Native.Nat.{ℕ}
 use mathlib.Core.Bool.{Bool}
 use mathlib.Core.List.{List, [], _∷_, _++_}
 use lib.Ieee.{Float}
-use Rattle.fmath.specs.Each.{at, every}
+use Rattle.checked.specs.Each.{at, every}
 use Rattle.conformal.specs.declared.Scores.{Scores}
 use Rattle.layout.specs.Places.{count, part, in32, long}
 

@@ -4,7 +4,7 @@ use mathlib.Core.Bool.{Bool}
 use mathlib.Core.List.{List, [], _∷_}
 use lib.Dec.{leb, eqb}
 use lib.Ieee.{Float}
-use Rattle.fmath.specs.Each.{every}
+use Rattle.checked.specs.Each.{every}
 use Rattle.window.specs.Rule.{bit}
 use Rattle.tier1.specs.declared.Tier1Rt.{Tier1Rt}
 use Rattle.layout.specs.Places.{count, long, in32}

@@ -7,9 +7,9 @@ use native.Mathlib.Omega.{arith}
 use borrow.Author.Tests.{eq-eqb, ne-eqb, le-leb}
 use lib.ListN.{length}
 use lib.Ieee.{Float}
-use Rattle.refusal.specs.Order.{if_then_else_}
-use Rattle.fmath.specs.Each.{at, over}
-use Rattle.fmath.proofs.Copy.{all-pasted}
+use Rattle.bits.specs.Choice.{if_then_else_}
+use Rattle.checked.specs.Each.{at, over}
+use Rattle.checked.proofs.Copy.{all-pasted}
 use Rattle.chunk.specs.Of.{heldOf}
 use Rattle.conformal.specs.declared.Scores.{Scores}
 use Rattle.envelope.specs.declared.FuseConfig.{FuseConfig}

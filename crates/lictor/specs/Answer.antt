@@ -5,7 +5,7 @@ use mathlib.Core.Bool.{Bool}
 use mathlib.Core.List.{List, [], _∷_}
 use lib.Dec.{eqb}
 use lib.Ieee.{Float}
-use Rattle.refusal.specs.Order.{if_then_else_}
+use Rattle.bits.specs.Choice.{if_then_else_}
 use Rattle.fmath.specs.declared.Number.{Number}
 use Rattle.fmath.specs.declared.Number.the-variants as N
 use Rattle.chunk.specs.declared.Filled.{Filled}

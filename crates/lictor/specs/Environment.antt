@@ -4,8 +4,8 @@ use mathlib.Core.Path.{_≡_, refl}
 use mathlib.Core.Bool.{false, _&&_}
 use lib.IntN.{pos, negsuc}
 use lib.Ieee.{Float, Format, binary64, fin, add, sub, div, eq, lt}
-use Rattle.fmath.specs.Constants.{1!, 2! }
-use Rattle.fmath.specs.Finite.{+0}
+use Rattle.checked.specs.Constants.{1!, 2! }
+use Rattle.checked.specs.Finite.{+0}
 use Rattle.window.specs.Rule.{bit}
 
 -- 1 plus half a step above it is a tie, which goes to the even 1 (not so when rounding up, or ties away); 1 less half a step below it

@@ -2,7 +2,7 @@
 ghost use mathlib.Core.Path.{_≡_};
 ghost use mathlib.Core.Bool.{true, not, _&&_};
 ghost use lib.Dec.{eqb};
-ghost use Rattle.refusal.specs.Order.{if_then_else_};
+ghost use Rattle.bits.specs.Choice.{if_then_else_};
 ghost use Rattle.layout.specs.Config.{configOf, countsFit};
 ghost use Rattle.layout.specs.Scores.{marksFit, scoresOf};
 ghost use Rattle.layout.specs.State.{stateFits, stateOf};

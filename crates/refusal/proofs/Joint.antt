@@ -4,7 +4,8 @@ use mathlib.Core.Bool.{Bool, true, false, _||_}
 use mathlib.Core.List.{List, [], _∷_}
 use borrow.Author.Tests.{eq-eqb, ne-eqb}
 use lib.Dec.{eqb}
-use Rattle.refusal.specs.Order.{Reason, computed, numberOf, order, firstOf, given, _when_, among, _or_, named, earlier, if_then_else_}
+use Rattle.refusal.specs.Order.{Reason, computed, numberOf, order, firstOf, given, _when_, among, _or_, named, earlier}
+use Rattle.bits.specs.Choice.{if_then_else_}
 use Rattle.refusal.specs.Exactly.{NoneOf, none-zero, not-zero}
 
 -- ---- no reason stands twice in the order

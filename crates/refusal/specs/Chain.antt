@@ -4,7 +4,8 @@ use Prim.Native.Nat.{ℕ}
 use mathlib.Core.Path.{_≡_, refl, sym}
 use mathlib.Core.Bool.{Bool, true, false}
 use mathlib.Core.List.{List, [], _∷_, _++_}
-use Rattle.refusal.specs.Order.{Reason, Judged, numberOf, _when_, if_then_else_}
+use Rattle.refusal.specs.Order.{Reason, Judged, numberOf, _when_}
+use Rattle.bits.specs.Choice.{if_then_else_}
 use Rattle.refusal.specs.Exactly.{not-zero}
 
 abbrev pub chain : List Judged → ℕ

@@ -5,7 +5,8 @@ use mathlib.Core.Bool.{Bool, true, false}
 use mathlib.Core.List.{List, [], _∷_}
 use native.Mathlib.Omega.{arith}
 use lib.Dec.{eqb}
-use Rattle.refusal.specs.Order.{Reason, size, number, steps, channels, empty, tooLong, tooWide, execExceedsHorizon, lenMismatch, width, short, notFinite, computed, leftover, numberOf, order, firstOf, given, if_then_else_}
+use Rattle.refusal.specs.Order.{Reason, size, number, steps, channels, empty, tooLong, tooWide, execExceedsHorizon, lenMismatch, width, short, notFinite, computed, leftover, numberOf, order, firstOf, given}
+use Rattle.bits.specs.Choice.{if_then_else_}
 
 -- k is the first of some reasons that applies
 pub data First (applies : Reason → Bool) : List Reason → Reason → Type 0 where

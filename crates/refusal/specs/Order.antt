@@ -1,8 +1,9 @@
 -- The refusals of document 01's table: their numbers, the order in which they are judged, and the answer, the first that applies.
 use Prim.Native.Nat.{ℕ}
-use mathlib.Core.Bool.{Bool, true, false, _||_}
+use mathlib.Core.Bool.{Bool, false, _||_}
 use mathlib.Core.List.{List, [], _∷_}
 use lib.Dec.{eqb}
+use Rattle.bits.specs.Choice.{if_then_else_}
 use Rattle.refusal.specs.declared.Refusal.{Refusal}
 
 pub data Reason : Type 0 where
@@ -32,11 +33,6 @@ order =
     size ∷ number ∷ steps ∷ channels
     ∷ empty ∷ tooLong ∷ tooWide ∷ execExceedsHorizon ∷ lenMismatch ∷ width
     ∷ short ∷ notFinite ∷ computed ∷ leftover ∷ []
-
-infixr 5 if_then_else_
-abbrev pub if_then_else_ : {A : Type 0} → Bool → A → A → A
-if_then_else_ true x y = x
-if_then_else_ false x y = y
 
 -- the number of the first of some reasons that applies, and 0 where none does
 abbrev pub firstOf : (Reason → Bool) → List Reason → ℕ

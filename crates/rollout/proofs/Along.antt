@@ -8,10 +8,10 @@ use native.Mathlib.Numerals.{add-one}
 use native.Mathlib.Omega.{arith}
 use lib.ListN.{length, set}
 use lib.Ieee.{Float, Format, inf}
-use Rattle.fmath.specs.Each.{all, over}
-use Rattle.fmath.specs.Least.{lesser, least}
-use Rattle.fmath.proofs.Each.{_&&≡_, over-more, all-at, all-from}
-use Rattle.fmath.proofs.Extremes.{least-more}
+use Rattle.checked.specs.Each.{all, over}
+use Rattle.checked.specs.Least.{lesser, least}
+use Rattle.checked.proofs.Each.{_&&≡_, over-more, all-at, all-from}
+use Rattle.checked.proofs.Extremes.{least-more}
 use Rattle.workspace.specs.declared.Workspace.{Workspace}
 use Rattle.workspace.specs.declared.Distance.{Distance}
 use Rattle.workspace.specs.Rule.{Walls, slack}

@@ -12,16 +12,16 @@ use lib.ListN.{length, set, List·getD-eq-default}
 use lib.Seq.{set-out, getD-set-same, getD-set-other}
 use lib.Ieee.{Float, Format, nan, inf, lt, le, fits, sub, mul, isNan}
 use lib.Ieee.Fits.{nan-fits, add-fits}
-use Rattle.refusal.specs.Order.{if_then_else_}
-use Rattle.fmath.specs.Each.{at, all}
-use Rattle.fmath.specs.Finite.{finite, +0}
-use Rattle.fmath.specs.Least.{lesser, least}
-use Rattle.fmath.specs.Checked.{leastOf}
-use Rattle.fmath.proofs.Each.{all-at, all-fails, and-left, and-right, over-at, over-keeps}
-use Rattle.fmath.proofs.Ordered.{Real, finite-real, le-not-above, lt-not-below, lt-irrefl}
-use Rattle.fmath.proofs.Extremes.{least-real, least-bounds, least-attained, lesser-left, lesser-right, lesser-real}
-use Rattle.fmath.proofs.Absorbing.{fine-sub-left, fine-sub-right}
-use Rattle.fmath.proofs.Sign.{difference-below-zero}
+use Rattle.bits.specs.Choice.{if_then_else_}
+use Rattle.checked.specs.Each.{at, all}
+use Rattle.checked.specs.Finite.{finite, +0}
+use Rattle.checked.specs.Least.{lesser, least}
+use Rattle.checked.specs.Checked.{leastOf}
+use Rattle.checked.proofs.Each.{all-at, all-fails, and-left, and-right, over-at, over-keeps}
+use Rattle.checked.proofs.Ordered.{Real, finite-real, le-not-above, lt-not-below, lt-irrefl}
+use Rattle.checked.proofs.Extremes.{least-real, least-bounds, least-attained, lesser-left, lesser-right, lesser-real}
+use Rattle.checked.proofs.Absorbing.{fine-sub-left, fine-sub-right}
+use Rattle.checked.proofs.Sign.{difference-below-zero}
 use Rattle.envelope.specs.declared.ControlSteps.{ControlSteps}
 use Rattle.workspace.specs.Rule.{Walls, between, gap, slack, inward}
 use Rattle.rollout.specs.Plant.{Gains, State, motionAt, axis, substep}

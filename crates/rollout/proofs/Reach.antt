@@ -5,8 +5,8 @@ use mathlib.Core.Logic.{_⊎_, inl, inr}
 use Prim.Native.Nat.{ℕ, zero, suc, _+_, _≤_, _<_}
 use native.Mathlib.Numerals.{add-one}
 use native.Mathlib.Omega.{arith}
-use Rattle.refusal.specs.Order.{if_then_else_}
-use Rattle.fmath.specs.Each.{all}
+use Rattle.bits.specs.Choice.{if_then_else_}
+use Rattle.checked.specs.Each.{all}
 use Rattle.rollout.specs.Forecast.{reach}
 
 module _ (ok : ℕ → Bool) where

@@ -3,8 +3,8 @@ use mathlib.Core.Path.{_≡_}
 use mathlib.Core.Bool.{true}
 use Prim.Native.Nat.{ℕ, _*_, _≤_}
 use borrow.Author.Tests.{leb-true, eqb-true, le-leb, eq-eqb}
-use Rattle.fmath.specs.Each.{every, every-from}
-use Rattle.fmath.proofs.Each.{every-at}
+use Rattle.checked.specs.Each.{every, every-from}
+use Rattle.checked.proofs.Each.{every-at}
 use Rattle.envelope.specs.Steps.{substepsIn}
 use Rattle.rollout.specs.declared.Course.{Course}
 use Rattle.rollout.specs.Of.{leftOf, shaped, roomy}

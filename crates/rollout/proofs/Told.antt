@@ -9,13 +9,14 @@ use borrow.Author.Count.{below-more}
 use lib.ListN.{length, set, length-set}
 use lib.Seq.{getD-set-same, getD-set-other}
 use lib.Ieee.{Float, Format, nan, add, sub, mul}
-use Rattle.fmath.specs.Each.{at, all}
-use Rattle.fmath.specs.Finite.{finite, +0}
-use Rattle.fmath.specs.Checked.{leastOf}
+use Rattle.checked.specs.Each.{at, all}
+use Rattle.checked.specs.Finite.{finite, +0}
+use Rattle.checked.specs.Checked.{leastOf}
 use Rattle.fmath.specs.Norm.{dist}
-use Rattle.fmath.proofs.Each.{_&&≡_, and-left, all-at, all-from}
-use Rattle.fmath.proofs.Absorbing.{fine-add-left, fine-add-right, fine-sub-left, fine-sub-right, fine-mul-left, fine-mul-right}
-use Rattle.fmath.proofs.Told.{Tells, implied, dist-tells}
+use Rattle.checked.proofs.Each.{_&&≡_, and-left, all-at, all-from}
+use Rattle.checked.proofs.Absorbing.{fine-add-left, fine-add-right, fine-sub-left, fine-sub-right, fine-mul-left, fine-mul-right}
+use Rattle.checked.proofs.Told.{Tells, implied}
+use Rattle.fmath.proofs.Lengths.{dist-tells}
 use Rattle.workspace.specs.Rule.{Walls, between, gap, slack}
 use Rattle.workspace.proofs.Gaps.{between-tells}
 use Rattle.rollout.specs.Plant.{Gains, Motion, State, axis, motionAt, substep}

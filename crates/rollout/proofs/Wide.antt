@@ -10,9 +10,9 @@ use native.Mathlib.Omega.{arith}
 use lib.ListN.{length, set}
 use lib.Seq.{ext-getD}
 use lib.Ieee.{Float, Format, nan}
-use Rattle.fmath.specs.Each.{at, over}
-use Rattle.fmath.specs.Least.{lesser}
-use Rattle.fmath.proofs.Each.{length-over, over-at, over-keeps}
+use Rattle.checked.specs.Each.{at, over}
+use Rattle.checked.specs.Least.{lesser}
+use Rattle.checked.proofs.Each.{length-over, over-at, over-keeps}
 use Rattle.workspace.specs.declared.Workspace.{Workspace}
 use Rattle.workspace.specs.declared.Distance.{Distance}
 use Rattle.workspace.specs.Rule.{slack}

@@ -3,11 +3,11 @@ use Prim.Native.Nat.{ℕ, zero, suc}
 use mathlib.Core.Bool.{Bool}
 use mathlib.Core.List.{List}
 use lib.Ieee.{Float, le}
-use Rattle.refusal.specs.Order.{if_then_else_}
-use Rattle.fmath.specs.Each.{all, over}
-use Rattle.fmath.specs.Finite.{+0}
-use Rattle.fmath.specs.Least.{least}
-use Rattle.fmath.specs.Checked.{Checked}
+use Rattle.bits.specs.Choice.{if_then_else_}
+use Rattle.checked.specs.Each.{all, over}
+use Rattle.checked.specs.Finite.{+0}
+use Rattle.checked.specs.Least.{least}
+use Rattle.checked.specs.Checked.{Checked}
 
 pub record Forecast : Type 0 where
   -- how many entries there are if every computed number is finite

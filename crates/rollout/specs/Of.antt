@@ -5,9 +5,9 @@ use mathlib.Core.List.{List, [], _∷_}
 use Prim.Native.Nat.{ℕ, _+_, _*_, _<_}
 use lib.Dec.{leb, eqb}
 use lib.Ieee.{Float, Format, inf}
-use Rattle.fmath.specs.Each.{at, all, over, every}
-use Rattle.fmath.specs.Least.{least}
-use Rattle.fmath.specs.Checked.{Checked}
+use Rattle.checked.specs.Each.{at, all, over, every}
+use Rattle.checked.specs.Least.{least}
+use Rattle.checked.specs.Checked.{Checked}
 use Rattle.envelope.specs.declared.ControlSteps.{ControlSteps}
 use Rattle.envelope.specs.Steps.{substepsIn}
 use Rattle.workspace.specs.declared.Workspace.{Workspace}

@@ -3,8 +3,8 @@ use Prim.Native.Nat.{ℕ, zero, suc}
 use mathlib.Core.List.{List}
 use lib.ListN.{set}
 use lib.Ieee.{Float, Format}
-use Rattle.fmath.specs.Each.{at}
-use Rattle.fmath.specs.Checked.{Checked, _>>=_, pure, plus, minus, times}
+use Rattle.checked.specs.Each.{at}
+use Rattle.checked.specs.Checked.{Checked, _>>=_, pure, plus, minus, times}
 
 pub record Gains : Type 0 where
   pub kp : Float

@@ -3,9 +3,9 @@ use Prim.Native.Nat.{ℕ, zero, suc, _+_, _-_, _/_}
 use mathlib.Core.List.{List}
 use lib.Dec.{ltb}
 use lib.Ieee.{Float, Format}
-use Rattle.refusal.specs.Order.{if_then_else_}
-use Rattle.fmath.specs.Finite.{+0}
-use Rattle.fmath.specs.Checked.{Checked, _>>=_, plus}
+use Rattle.bits.specs.Choice.{if_then_else_}
+use Rattle.checked.specs.Finite.{+0}
+use Rattle.checked.specs.Checked.{Checked, _>>=_, plus}
 use Rattle.fmath.specs.Norm.{dist}
 use Rattle.chunk.specs.Rule.{rowOf}
 use Rattle.envelope.specs.declared.ControlSteps.{ControlSteps}

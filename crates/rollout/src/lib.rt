@@ -5,7 +5,7 @@ ghost use mathlib.Core.List.{List};
 ghost use Prim.Native.Nat.{ℕ, _+_, _≤_, _<_};
 ghost use lib.ListN.{length};
 ghost use lib.Ieee.{Float, binary64};
-ghost use Rattle.refusal.specs.Order.{if_then_else_};
+ghost use Rattle.bits.specs.Choice.{if_then_else_};
 ghost use Rattle.envelope.specs.Steps.{substepsOf};
 ghost use Rattle.rollout.specs.Plant.{axis, substep};
 ghost use Rattle.rollout.specs.Forecast.{writtenOf};

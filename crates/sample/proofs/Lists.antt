@@ -6,8 +6,8 @@ use native.Mathlib.Omega.{arith}
 use lib.ListN.{length, take, replicate, length-replicate}
 use lib.Seq.{length-take-le}
 use lib.Ieee.{Float}
-use Rattle.fmath.specs.Finite.{+0}
-use Rattle.fmath.proofs.Each.{length-over}
+use Rattle.checked.specs.Finite.{+0}
+use Rattle.checked.proofs.Each.{length-over}
 use Rattle.sample.specs.Record.{count, num, numbers, list, rowsAt}
 use Rattle.sample.specs.Checks.{actionAt}
 

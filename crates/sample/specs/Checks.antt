@@ -5,8 +5,8 @@ use Prim.Native.Nat.{ℕ, min}
 use lib.Dec.{eqb}
 use lib.ListN.{take, replicate}
 use lib.Ieee.{Float, eq}
-use Rattle.fmath.specs.Each.{every}
-use Rattle.fmath.specs.Finite.{+0}
+use Rattle.checked.specs.Each.{every}
+use Rattle.checked.specs.Finite.{+0}
 use Rattle.layout.specs.Places.{in16}
 use Rattle.tier0.specs.declared.Check.{Check}
 use Rattle.tier0.specs.declared.Check.the-variants.{Passed, Refused}

@@ -5,9 +5,10 @@ use Prim.Native.Nat.{ℕ, _+_, _-_}
 use lib.Dec.{ltb, eqb}
 use lib.ListN.{replicate}
 use lib.Ieee.{Float, binary64}
-use Rattle.refusal.specs.Order.{refusal, if_then_else_}
-use Rattle.fmath.specs.Each.{over}
-use Rattle.fmath.specs.Finite.{+0}
+use Rattle.refusal.specs.Order.{refusal}
+use Rattle.bits.specs.Choice.{if_then_else_}
+use Rattle.checked.specs.Each.{over}
+use Rattle.checked.specs.Finite.{+0}
 use Rattle.envelope.specs.declared.FuseConfig.{FuseConfig}
 use Rattle.envelope.specs.Refusals.{configJudged}
 use Rattle.envelope.specs.Derive.{derived}

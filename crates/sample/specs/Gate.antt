@@ -6,8 +6,8 @@ use lib.Dec.{eqb}
 use lib.ListN.{replicate}
 use lib.Ieee.{Float, binary64, eq}
 use mir.Val.{boolByte}
-use Rattle.fmath.specs.Each.{every, over}
-use Rattle.fmath.specs.Finite.{+0}
+use Rattle.checked.specs.Each.{every, over}
+use Rattle.checked.specs.Finite.{+0}
 use Rattle.conformal.specs.declared.Calibration.{Calibration}
 use Rattle.conformal.specs.declared.GateSpec.{GateSpec}
 use Rattle.conformal.specs.declared.Scored.{Scored}

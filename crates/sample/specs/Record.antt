@@ -4,8 +4,8 @@ use mathlib.Core.List.{List}
 use Prim.Native.Nat.{ℕ, suc, _+_, _*_, min}
 use lib.ListN.{length, take, replicate}
 use lib.Ieee.{Float, binary64, ofBits, eq}
-use Rattle.fmath.specs.Each.{at, all, over}
-use Rattle.fmath.specs.Finite.{+0}
+use Rattle.checked.specs.Each.{at, all, over}
+use Rattle.checked.specs.Finite.{+0}
 use Rattle.words.specs.Little.{little}
 
 -- word i of a record's bytes

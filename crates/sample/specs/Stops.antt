@@ -6,8 +6,8 @@ use lib.Dec.{eqb}
 use lib.ListN.{replicate}
 use lib.Ieee.{Float, eq}
 use mir.Val.{boolByte}
-use Rattle.fmath.specs.Each.{every}
-use Rattle.fmath.specs.Finite.{+0}
+use Rattle.checked.specs.Each.{every}
+use Rattle.checked.specs.Finite.{+0}
 use Rattle.layout.specs.Places.{in16}
 use Rattle.brake.specs.declared.BrakeOut.{BrakeOut}
 use Rattle.brake.specs.declared.BrakeOut.the-variants as forecast

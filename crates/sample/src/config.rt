@@ -2,7 +2,7 @@
 ghost use mathlib.Core.Path.{_≡_};
 ghost use Prim.Native.Nat.{_<_};
 ghost use lib.ListN.{replicate};
-ghost use Rattle.fmath.specs.Finite.{+0};
+ghost use Rattle.checked.specs.Finite.{+0};
 ghost use Rattle.sample.specs.Config.{placeOf, numbersAt, countsAt, configAt, deriveAgrees};
 use crate::record::count;
 use crate::record::num;

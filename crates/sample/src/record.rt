@@ -5,7 +5,7 @@ ghost use mathlib.Core.Path.{_≡_};
 ghost use Prim.Native.Nat.{ℕ, _+_, _*_, _≤_, _<_, min};
 ghost use lib.ListN.{length};
 ghost use lib.Ieee.{eq};
-ghost use Rattle.fmath.specs.Each.{over};
+ghost use Rattle.checked.specs.Each.{over};
 ghost use Rattle.layout.specs.Places.{in16, in32};
 ghost use Rattle.sample.specs.Record.{count, num, numbers, sameFrom};
 use layout::places::to_u16;

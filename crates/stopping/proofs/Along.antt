@@ -6,9 +6,9 @@ use Prim.Native.Nat.{ℕ, suc, _+_, _≤_}
 use native.Mathlib.Numerals.{add-one}
 use lib.ListN.{length, set}
 use lib.Ieee.{Float, Format, inf}
-use Rattle.fmath.specs.Least.{lesser}
-use Rattle.fmath.proofs.Each.{and-left}
-use Rattle.fmath.proofs.Told.{implied}
+use Rattle.checked.specs.Least.{lesser}
+use Rattle.checked.proofs.Each.{and-left}
+use Rattle.checked.proofs.Told.{implied}
 use Rattle.workspace.specs.declared.Distance.{Distance}
 use Rattle.workspace.specs.Rule.{slackWithin}
 use Rattle.workspace.specs.Of.{distanceFrom}

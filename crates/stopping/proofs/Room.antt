@@ -3,7 +3,7 @@ use mathlib.Core.Path.{_≡_}
 use mathlib.Core.Bool.{true}
 use Prim.Native.Nat.{ℕ, _<_}
 use borrow.Author.Tests.{ltb-true}
-use Rattle.fmath.proofs.Each.{every-at}
+use Rattle.checked.proofs.Each.{every-at}
 use Rattle.rollout.specs.declared.Course.{Course}
 use Rattle.rollout.specs.Of.{leftOf, shaped}
 use Rattle.stopping.specs.Of.{roomy}

@@ -7,14 +7,15 @@ use native.Mathlib.Omega.{arith}
 use borrow.Author.Count.{below-more}
 use lib.ListN.{length, set}
 use lib.Ieee.{Float, Format, add, sub, mul, div}
-use Rattle.fmath.specs.Constants.{2! }
-use Rattle.fmath.specs.Finite.{finite}
-use Rattle.fmath.specs.Each.{at, all, over}
-use Rattle.fmath.specs.Checked.{Checked, each, sumFrom}
+use Rattle.checked.specs.Constants.{2! }
+use Rattle.checked.specs.Finite.{finite}
+use Rattle.checked.specs.Each.{at, all, over}
+use Rattle.checked.specs.Checked.{Checked, each, sumFrom}
 use Rattle.fmath.specs.Norm.{squareAt, norm, dist}
-use Rattle.fmath.proofs.Absorbing.{Fine, fine-add-left, fine-add-right, fine-mul-left, fine-mul-right, fine-div-left}
-use Rattle.fmath.proofs.Each.{_&&≡_, and-left, and-right, all-from, over-at}
-use Rattle.fmath.proofs.Told.{Tells, implied, norm-tells, dist-tells}
+use Rattle.checked.proofs.Absorbing.{Fine, fine-add-left, fine-add-right, fine-mul-left, fine-mul-right, fine-div-left}
+use Rattle.checked.proofs.Each.{_&&≡_, and-left, and-right, all-from, over-at}
+use Rattle.checked.proofs.Told.{Tells, implied}
+use Rattle.fmath.proofs.Lengths.{norm-tells, dist-tells}
 use Rattle.envelope.specs.declared.ActionKind.{ActionKind}
 use Rattle.envelope.specs.declared.ActionKind.the-variants.{EePosition, EeDelta, JointPosition, JointVelocity, Other}
 use Rattle.envelope.specs.declared.BrakeKind.{BrakeKind}

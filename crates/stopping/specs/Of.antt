@@ -5,7 +5,7 @@ use mathlib.Core.Bool.{Bool, false, _&&_}
 use mathlib.Core.List.{List, [], _∷_}
 use lib.Dec.{ltb}
 use lib.Ieee.{Float, Format, add}
-use Rattle.fmath.specs.Each.{every}
+use Rattle.checked.specs.Each.{every}
 use Rattle.workspace.specs.declared.Workspace.{Workspace}
 use Rattle.workspace.specs.Of.{wallsOf}
 use Rattle.rollout.specs.declared.Course.{Course}
@@ -14,8 +14,8 @@ use Rattle.rollout.specs.declared.Run.{Run}
 use Rattle.rollout.specs.Of.{stateOf, Ran, leftOf, shaped}
 use Rattle.stopping.specs.declared.Arm.{Arm}
 use Rattle.stopping.specs.Rule.{Task, reaction, gain, stand, forecast}
-use Rattle.fmath.specs.Finite.{finite}
-use Rattle.fmath.specs.Checked.{Checked}
+use Rattle.checked.specs.Finite.{finite}
+use Rattle.checked.specs.Checked.{Checked}
 use Rattle.rollout.specs.declared.Reckoned.{Reckoned}
 use Rattle.stopping.specs.declared.Stepped.{Stepped}
 

@@ -3,10 +3,10 @@ use Prim.Native.Nat.{ℕ, zero, suc, _+_}
 use mathlib.Core.List.{List}
 use lib.IntN.{pos}
 use lib.Ieee.{Float, Format, ofInt}
-use Rattle.fmath.specs.Constants.{2! }
-use Rattle.fmath.specs.Each.{at}
-use Rattle.fmath.specs.Finite.{+0}
-use Rattle.fmath.specs.Checked.{Checked, _>>=_, pure, plus, minus, times, divided, each}
+use Rattle.checked.specs.Constants.{2! }
+use Rattle.checked.specs.Each.{at}
+use Rattle.checked.specs.Finite.{+0}
+use Rattle.checked.specs.Checked.{Checked, _>>=_, pure, plus, minus, times, divided, each}
 use Rattle.fmath.specs.Norm.{norm, dist}
 use Rattle.chunk.specs.Rule.{rowOf}
 use Rattle.envelope.specs.declared.ActionKind.{ActionKind}

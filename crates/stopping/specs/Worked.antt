@@ -5,11 +5,11 @@ use mathlib.Core.List.{[], _∷_}
 use lib.IntN.{pos, negsuc}
 use lib.Ieee.{fin, binary64, round, ofInt, add, sub, mul, div, lt, le, eq}
 use Rattle.root.specs.Root.{floorRoot, nearRoot, half, rootExponent, scaled, number, rootOf}
-use Rattle.fmath.specs.Constants.{1! }
-use Rattle.fmath.specs.Each.{all, over, table}
-use Rattle.fmath.specs.Finite.{finite, +0}
-use Rattle.fmath.specs.Least.{lesser, least}
-use Rattle.fmath.specs.Checked.{sumFrom, each, leastOf}
+use Rattle.checked.specs.Constants.{1! }
+use Rattle.checked.specs.Each.{all, over, table}
+use Rattle.checked.specs.Finite.{finite, +0}
+use Rattle.checked.specs.Least.{lesser, least}
+use Rattle.checked.specs.Checked.{sumFrom, each, leastOf}
 use Rattle.fmath.specs.Norm.{squareAt, norm, squaredGap, dist}
 use Rattle.chunk.specs.Rule.{rowOf}
 use Rattle.envelope.specs.declared.ActionKind.the-variants.{JointVelocity}

@@ -9,13 +9,14 @@ use borrow.Author.Tests.{ltb-false, eqb-true, eq-eqb, ne-eqb, not-false}
 use lib.Dec.{ltb, eqb}
 use lib.ListN.{length, replicate}
 use lib.Ieee.{Float, binary64}
-use Rattle.refusal.specs.Order.{Judged, width, short, notFinite, computed, _when_, refusal, refusedFor, if_then_else_}
+use Rattle.refusal.specs.Order.{Judged, width, short, notFinite, computed, _when_, refusal, refusedFor}
+use Rattle.bits.specs.Choice.{if_then_else_}
 use Rattle.refusal.specs.Chain.{first-refuses, first-passes, both-pass, passes-at}
 use Rattle.refusal.specs.declared.Refusal.{Refusal}
 use Rattle.fmath.specs.Answer.{someLentNotFinite}
-use Rattle.fmath.specs.Each.{at, over}
-use Rattle.fmath.specs.Finite.{+0}
-use Rattle.fmath.proofs.Copy.{all-put}
+use Rattle.checked.specs.Each.{at, over}
+use Rattle.checked.specs.Finite.{+0}
+use Rattle.checked.proofs.Copy.{all-put}
 use Rattle.chunk.specs.Refusals.{chunkReasons}
 use Rattle.chunk.proofs.Judged.{Accepted, sizes-accepted, accepted-fits}
 use Rattle.envelope.specs.Refusals.{configJudged}

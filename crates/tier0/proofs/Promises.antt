@@ -10,17 +10,17 @@ use lib.Dec.{eqb}
 use lib.ListN.{drop, getD}
 use lib.Seq.{getD-drop}
 use lib.Ieee.{Float, Format, nan, inf, fin, lt, le, ne, eq, up, down}
-use Rattle.refusal.specs.Order.{if_then_else_}
-use Rattle.fmath.specs.Each.{at, over}
-use Rattle.fmath.specs.Finite.{finite}
-use Rattle.fmath.specs.Row.{padded}
-use Rattle.fmath.specs.Checked.{Checked, pure}
+use Rattle.bits.specs.Choice.{if_then_else_}
+use Rattle.checked.specs.Each.{at, over}
+use Rattle.checked.specs.Finite.{finite}
+use Rattle.checked.specs.Row.{padded}
+use Rattle.checked.specs.Checked.{Checked, pure}
 use Rattle.fmath.specs.Norm.{dist}
-use Rattle.fmath.proofs.Copy.{padded-at}
-use Rattle.fmath.proofs.Ordered.{lt-irrefl}
+use Rattle.checked.proofs.Copy.{padded-at}
+use Rattle.checked.proofs.Ordered.{lt-irrefl}
 use Rattle.workspace.specs.Rule.{Walls, beyond}
-use Rattle.conformal.specs.Bits.{bit, bitsWhere}
-use Rattle.conformal.proofs.Bits.{bit-where}
+use Rattle.bits.specs.Bits.{bit, bitsWhere}
+use Rattle.bits.proofs.Bits.{bit-where}
 use Rattle.envelope.specs.declared.ClampMode.{ClampMode}
 use Rattle.envelope.specs.declared.ClampMode.the-variants.{Off, Project}
 use Rattle.envelope.specs.declared.Contact.{Contact}

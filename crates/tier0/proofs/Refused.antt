@@ -9,13 +9,14 @@ use borrow.Author.Tests.{ltb-true, ltb-false}
 use lib.Dec.{leb, ltb}
 use lib.ListN.{length}
 use lib.Ieee.{Float, binary64}
-use Rattle.refusal.specs.Order.{Judged, short, notFinite, computed, _when_, refusal, refusedFor, if_then_else_}
+use Rattle.refusal.specs.Order.{Judged, short, notFinite, computed, _when_, refusal, refusedFor}
+use Rattle.bits.specs.Choice.{if_then_else_}
 use Rattle.refusal.specs.Chain.{first-refuses, first-passes, both-pass, passes-at}
 use Rattle.refusal.specs.declared.Refusal.{Refusal}
 use Rattle.fmath.specs.Answer.{someLentNotFinite}
-use Rattle.fmath.specs.Each.{at, over}
-use Rattle.fmath.proofs.Copy.{all-put}
-use Rattle.fmath.proofs.Each.{and-left, and-right}
+use Rattle.checked.specs.Each.{at, over}
+use Rattle.checked.proofs.Copy.{all-put}
+use Rattle.checked.proofs.Each.{and-left, and-right}
 use Rattle.envelope.specs.Refusals.{configJudged}
 use Rattle.envelope.specs.declared.FuseConfig.{FuseConfig}
 use Rattle.envelope.proofs.Accepted.{accepted, dim-most}

@@ -11,15 +11,16 @@ use lib.Bits.{bitOr}
 use lib.Dec.{eqb}
 use lib.ListN.{length, set, replicate, length-set}
 use lib.Ieee.{Float, Format, binary64, add, sub, mul, lt}
-use Rattle.fmath.specs.Each.{at, all, some, over}
-use Rattle.fmath.specs.Finite.{finite, +0}
-use Rattle.fmath.specs.Checked.{Checked, each}
-use Rattle.fmath.specs.Least.{greater, greatest}
+use Rattle.checked.specs.Each.{at, all, some, over}
+use Rattle.checked.specs.Finite.{finite, +0}
+use Rattle.checked.specs.Checked.{Checked, each}
+use Rattle.checked.specs.Least.{greater, greatest}
 use Rattle.fmath.specs.Norm.{norm, dist}
-use Rattle.fmath.proofs.Absorbing.{fine-add-left, fine-add-right, fine-sub-left, fine-sub-right, fine-mul-left}
-use Rattle.fmath.proofs.Each.{all-more, some-more}
-use Rattle.fmath.proofs.Extremes.{greatest-more}
-use Rattle.fmath.proofs.Told.{Tells, implied, dist-tells, norm-tells}
+use Rattle.checked.proofs.Absorbing.{fine-add-left, fine-add-right, fine-sub-left, fine-sub-right, fine-mul-left}
+use Rattle.checked.proofs.Each.{all-more, some-more}
+use Rattle.checked.proofs.Extremes.{greatest-more}
+use Rattle.checked.proofs.Told.{Tells, implied}
+use Rattle.fmath.proofs.Lengths.{dist-tells, norm-tells}
 use Rattle.chunk.proofs.Rows.{row-fits}
 use Rattle.envelope.specs.declared.ClampMode.{ClampMode}
 use Rattle.envelope.specs.declared.ClampMode.the-variants as M

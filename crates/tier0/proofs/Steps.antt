@@ -4,13 +4,13 @@ use mathlib.Core.Path.{_≡_, refl, sym, ap, _∙_}
 use mathlib.Core.Bool.{Bool, true, false, _&&_, _||_, and-true}
 use mathlib.Core.List.{List, [], _∷_}
 use lib.Ieee.{Float, Format, mul, div, lt, le}
-use Rattle.fmath.specs.Each.{at}
-use Rattle.fmath.specs.Finite.{finite, +0}
-use Rattle.fmath.specs.Row.{padded}
-use Rattle.fmath.specs.Checked.{Checked, pure, each}
+use Rattle.checked.specs.Each.{at}
+use Rattle.checked.specs.Finite.{finite, +0}
+use Rattle.checked.specs.Row.{padded}
+use Rattle.checked.specs.Checked.{Checked, pure, each}
 use Rattle.fmath.specs.Norm.{dist}
-use Rattle.fmath.proofs.Absorbing.{fine-mul-left}
-use Rattle.fmath.proofs.Told.{dist-tells}
+use Rattle.checked.proofs.Absorbing.{fine-mul-left}
+use Rattle.fmath.proofs.Lengths.{dist-tells}
 use Rattle.workspace.specs.Of.{wallsOf}
 use Rattle.workspace.specs.Rule.{outside, inward}
 use Rattle.envelope.specs.declared.ClampMode.{ClampMode}

@@ -6,13 +6,13 @@ use lib.Bits.{bitOr}
 use lib.Dec.{eqb}
 use lib.ListN.{drop, set, replicate}
 use lib.Ieee.{Float, Format, lt}
-use Rattle.refusal.specs.Order.{if_then_else_}
-use Rattle.fmath.specs.Constants.{2!, 3! }
-use Rattle.fmath.specs.Each.{at, all, some, over}
-use Rattle.fmath.specs.Finite.{+0}
-use Rattle.fmath.specs.Row.{padded}
-use Rattle.fmath.specs.Checked.{Checked, _>>=_, pure, plus, minus, times, each}
-use Rattle.fmath.specs.Least.{greatest}
+use Rattle.bits.specs.Choice.{if_then_else_}
+use Rattle.checked.specs.Constants.{2!, 3! }
+use Rattle.checked.specs.Each.{at, all, some, over}
+use Rattle.checked.specs.Finite.{+0}
+use Rattle.checked.specs.Row.{padded}
+use Rattle.checked.specs.Checked.{Checked, _>>=_, pure, plus, minus, times, each}
+use Rattle.checked.specs.Least.{greatest}
 use Rattle.fmath.specs.Norm.{norm, dist}
 use Rattle.envelope.specs.declared.ClampMode.{ClampMode}
 use Rattle.envelope.specs.declared.ClampMode.the-variants.{Off, Project}

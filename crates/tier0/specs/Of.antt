@@ -7,8 +7,8 @@ use lib.ListN.{length, replicate}
 use lib.Ieee.{Float, binary64}
 use Rattle.refusal.specs.Order.{Judged, width, short, notFinite, computed, _when_, refusal}
 use Rattle.fmath.specs.Answer.{someLentNotFinite}
-use Rattle.fmath.specs.Finite.{+0}
-use Rattle.fmath.specs.Checked.{Checked}
+use Rattle.checked.specs.Finite.{+0}
+use Rattle.checked.specs.Checked.{Checked}
 use Rattle.chunk.specs.Refusals.{chunkReasons}
 use Rattle.envelope.specs.Derive.{derived}
 use Rattle.envelope.specs.Refusals.{configJudged}

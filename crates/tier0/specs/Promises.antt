@@ -6,8 +6,8 @@ use mathlib.Core.List.{List}
 use lib.Dec.{eqb}
 use lib.ListN.{replicate}
 use lib.Ieee.{Float, binary64, mul, lt}
-use Rattle.fmath.specs.Finite.{+0}
-use Rattle.fmath.specs.Checked.{Checked, each}
+use Rattle.checked.specs.Finite.{+0}
+use Rattle.checked.specs.Checked.{Checked, each}
 use Rattle.fmath.specs.Norm.{norm, dist}
 use Rattle.workspace.specs.Of.{wallsOf}
 use Rattle.workspace.specs.Rule.{beyond}

@@ -5,7 +5,7 @@ use mathlib.Core.List.{List}
 use lib.Dec.{ltb}
 use lib.Ieee.{Float}
 use Rattle.refusal.specs.Order.{refusedFor}
-use Rattle.fmath.specs.Each.{at, over}
+use Rattle.checked.specs.Each.{at, over}
 use Rattle.tier0.specs.declared.Check.{Check}
 use Rattle.tier0.specs.declared.Check.the-variants.{Passed, Refused}
 use Rattle.tier0.specs.Rule.{Judgement}

@@ -6,14 +6,14 @@ use lib.Dec.{ltb, leb, eqb}
 use lib.IntN.{negsuc}
 use lib.ListN.{length}
 use lib.Ieee.{Float, Format, binary32, binary64, fin, lt, le, ne}
-use Rattle.refusal.specs.Order.{if_then_else_}
-use Rattle.fmath.specs.Each.{at}
-use Rattle.fmath.specs.Finite.{+0}
-use Rattle.fmath.specs.Row.{padded}
-use Rattle.fmath.specs.Checked.{Checked, _>>=_, pure, plus, minus, times, divided, each}
-use Rattle.fmath.specs.Least.{lesser}
+use Rattle.bits.specs.Choice.{if_then_else_}
+use Rattle.checked.specs.Each.{at}
+use Rattle.checked.specs.Finite.{+0}
+use Rattle.checked.specs.Row.{padded}
+use Rattle.checked.specs.Checked.{Checked, _>>=_, pure, plus, minus, times, divided, each}
+use Rattle.checked.specs.Least.{lesser}
 use Rattle.fmath.specs.Norm.{dist}
-use Rattle.conformal.specs.Bits.{bitsWhere}
+use Rattle.bits.specs.Bits.{bitsWhere}
 use Rattle.workspace.specs.Of.{wallsOf}
 use Rattle.workspace.specs.Rule.{outside, inward}
 use Rattle.envelope.specs.declared.ClampMode.{ClampMode}

@@ -6,13 +6,13 @@ use lib.IntN.{pos, negsuc}
 use lib.ListN.{replicate}
 use lib.Ieee.{Float, binary64, fin, add, sub, mul, div, lt, ne}
 use Rattle.root.specs.Root.{rootOf, number, rootExponent, half, nearRoot, floorRoot, scaled}
-use Rattle.fmath.specs.Constants.{1! }
-use Rattle.fmath.specs.Each.{over}
-use Rattle.fmath.specs.Finite.{finite, +0}
-use Rattle.fmath.specs.Row.{padded}
-use Rattle.fmath.specs.Checked.{Checked, sumFrom, each}
+use Rattle.checked.specs.Constants.{1! }
+use Rattle.checked.specs.Each.{over}
+use Rattle.checked.specs.Finite.{finite, +0}
+use Rattle.checked.specs.Row.{padded}
+use Rattle.checked.specs.Checked.{Checked, sumFrom, each}
 use Rattle.fmath.specs.Norm.{squaredGap, dist}
-use Rattle.conformal.specs.Bits.{bitsWhere}
+use Rattle.bits.specs.Bits.{bitsWhere}
 use Rattle.envelope.specs.declared.ClampMode.the-variants.{Project}
 use Rattle.envelope.specs.declared.Contact.the-variants.{None}
 use Rattle.tier0.specs.declared.Checks.{Checks}

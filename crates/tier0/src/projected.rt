@@ -3,7 +3,7 @@ ghost use mathlib.Core.Path.{_≡_};
 ghost use Prim.Native.Nat.{_+_, _*_, _≤_};
 ghost use lib.ListN.{length};
 ghost use lib.Ieee.{binary64};
-ghost use Rattle.fmath.specs.Checked.{each};
+ghost use Rattle.checked.specs.Checked.{each};
 ghost use Rattle.tier0.specs.Rule.{towards, shortened, pulled, leash, boxed, leashed, reached, moves, moved, project, projection};
 ghost use Rattle.tier0.specs.Chunk.{putRow, runRows, projectedRows};
 ghost use Rattle.tier0.specs.Of.{slowOf, rowFrom, clampedFrom, runFrom, ranFrom};
@@ -152,7 +152,7 @@ fn moved(a: &[f64; 8], b: &[f64; 8], n: usize) -> u32
     let mut w = 1u32;
     let mut i = 0usize;
     while i < n {
-        m = m + conformal::weight(a[i] != b[i], w);
+        m = m + bits::weight(a[i] != b[i], w);
         w = w * 2;
         i += 1;
     }

@@ -3,8 +3,8 @@ ghost use mathlib.Core.Path.{_≡_};
 ghost use Prim.Native.Nat.{_+_, _-_, _*_, _≤_, _<_};
 ghost use lib.ListN.{length, replicate};
 ghost use lib.Ieee.{binary64};
-ghost use Rattle.fmath.specs.Checked.{each};
-ghost use Rattle.fmath.specs.Finite.{+0};
+ghost use Rattle.checked.specs.Checked.{each};
+ghost use Rattle.checked.specs.Finite.{+0};
 ghost use Rattle.tier0.specs.Rule.{outOfBox, outOfReach, tripBits};
 ghost use Rattle.tier0.specs.Chunk.{bends, jolts, someOf, largeAt, further, tripOf, tooLarge};
 ghost use Rattle.tier0.specs.declared.Difference.the-variants.{Accel, Jerk};
@@ -61,12 +61,12 @@ pub(crate) fn trip_bits(
 ) -> u32
     ensures { λ r. ⌜ r ≡ tripBits out fast bent jolted far close ⌝ }
 {
-    let a = conformal::weight(out, TripMask::WORKSPACE);
-    let b = conformal::weight(fast, TripMask::SPEED);
-    let c = conformal::weight(bent, TripMask::ACCEL);
-    let d = conformal::weight(jolted, TripMask::JERK);
-    let e = conformal::weight(far, TripMask::REACH);
-    let f = conformal::weight(close, TripMask::CONTACT);
+    let a = bits::weight(out, TripMask::WORKSPACE);
+    let b = bits::weight(fast, TripMask::SPEED);
+    let c = bits::weight(bent, TripMask::ACCEL);
+    let d = bits::weight(jolted, TripMask::JERK);
+    let e = bits::weight(far, TripMask::REACH);
+    let f = bits::weight(close, TripMask::CONTACT);
     a + b + c + d + e + f
 }
 

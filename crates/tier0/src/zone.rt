@@ -3,7 +3,7 @@ ghost use mathlib.Core.Path.{_≡_};
 ghost use Prim.Native.Nat.{_<_};
 ghost use lib.ListN.{length};
 ghost use lib.Ieee.{binary64};
-ghost use Rattle.fmath.specs.Checked.{pure};
+ghost use Rattle.checked.specs.Checked.{pure};
 ghost use Rattle.tier0.specs.Rule.{clear, inZone, zoneIn, slowZone};
 ghost use Rattle.tier0.specs.Of.{zoneFrom};
 use crate::Checks;

@@ -6,14 +6,15 @@ use mathlib.Core.List.{List}
 use lib.IntN.{pos}
 use lib.Ieee.{Float, Format, add, sub, div, neg, ofInt}
 use Rattle.root.specs.Root.{rootOf}
-use Rattle.fmath.specs.Constants.{1!, eps}
-use Rattle.fmath.specs.Finite.{finite, +0}
-use Rattle.fmath.specs.Checked.{Checked, pure, sumFrom}
-use Rattle.fmath.specs.Least.{lesser, greater}
+use Rattle.checked.specs.Constants.{1!, eps}
+use Rattle.checked.specs.Finite.{finite, +0}
+use Rattle.checked.specs.Checked.{Checked, pure, sumFrom}
+use Rattle.checked.specs.Least.{lesser, greater}
 use Rattle.fmath.specs.Norm.{dist}
-use Rattle.fmath.proofs.Absorbing.{fine-sub-right, fine-div-left, fine-root}
-use Rattle.fmath.proofs.Each.{_&&≡_, and-right}
-use Rattle.fmath.proofs.Told.{implied, dist-tells}
+use Rattle.checked.proofs.Absorbing.{fine-sub-right, fine-div-left, fine-root}
+use Rattle.checked.proofs.Each.{_&&≡_, and-right}
+use Rattle.checked.proofs.Told.{implied}
+use Rattle.fmath.proofs.Lengths.{dist-tells}
 use Rattle.window.specs.declared.Trail.{Trail}
 use Rattle.window.proofs.TrailTold.{net-tells, path-tells}
 use Rattle.tier1.specs.declared.Manifest.{Manifest}

@@ -5,8 +5,8 @@ use mathlib.Core.Bool.{Bool, true, false, _&&_}
 use native.Mathlib.Omega.{arith}
 use borrow.Author.Tests.{leb-true, eqb-true}
 use lib.Dec.{eqb, leb}
-use Rattle.refusal.specs.Order.{if_then_else_}
-use Rattle.fmath.proofs.Each.{and-left, and-right}
+use Rattle.bits.specs.Choice.{if_then_else_}
+use Rattle.checked.proofs.Each.{and-left, and-right}
 use Rattle.tier1.specs.declared.Kept.{Kept}
 use Rattle.tier1.specs.Rule.{overlap}
 

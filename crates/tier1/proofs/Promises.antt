@@ -9,13 +9,13 @@ use lib.Dec.{leb, ltb}
 use lib.ListN.{length}
 use lib.Ieee.{Float, binary64}
 use Rattle.refusal.specs.Order.{refusedFor}
-use Rattle.fmath.specs.Each.{at, table}
-use Rattle.fmath.specs.Finite.{+0}
-use Rattle.fmath.proofs.Each.{table-at}
-use Rattle.conformal.specs.Bits.{bit, bitsWhere}
+use Rattle.checked.specs.Each.{at, table}
+use Rattle.checked.specs.Finite.{+0}
+use Rattle.checked.proofs.Each.{table-at}
+use Rattle.bits.specs.Bits.{bit, bitsWhere}
 use Rattle.conformal.specs.Feat.{TCE, ACC, ACM-NEG, NJR, REACH, SPEED-PEAK, PATH-INEFF, EXT0}
 use Rattle.conformal.specs.declared.Scores.{Scores}
-use Rattle.conformal.proofs.Bits.{bit-where, no-bit-past}
+use Rattle.bits.proofs.Bits.{bit-where, no-bit-past}
 use Rattle.envelope.specs.Derive.{kept}
 use Rattle.window.specs.declared.Trail.{Trail}
 use Rattle.envelope.specs.declared.FuseConfig.{FuseConfig}

@@ -8,11 +8,12 @@ use borrow.Author.Tests.{eqb-true, not-false}
 use lib.Dec.{eqb}
 use lib.ListN.{length}
 use lib.Ieee.{Float}
-use Rattle.refusal.specs.Order.{Reason, leftover, width, notFinite, _when_, among, given, refusal, _or_, earlier, if_then_else_}
+use Rattle.refusal.specs.Order.{Reason, leftover, width, notFinite, _when_, among, given, refusal, _or_, earlier}
+use Rattle.bits.specs.Choice.{if_then_else_}
 use Rattle.refusal.proofs.Joint.{given-or, neither-applies}
 use Rattle.fmath.specs.Answer.{someNotFinite}
-use Rattle.fmath.specs.Finite.{allFinite}
-use Rattle.fmath.proofs.Each.{neither}
+use Rattle.checked.specs.Finite.{allFinite}
+use Rattle.checked.proofs.Each.{neither}
 use Rattle.chunk.specs.Refusals.{chunkReasons, lentReasons, heldReasons}
 use Rattle.chunk.specs.Of.{heldRefusalOf}
 use Rattle.chunk.specs.declared.ChunkBuf.{ChunkBuf}

@@ -7,14 +7,14 @@ use native.Mathlib.Numerals.{add-one}
 use native.Mathlib.Omega.{arith}
 use lib.ListN.{length, drop, length-drop}
 use lib.Ieee.{Float, Format}
-use Rattle.fmath.specs.Each.{all}
-use Rattle.fmath.specs.Finite.{finite, +0}
-use Rattle.fmath.specs.Checked.{Checked, sumFrom}
-use Rattle.fmath.specs.Least.{greater, greatest}
+use Rattle.checked.specs.Each.{all}
+use Rattle.checked.specs.Finite.{finite, +0}
+use Rattle.checked.specs.Checked.{Checked, sumFrom}
+use Rattle.checked.specs.Least.{greater, greatest}
 use Rattle.fmath.specs.Norm.{dist}
-use Rattle.fmath.proofs.Each.{all-more}
-use Rattle.fmath.proofs.Extremes.{greatest-more}
-use Rattle.fmath.proofs.Told.{dist-tells}
+use Rattle.checked.proofs.Each.{all-more}
+use Rattle.checked.proofs.Extremes.{greatest-more}
+use Rattle.fmath.proofs.Lengths.{dist-tells}
 use Rattle.tier1.specs.declared.Feature.{Feature}
 use Rattle.tier1.specs.Rule.{row, sumRows, stride, peak}
 use Rattle.tier1.specs.Of.{featureFrom}

@@ -5,13 +5,13 @@ use mathlib.Core.Path.{_≡_, refl, sym, _∙_}
 use mathlib.Core.Bool.{Bool, true, false, _&&_}
 use mathlib.Core.List.{List}
 use lib.Ieee.{Float, Format, nan, inf, fin, neg}
-use Rattle.fmath.specs.Constants.{3! }
-use Rattle.fmath.specs.Each.{at}
-use Rattle.fmath.specs.Finite.{finite, +0}
-use Rattle.fmath.specs.Checked.{Checked, pure, sumFrom}
-use Rattle.fmath.proofs.Absorbing.{Fine, fine-add-left, fine-add-right, fine-sub-left, fine-sub-right, fine-mul-left, fine-mul-right, fine-div-left, fine-root}
-use Rattle.fmath.proofs.Each.{and-left, and-right}
-use Rattle.fmath.proofs.Told.{Tells, implied, sum-tells}
+use Rattle.checked.specs.Constants.{3! }
+use Rattle.checked.specs.Each.{at}
+use Rattle.checked.specs.Finite.{finite, +0}
+use Rattle.checked.specs.Checked.{Checked, pure, sumFrom}
+use Rattle.checked.proofs.Absorbing.{Fine, fine-add-left, fine-add-right, fine-sub-left, fine-sub-right, fine-mul-left, fine-mul-right, fine-div-left, fine-root}
+use Rattle.checked.proofs.Each.{and-left, and-right}
+use Rattle.checked.proofs.Told.{Tells, implied, sum-tells}
 use Rattle.tier1.specs.declared.Manifest.{Manifest}
 use Rattle.tier1.specs.Rule.{20!, stallPart, row, _⊕_, _⊖_, _⊗_, _⊘_, squared, rooted, sumRows, normal, gap, jolt, gaps, steps, jolts, stepLength, stallReach}
 

@@ -7,7 +7,8 @@ use native.Mathlib.Omega.{arith}
 use borrow.Author.Tests.{eq-eqb}
 use lib.ListN.{length}
 use lib.Ieee.{Float, binary64}
-use Rattle.refusal.specs.Order.{computed, _when_, among, given, refusal, refusedFor, if_then_else_}
+use Rattle.refusal.specs.Order.{computed, _when_, among, given, refusal, refusedFor}
+use Rattle.bits.specs.Choice.{if_then_else_}
 use Rattle.refusal.specs.declared.Refusal.{Refusal}
 use Rattle.refusal.proofs.Joint.{neither-applies, refused-first, only-computed}
 use Rattle.chunk.specs.Refusals.{lentReasons}

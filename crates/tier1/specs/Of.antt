@@ -5,14 +5,15 @@ use mathlib.Core.List.{List, [], _∷_}
 use lib.Dec.{leb}
 use lib.ListN.{length, replicate}
 use lib.Ieee.{Float, Format, binary64}
-use Rattle.refusal.specs.Order.{Reason, computed, _when_, among, given, _or_, refusedFor, if_then_else_}
-use Rattle.fmath.specs.Each.{table}
-use Rattle.fmath.specs.Finite.{+0}
-use Rattle.fmath.specs.Checked.{Checked, _>>=_, pure}
+use Rattle.refusal.specs.Order.{Reason, computed, _when_, among, given, _or_, refusedFor}
+use Rattle.bits.specs.Choice.{if_then_else_}
+use Rattle.checked.specs.Each.{table}
+use Rattle.checked.specs.Finite.{+0}
+use Rattle.checked.specs.Checked.{Checked, _>>=_, pure}
 use Rattle.chunk.specs.Of as chunk
 use Rattle.chunk.specs.declared.ChunkBuf.{ChunkBuf}
 use Rattle.window.specs.Of as window
-use Rattle.conformal.specs.Bits.{bitsWhere}
+use Rattle.bits.specs.Bits.{bitsWhere}
 use Rattle.conformal.specs.declared.Scores.{Scores}
 use Rattle.envelope.specs.Derive.{kept, derived}
 use Rattle.envelope.specs.Refusals.{configJudged}

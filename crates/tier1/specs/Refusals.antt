@@ -4,9 +4,10 @@ use mathlib.Core.Bool.{Bool, false, not, _&&_, _||_}
 use mathlib.Core.List.{List, [], _∷_}
 use lib.Dec.{eqb}
 use lib.Ieee.{Float}
-use Rattle.refusal.specs.Order.{Reason, width, notFinite, _when_, among, _or_, if_then_else_}
+use Rattle.refusal.specs.Order.{Reason, width, notFinite, _when_, among, _or_}
+use Rattle.bits.specs.Choice.{if_then_else_}
 use Rattle.fmath.specs.Answer.{someNotFinite}
-use Rattle.fmath.specs.Finite.{allFinite}
+use Rattle.checked.specs.Finite.{allFinite}
 use Rattle.chunk.specs.Refusals.{chunkReasons, heldReasons}
 use Rattle.chunk.specs.declared.ChunkBuf.{ChunkBuf}
 use Rattle.window.specs.Answer.{trailReasons}

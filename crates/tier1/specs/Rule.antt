@@ -6,17 +6,17 @@ use lib.Dec.{ltb, leb, eqb}
 use lib.IntN.{pos, negsuc}
 use lib.ListN.{length, getD, drop}
 use lib.Ieee.{Float, Format, fin, neg, ofInt}
-use Rattle.refusal.specs.Order.{if_then_else_}
-use Rattle.fmath.specs.Constants.{1!, 3!, eps}
-use Rattle.fmath.specs.Each.{at, all, table, over}
-use Rattle.fmath.specs.Finite.{+0}
-use Rattle.fmath.specs.Row.{padded}
-use Rattle.fmath.specs.Checked.{Checked, _>>=_, pure, plus, minus, times, divided, root, sumFrom}
-use Rattle.fmath.specs.Least.{lesser, greater, greatest}
+use Rattle.bits.specs.Choice.{if_then_else_}
+use Rattle.checked.specs.Constants.{1!, 3!, eps}
+use Rattle.checked.specs.Each.{at, all, table, over}
+use Rattle.checked.specs.Finite.{+0}
+use Rattle.checked.specs.Row.{padded}
+use Rattle.checked.specs.Checked.{Checked, _>>=_, pure, plus, minus, times, divided, root, sumFrom}
+use Rattle.checked.specs.Least.{lesser, greater, greatest}
 use Rattle.fmath.specs.Norm.{dist}
 use Rattle.window.specs.Rule.{net, path}
 use Rattle.window.specs.declared.Trail.{Trail}
-use Rattle.conformal.specs.Bits.{bit, bitsWhere}
+use Rattle.bits.specs.Bits.{bit, bitsWhere}
 use Rattle.conformal.specs.Feat.{PATH-INEFF, EXT0, COUNT}
 use Rattle.envelope.specs.Derive.{kept}
 use Rattle.tier1.specs.declared.Manifest.{Manifest}

@@ -6,15 +6,15 @@ use mathlib.Core.List.{List, [], _∷_}
 use lib.IntN.{pos, negsuc}
 use lib.Ieee.{Float, binary64, fin, neg, add, sub, mul, div, lt, ofInt, ofBits, ofFields, odd}
 use Rattle.root.specs.Root.{rootOf, number, rootExponent, half, nearRoot, floorRoot, scaled}
-use Rattle.fmath.specs.Constants.{1!, 2!, 3! }
-use Rattle.fmath.specs.Each.{all, over, table}
-use Rattle.fmath.specs.Finite.{finite, +0}
-use Rattle.fmath.specs.Row.{padded}
-use Rattle.fmath.specs.Checked.{sumFrom}
-use Rattle.fmath.specs.Least.{lesser, greater, greatest}
+use Rattle.checked.specs.Constants.{1!, 2!, 3! }
+use Rattle.checked.specs.Each.{all, over, table}
+use Rattle.checked.specs.Finite.{finite, +0}
+use Rattle.checked.specs.Row.{padded}
+use Rattle.checked.specs.Checked.{sumFrom}
+use Rattle.checked.specs.Least.{lesser, greater, greatest}
 use Rattle.fmath.specs.Norm.{squaredGap, dist}
 use Rattle.window.specs.Rule.{net, path, step}
-use Rattle.conformal.specs.Bits.{bit, bitsWhere}
+use Rattle.bits.specs.Bits.{bit, bitsWhere}
 use Rattle.tier1.specs.declared.Manifest.{Manifest}
 use Rattle.tier1.specs.Rule.{20!, stallPart, sumRows, normal, gap, jolt, tce, acc, stepLength, acmNeg, njr, reach, startRow, stride, peak, speedPeak, netLength, pathLength, pathIneff, stallReach, stall, overlap, boundary, boundaryBits, moving, validAt, valueAt, twelve}
 

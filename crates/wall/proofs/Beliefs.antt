@@ -11,7 +11,7 @@ use lib.Ieee.{Float, binary64}
 use Rattle.refusal.specs.Order.{Judged, computed, _when_, refusal, refusedFor}
 use Rattle.refusal.specs.Chain.{chain, first-refuses}
 use Rattle.fmath.specs.Answer.{someNotFinite}
-use Rattle.fmath.specs.Finite.{+0}
+use Rattle.checked.specs.Finite.{+0}
 use Rattle.chunk.specs.Refusals.{chunkReasons}
 use Rattle.envelope.specs.Refusals.{configJudged}
 use Rattle.envelope.specs.declared.Contact.the-variants.{None}

@@ -9,9 +9,10 @@ use native.Mathlib.Nat.{min-eq-left, min-eq-right, mul-le-mul-left}
 use borrow.Author.Tests.{ltb-true, ltb-false, leb-true, leb-false, eqb-true, eqb-false, lt-ltb, le-ltb, le-leb, lt-leb, eq-eqb, ne-eqb}
 use lib.Dec.{leb, ltb, eqb, eqb·suc-zero}
 use lib.Ieee.{Float}
-use Rattle.refusal.specs.Order.{refusal, if_then_else_}
-use Rattle.fmath.specs.Each.{at, all, every, every-from}
-use Rattle.fmath.proofs.Each.{and-left, and-right}
+use Rattle.refusal.specs.Order.{refusal}
+use Rattle.bits.specs.Choice.{if_then_else_}
+use Rattle.checked.specs.Each.{at, all, every, every-from}
+use Rattle.checked.proofs.Each.{and-left, and-right}
 use Rattle.chunk.specs.Refusals.{heldReasons}
 use Rattle.chunk.specs.Of.{clearedOf}
 use Rattle.window.specs.Rule.{bit}

@@ -9,9 +9,10 @@ use borrow.Author.Tests.{eqb-true, ne-eqb}
 use lib.Dec.{eqb, ltb}
 use lib.Ieee.{Float, Format}
 use lib.ListN.{length}
-use Rattle.refusal.specs.Order.{Reason, Judged, size, number, steps, short, notFinite, computed, _when_, numberOf, order, among, given, refusal, refusedFor, if_then_else_, _or_}
+use Rattle.refusal.specs.Order.{Reason, Judged, size, number, steps, short, notFinite, computed, _when_, numberOf, order, among, given, refusal, refusedFor, _or_}
+use Rattle.bits.specs.Choice.{if_then_else_}
 use Rattle.refusal.specs.Exactly.{First, here, later, exactly-first, exactly-none}
-use Rattle.fmath.specs.Checked.{root}
+use Rattle.checked.specs.Checked.{root}
 use Rattle.fmath.specs.Norm.{norm, dist}
 use Rattle.fmath.specs.Answer.{someNotFinite, numberOr, sqrtAnswer, normAnswer, distAnswer}
 use Rattle.chunk.specs.Refusals.{chunkReasons, lentReasons, heldReasons}

@@ -3,15 +3,15 @@ use mathlib.Core.Path.{_≡_, refl}
 use mathlib.Core.List.{map}
 use Rattle.root.specs.Root as root
 use Rattle.fmath.specs.Answer as numbers
-use Rattle.fmath.specs.Checked as checked
-use Rattle.fmath.specs.Row.{padded}
-use Rattle.fmath.specs.Each as each
-use Rattle.fmath.specs.Finite as finite
-use Rattle.fmath.specs.Least as least
+use Rattle.checked.specs.Checked as checked
+use Rattle.checked.specs.Row.{padded}
+use Rattle.checked.specs.Each as each
+use Rattle.checked.specs.Finite as finite
+use Rattle.checked.specs.Least as least
 use Rattle.fmath.specs.Norm as norm
 use Rattle.chunk.specs.Rule as chunk
 use Rattle.conformal.specs.Answer as answer
-use Rattle.conformal.specs.Bits as bits
+use Rattle.bits.specs.Bits as bits
 use Rattle.conformal.specs.Refusals as scores
 use Rattle.conformal.specs.Rule as gate
 use Rattle.envelope.specs.Derive as derive

@@ -5,7 +5,7 @@ use mathlib.Core.Bool.{Bool, true, false}
 use mathlib.Core.List.{List}
 use lib.Ieee.{Float, lt}
 use Rattle.refusal.specs.Order.{refusal, refusedFor}
-use Rattle.fmath.specs.Finite.{+0}
+use Rattle.checked.specs.Finite.{+0}
 use Rattle.envelope.specs.Refusals.{numbersOk, sizesFit, stepsFit, configJudged}
 use Rattle.envelope.specs.declared.Contact.the-variants.{None, Zone}
 use Rattle.envelope.specs.declared.FuseConfig.{FuseConfig}

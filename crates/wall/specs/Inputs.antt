@@ -4,10 +4,10 @@ use mathlib.Core.Bool.{Bool, false}
 use mathlib.Core.List.{List, [], _∷_, _++_, map}
 use lib.ListN.{replicate}
 use lib.Ieee.{Float, binary64, toBits}
-use Rattle.refusal.specs.Order.{if_then_else_}
+use Rattle.bits.specs.Choice.{if_then_else_}
 use Rattle.refusal.specs.declared.Refusal.{Refusal}
-use Rattle.fmath.specs.Constants.{1! as one}
-use Rattle.fmath.specs.Finite.{+0}
+use Rattle.checked.specs.Constants.{1! as one}
+use Rattle.checked.specs.Finite.{+0}
 use Rattle.fmath.specs.Answer.{sqrtAnswer}
 use Rattle.fmath.specs.declared.Number.{Number}
 use Rattle.fmath.specs.declared.Number.the-variants as number

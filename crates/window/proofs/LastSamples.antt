@@ -10,8 +10,8 @@ use lib.Dec.{ltb, lit<}
 use lib.Ieee.{Float, nan}
 use lib.ListN.{length, take, drop, getD, length-replicate, List·getD-append}
 use lib.Seq.{paste, take-paste, drop-paste, length-paste, length-take-le, length-paste-head, getD-take, getD-drop, getD-append-add}
-use Rattle.fmath.specs.Each.{at}
-use Rattle.fmath.specs.Finite.{+0}
+use Rattle.checked.specs.Each.{at}
+use Rattle.checked.specs.Finite.{+0}
 use Rattle.window.specs.Rule.{slotBack, sampleBack}
 use Rattle.window.specs.Promises.{Push, coordinates, trailAfter, CountIsPushes, SampleIsPush}
 

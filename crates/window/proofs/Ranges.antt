@@ -5,7 +5,7 @@ use mathlib.Core.Bool.{false, _||_}
 use native.Mathlib.Omega.{arith}
 use borrow.Author.Tests.{ltb-false, eqb-false}
 use lib.Dec.{eqb, ltb}
-use Rattle.fmath.proofs.Each.{neither}
+use Rattle.checked.proofs.Each.{neither}
 
 pub net-range : (w len : ℕ) → eqb w 0 || ltb 32 w || ltb len w ≡ false → (1 ≤ w) × (w ≤ 32)
 net-range w len e =

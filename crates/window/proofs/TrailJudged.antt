@@ -5,11 +5,12 @@ use mathlib.Core.Bool.{Bool, true, false, not, _||_}
 use mathlib.Core.List.{[], _∷_}
 use native.Mathlib.Omega.{arith}
 use lib.Ieee.{Float}
-use Rattle.refusal.specs.Order.{_when_, size, notFinite, computed, refusal, if_then_else_}
+use Rattle.refusal.specs.Order.{_when_, size, notFinite, computed, refusal}
+use Rattle.bits.specs.Choice.{if_then_else_}
 use Rattle.fmath.specs.Answer.{numberOr}
-use Rattle.fmath.specs.Checked.{Checked}
-use Rattle.fmath.specs.Finite.{finite}
-use Rattle.fmath.proofs.Told.{Tells}
+use Rattle.checked.specs.Checked.{Checked}
+use Rattle.checked.specs.Finite.{finite}
+use Rattle.checked.proofs.Told.{Tells}
 use Rattle.window.specs.Answer.{numberAfter}
 
 -- the number of a trail alone: a where it is out of size, b where its numbers are not fit

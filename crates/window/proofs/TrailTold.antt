@@ -5,10 +5,11 @@ use mathlib.Core.Bool.{Bool, true, false, _||_}
 use mathlib.Core.List.{List}
 use lib.Dec.{eqb, ltb}
 use lib.Ieee.{Float, Format}
-use Rattle.refusal.specs.Order.{if_then_else_}
-use Rattle.fmath.specs.Checked.{Checked, pure}
-use Rattle.fmath.specs.Finite.{finite, +0}
-use Rattle.fmath.proofs.Told.{Tells, dist-tells, sum-tells}
+use Rattle.bits.specs.Choice.{if_then_else_}
+use Rattle.checked.specs.Checked.{Checked, pure}
+use Rattle.checked.specs.Finite.{finite, +0}
+use Rattle.checked.proofs.Told.{Tells, sum-tells}
+use Rattle.fmath.proofs.Lengths.{dist-tells}
 use Rattle.window.specs.Rule.{sampleBack, net, step, path}
 
 zero-or-tells : (b : Bool) (x : Checked Float) → Tells x → Tells (if b then pure +0 else x)

@@ -4,11 +4,12 @@ use mathlib.Core.Bool.{Bool, not, _||_}
 use mathlib.Core.List.{List, [], _∷_}
 use lib.Dec.{eqb, ltb}
 use lib.Ieee.{Float, Format}
-use Rattle.refusal.specs.Order.{Judged, numberOf, _when_, size, notFinite, computed, refusal, refusedFor, if_then_else_}
+use Rattle.refusal.specs.Order.{Judged, numberOf, _when_, size, notFinite, computed, refusal, refusedFor}
+use Rattle.bits.specs.Choice.{if_then_else_}
 use Rattle.fmath.specs.declared.Number.{Number}
 use Rattle.fmath.specs.Answer.{numberOr, someNotFinite}
-use Rattle.fmath.specs.Finite.{finite, allFinite}
-use Rattle.fmath.specs.Checked.{Checked}
+use Rattle.checked.specs.Finite.{finite, allFinite}
+use Rattle.checked.specs.Checked.{Checked}
 use Rattle.window.specs.declared.Masked.{Masked}
 use Rattle.window.specs.declared.Masked.the-variants.{Mask, Refused}
 use Rattle.window.specs.declared.Trail.{Trail}

@@ -5,8 +5,9 @@ use mathlib.Core.List.{List}
 use lib.Dec.{eqb}
 use lib.Ieee.{Float}
 use lib.ListN.{replicate}
-use Rattle.refusal.specs.Order.{refusal, if_then_else_}
-use Rattle.fmath.specs.Finite.{+0}
+use Rattle.refusal.specs.Order.{refusal}
+use Rattle.bits.specs.Choice.{if_then_else_}
+use Rattle.checked.specs.Finite.{+0}
 use Rattle.window.specs.declared.Window.{Window}
 use Rattle.window.specs.declared.Trail.{Trail}
 use Rattle.window.specs.declared.Recorded.{Recorded}

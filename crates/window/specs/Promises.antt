@@ -5,7 +5,7 @@ use mathlib.Core.Bool.{Bool, false}
 use mathlib.Core.List.{List, [], _∷_}
 use lib.Ieee.{Float}
 use lib.ListN.{length, take, getD}
-use Rattle.fmath.specs.Each.{at}
+use Rattle.checked.specs.Each.{at}
 use Rattle.window.specs.declared.Trail.{Trail}
 use Rattle.window.specs.Rule.{bit, pushed, maskFor, hitsIn, pushCount, sampleBack}
 use Rattle.window.specs.Of.{newTrail, recordedOf}

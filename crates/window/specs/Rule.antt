@@ -8,10 +8,11 @@ use lib.Dec.{ltb, eqb}
 use lib.Ieee.{Float, Format}
 use lib.ListN.{length, take, drop}
 use lib.Seq.{paste}
-use Rattle.fmath.specs.Finite.{+0}
-use Rattle.fmath.specs.Checked.{Checked, pure, sumFrom}
+use Rattle.checked.specs.Finite.{+0}
+use Rattle.checked.specs.Checked.{Checked, pure, sumFrom}
 use Rattle.fmath.specs.Norm.{dist}
-use Rattle.refusal.specs.Order.{_when_, size, refusal, if_then_else_}
+use Rattle.refusal.specs.Order.{_when_, size, refusal}
+use Rattle.bits.specs.Choice.{if_then_else_}
 
 -- ---- the hit window
 

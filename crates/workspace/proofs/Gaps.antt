@@ -10,14 +10,15 @@ use borrow.Author.Count.{below-more}
 use lib.ListN.{length, set, length-set, List·getD-eq-default}
 use lib.Seq.{getD-set-same, getD-set-other}
 use lib.Ieee.{Float, Format, nan, inf, fin, lt, add, sub}
-use Rattle.fmath.specs.Each.{at, some, all, over}
-use Rattle.fmath.specs.Finite.{finite}
-use Rattle.fmath.specs.Least.{lesser, least, clamped}
-use Rattle.fmath.specs.Checked.{Checked, leastOf}
-use Rattle.fmath.proofs.Each.{_&&≡_, some-cut, over-cut, all-fails, all-more, all-from, and-left, and-right}
-use Rattle.fmath.proofs.Extremes.{least-missing, least-more}
-use Rattle.fmath.proofs.Absorbing.{sub-nan, nan-sub, fine-sub-left, fine-add-left, fine-add-right}
-use Rattle.fmath.proofs.Told.{implied}
+use Rattle.checked.specs.Each.{at, some, all, over}
+use Rattle.checked.specs.Finite.{finite}
+use Rattle.checked.specs.Least.{lesser, least}
+use Rattle.fmath.specs.Clamp.{clamped}
+use Rattle.checked.specs.Checked.{Checked, leastOf}
+use Rattle.checked.proofs.Each.{_&&≡_, some-cut, over-cut, all-fails, all-more, all-from, and-left, and-right}
+use Rattle.checked.proofs.Extremes.{least-missing, least-more}
+use Rattle.checked.proofs.Absorbing.{sub-nan, nan-sub, fine-sub-left, fine-add-left, fine-add-right}
+use Rattle.checked.proofs.Told.{implied}
 use Rattle.workspace.specs.Rule.{Walls, beyond, outside, inward, between, betweenWithin, gap, gapWithin, slack, slackWithin}
 
 -- ---- past the end

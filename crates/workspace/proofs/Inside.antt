@@ -5,11 +5,11 @@ use mathlib.Core.Bool.{true, false}
 use mathlib.Core.List.{List}
 use lib.ListN.{length}
 use lib.Ieee.{Float, lt, le}
-use Rattle.fmath.specs.Each.{at}
-use Rattle.fmath.specs.Least.{clamped}
+use Rattle.checked.specs.Each.{at}
+use Rattle.fmath.specs.Clamp.{clamped}
 use Rattle.fmath.proofs.Clamping.{clamp-between}
-use Rattle.fmath.proofs.Each.{over-at}
-use Rattle.fmath.proofs.Ordered.{Real}
+use Rattle.checked.proofs.Each.{over-at}
+use Rattle.checked.proofs.Ordered.{Real}
 use Rattle.workspace.specs.Rule.{Walls, inward}
 
 pub inward-inside : (w : Walls) (a : List Float) (n j : ℕ) → j < n → j < length a → Real (at a j) → Real (at (w .lo) j) → Real (at (w .hi) j) → lt (at (w .hi) j) (at (w .lo) j) ≡ false

@@ -1,6 +1,6 @@
 -- The rules at the declared structs.
 use lib.Ieee.{Float}
-use Rattle.fmath.specs.Checked.{Checked}
+use Rattle.checked.specs.Checked.{Checked}
 use Rattle.workspace.specs.declared.Workspace.{Workspace}
 use Rattle.workspace.specs.declared.Distance.{Distance}
 use Rattle.workspace.specs.Rule.{Walls}

@@ -3,9 +3,10 @@ use Prim.Native.Nat.{ℕ}
 use mathlib.Core.Bool.{Bool, _||_}
 use mathlib.Core.List.{List}
 use lib.Ieee.{Float, Format, lt}
-use Rattle.fmath.specs.Each.{at, some, over}
-use Rattle.fmath.specs.Least.{lesser, clamped}
-use Rattle.fmath.specs.Checked.{Checked, _>>=_, pure, minus, leastOf}
+use Rattle.checked.specs.Each.{at, some, over}
+use Rattle.checked.specs.Least.{lesser}
+use Rattle.fmath.specs.Clamp.{clamped}
+use Rattle.checked.specs.Checked.{Checked, _>>=_, pure, minus, leastOf}
 
 -- the walls of the box, already moved inward by the margin
 pub record Walls : Type 0 where

@@ -3,9 +3,9 @@ ghost use mathlib.Core.Path.{_≡_};
 ghost use mathlib.Core.Bool.{true};
 ghost use Prim.Native.Nat.{ℕ, _≤_, _<_};
 ghost use lib.Ieee.{binary64, add, sub};
-ghost use Rattle.fmath.specs.Each.{at};
-ghost use Rattle.fmath.specs.Finite.{finite};
-ghost use Rattle.fmath.specs.Least.{least};
+ghost use Rattle.checked.specs.Each.{at};
+ghost use Rattle.checked.specs.Finite.{finite};
+ghost use Rattle.checked.specs.Least.{least};
 ghost use Rattle.workspace.specs.Rule.{outside, inward, between, betweenWithin, gap, slack, slackWithin};
 ghost use Rattle.workspace.specs.Of.{wallsOf, distanceFrom};
 

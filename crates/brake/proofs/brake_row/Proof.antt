@@ -3,7 +3,7 @@ use mathlib.Core.List.{List}
 use mathlib.Core.Path.{sym, ap, _∙_}
 use denote.Ref.{now}
 use lib.Ieee.{Float, binary64}
-use Rattle.fmath.specs.Checked.{pure}
+use Rattle.checked.specs.Checked.{pure}
 use Rattle.workspace.specs.Of.{wallsOf}
 use Rattle.brake.specs.Rule.{brakeRow}
 use Rattle.brake.specs.Of.{rowFrom}

@@ -6,9 +6,9 @@ use borrow.Author.Needs.{needs}
 use denote.Ref.{now}
 use lib.ListN.{replicate}
 use lib.Ieee.{binary64, ofBits}
-use Rattle.fmath.specs.Finite.{+0}
-use Rattle.fmath.specs.Checked.{each}
-use Rattle.fmath.proofs.Told.{each-value, each-sound}
+use Rattle.checked.specs.Finite.{+0}
+use Rattle.checked.specs.Checked.{each}
+use Rattle.checked.proofs.Told.{each-value, each-sound}
 use Rattle.brake.specs.Rule.{scaledAt, slowed}
 use Rattle.brake.proofs.Told.{scaled-tells}
 use Rattle.brake.proofs.slowed.Statement.{statement}

@@ -7,7 +7,7 @@ use borrow.Author.Tests.{leb-true}
 use lib.Dec.{leb}
 use lib.ListN.{length}
 use lib.Seq.{length-take-le}
-use Rattle.fmath.proofs.Each.{and-right}
+use Rattle.checked.proofs.Each.{and-right}
 use Rattle.chunk.specs.Rule.{heldRows}
 use Rattle.chunk.proofs.Rows.{place-small}
 use Rattle.chunk.proofs.held_rows.Statement.{statement}

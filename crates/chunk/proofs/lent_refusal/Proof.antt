@@ -2,7 +2,7 @@
 use mathlib.Core.Path.{sym, _∙_}
 use borrow.Author.Needs.{needs}
 use lib.ListN.{length}
-use Rattle.fmath.specs.Finite.{allFinite}
+use Rattle.checked.specs.Finite.{allFinite}
 use Rattle.chunk.proofs.Judged.{refused-by-sizes, refused-by-numbers, accepted}
 use Rattle.chunk.proofs.lent_refusal.Statement.{statement}
 use Rattle.chunk.proofs.lent_refusal.Tie as tie

@@ -6,7 +6,7 @@ use native.Mathlib.Omega.{arith}
 use borrow.Author.Needs.{needs}
 use lib.ListN.{length, length-set}
 use lib.Seq.{paste, paste-zero}
-use Rattle.fmath.proofs.Copy.{copy-more}
+use Rattle.checked.proofs.Copy.{copy-more}
 use Rattle.chunk.proofs.Rows.{start-small, kept-without-rows, kept-past, written-row}
 use Rattle.chunk.proofs.set_row.Statement.{statement}
 use Rattle.chunk.proofs.set_row.Tie as tie

@@ -1,7 +1,7 @@
 -- `conformal::bit` meets its contract: a shift right is the division of its definition.
 use mathlib.Core.Path.{refl}
 use borrow.Author.Needs.{needs}
-use Rattle.conformal.specs.Bits.{bit}
+use Rattle.bits.specs.Bits.{bit}
 use Rattle.conformal.proofs.bit.Statement.{statement}
 use Rattle.conformal.proofs.bit.Tie as tie
 

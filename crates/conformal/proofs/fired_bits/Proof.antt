@@ -4,9 +4,9 @@ use mathlib.Core.Path.{_≡_, refl, _∙_}
 use mathlib.Core.Bool.{Bool}
 use native.Mathlib.Omega.{arith}
 use borrow.Author.Needs.{needs}
-use Rattle.conformal.specs.Bits.{bitsWhere}
+use Rattle.bits.specs.Bits.{bitsWhere}
 use Rattle.conformal.specs.Rule.{live, fires, firedBits}
-use Rattle.conformal.proofs.Bits.{Turned, turn}
+use Rattle.bits.proofs.Bits.{Turned, turn}
 use Rattle.conformal.proofs.fired_bits.Statement.{statement}
 use Rattle.conformal.proofs.fired_bits.Tie as tie
 

@@ -6,7 +6,7 @@ use native.Mathlib.Omega.{arith}
 use borrow.Author.Needs.{needs}
 use lib.Dec.{ltb}
 use lib.Ieee.{inf, ofBits, div, neg}
-use Rattle.fmath.specs.Least.{greater}
+use Rattle.checked.specs.Least.{greater}
 use Rattle.conformal.specs.Rule.{live, counts, leastOf, termAt, joinWhere, greatestWhere, aggregate}
 use Rattle.conformal.specs.declared.Joined.{Joined}
 use Rattle.conformal.proofs.Turns.{join-more}

@@ -1,7 +1,7 @@
 -- `conformal::numbers_ok` meets its contract: its three tests are the definition's.
 use borrow.Author.Needs.{needs}
-use Rattle.fmath.specs.Each.{every}
-use Rattle.fmath.proofs.Each.{_&&≡_}
+use Rattle.checked.specs.Each.{every}
+use Rattle.checked.proofs.Each.{_&&≡_}
 use Rattle.conformal.specs.Refusals.{numbersOk}
 use Rattle.conformal.proofs.numbers_ok.Statement.{statement}
 use Rattle.conformal.proofs.numbers_ok.Tie as tie

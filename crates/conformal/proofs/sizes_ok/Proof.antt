@@ -6,8 +6,8 @@ use native.Mathlib.Omega.{arith}
 use borrow.Author.Needs.{needs}
 use lib.Dec.{leb, ltb}
 use lib.ListN.{getD}
-use Rattle.fmath.specs.Each.{all, every}
-use Rattle.fmath.proofs.Each.{all-more}
+use Rattle.checked.specs.Each.{all, every}
+use Rattle.checked.proofs.Each.{all-more}
 use Rattle.conformal.specs.Refusals.{sizesOk}
 use Rattle.conformal.proofs.sizes_ok.Statement.{statement}
 use Rattle.conformal.proofs.sizes_ok.Tie as tie

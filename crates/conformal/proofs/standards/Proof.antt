@@ -5,8 +5,8 @@ use native.Mathlib.Omega.{arith}
 use borrow.Author.Needs.{needs}
 use lib.ListN.{length, take, length-set}
 use lib.Ieee.{binary64}
-use Rattle.fmath.specs.Each.{all, at, table}
-use Rattle.fmath.proofs.Each.{all-more, table-more, table-all}
+use Rattle.checked.specs.Each.{all, at, table}
+use Rattle.checked.proofs.Each.{all-more, table-more, table-all}
 use Rattle.conformal.specs.declared.OneZ.{OneZ}
 use Rattle.conformal.specs.Of.{standardFrom}
 use Rattle.conformal.specs.Rule.{live, standardAt, standards}

@@ -5,23 +5,23 @@ use mathlib.Core.Bool.{false, not, _||_}
 use native.Mathlib.Omega.{arith}
 use borrow.Author.Needs.{needs}
 use lib.Ieee.{inf, ofBits, div}
-use Rattle.fmath.specs.Each.{all, at}
-use Rattle.fmath.specs.Least.{lesser}
-use Rattle.fmath.proofs.Each.{all-more, some-more}
-use Rattle.conformal.specs.Bits.{bit}
+use Rattle.checked.specs.Each.{all, at}
+use Rattle.checked.specs.Least.{lesser}
+use Rattle.checked.proofs.Each.{all-more, some-more}
+use Rattle.bits.specs.Bits.{bit}
 use Rattle.conformal.specs.Rule.{live, liveTerm, joinWhere, leastWhere, leastOf}
 use Rattle.conformal.proofs.Turns.{join-more}
 use Rattle.conformal.proofs.term.Statement.{statement}
 use Rattle.conformal.proofs.term.Tie as tie
 
 abbrev Inv-loop : tie.InvT-loop
-Inv-loop bits mask valid z some₀ every₀ least₀ j₀ some every least j = (j ≤ 12) × ((some ≡ Rattle.fmath.specs.Each.some (bit bits) j) × ((every ≡ all (λ (k : ℕ). not (bit bits k) || live mask valid k) j) × (least ≡ leastWhere (bit bits) (at z) j)))
+Inv-loop bits mask valid z some₀ every₀ least₀ j₀ some every least j = (j ≤ 12) × ((some ≡ Rattle.checked.specs.Each.some (bit bits) j) × ((every ≡ all (λ (k : ℕ). not (bit bits k) || live mask valid k) j) × (least ≡ leastWhere (bit bits) (at z) j)))
 
 abbrev μ-loop : tie.MeasureT-loop
 μ-loop bits mask valid z some₀ every₀ least₀ j₀ some every least j = 12 - j
 
 loop-holds : tie.Need-loop-holds Inv-loop μ-loop
-unfolding all Rattle.fmath.specs.Each.some joinWhere ofBits div
+unfolding all Rattle.checked.specs.Each.some joinWhere ofBits div
 loop-holds c = (search needs, (refl, (refl, refl)))
 
 bit-requires : tie.Need-bit-requires Inv-loop μ-loop

@@ -1,6 +1,6 @@
 -- `envelope::counts_ok` meets its contract: its tests are the definition's.
 use borrow.Author.Needs.{needs}
-use Rattle.fmath.specs.Each.{every}
+use Rattle.checked.specs.Each.{every}
 use Rattle.envelope.specs.Refusals.{countsOk}
 use Rattle.envelope.proofs.counts_ok.Statement.{statement}
 use Rattle.envelope.proofs.counts_ok.Tie as tie

@@ -6,8 +6,8 @@ use borrow.Author.Needs.{needs}
 use lib.Dec.{ltb}
 use lib.ListN.{length, take, length-set}
 use lib.Ieee.{binary64, sub}
-use Rattle.fmath.specs.Each.{at, table}
-use Rattle.fmath.proofs.Each.{table-more, table-all}
+use Rattle.checked.specs.Each.{at, table}
+use Rattle.checked.proofs.Each.{table-more, table-all}
 use Rattle.envelope.specs.Derive.{kept, highWalls}
 use Rattle.envelope.proofs.high_walls.Statement.{statement}
 use Rattle.envelope.proofs.high_walls.Tie as tie

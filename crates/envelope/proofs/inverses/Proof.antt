@@ -6,9 +6,9 @@ use borrow.Author.Needs.{needs}
 use lib.Dec.{ltb}
 use lib.ListN.{length, take, length-set}
 use lib.Ieee.{binary64, div, ofBits}
-use Rattle.fmath.specs.Constants.{1! }
-use Rattle.fmath.specs.Each.{at, table}
-use Rattle.fmath.proofs.Each.{table-more, table-all}
+use Rattle.checked.specs.Constants.{1! }
+use Rattle.checked.specs.Each.{at, table}
+use Rattle.checked.proofs.Each.{table-more, table-all}
 use Rattle.envelope.specs.Derive.{kept, inverses}
 use Rattle.envelope.proofs.inverses.Statement.{statement}
 use Rattle.envelope.proofs.inverses.Tie as tie

@@ -5,13 +5,13 @@ use native.Mathlib.Omega.{arith}
 use native.Mathlib.Numerals.{add-one}
 use borrow.Author.Needs.{needs}
 use lib.Ieee.{div, ofBits}
-use Rattle.fmath.specs.Each.{at}
+use Rattle.checked.specs.Each.{at}
 use Rattle.envelope.specs.Derive.{isotropic}
 use Rattle.envelope.proofs.isotropic.Statement.{statement}
 use Rattle.envelope.proofs.isotropic.Tie as tie
 
 abbrev Inv-loop : tie.InvT-loop
-Inv-loop scale n count least₀ i₀ least i = (i ≤ count) × ((count ≤ 8) × (least ≡ Rattle.fmath.specs.Least.least (at scale) i))
+Inv-loop scale n count least₀ i₀ least i = (i ≤ count) × ((count ≤ 8) × (least ≡ Rattle.checked.specs.Least.least (at scale) i))
 
 abbrev μ-loop : tie.MeasureT-loop
 μ-loop scale n count least₀ i₀ least i = count - i
@@ -20,7 +20,7 @@ at-most-8-requires : tie.Need-at-most-8-requires Inv-loop μ-loop
 at-most-8-requires c κs = search needs
 
 loop-holds : tie.Need-loop-holds Inv-loop μ-loop
-unfolding Rattle.fmath.specs.Least.least div ofBits
+unfolding Rattle.checked.specs.Least.least div ofBits
 loop-holds c = (search needs, (search needs, refl))
 
 mul-min : tie.Need-mul-min Inv-loop μ-loop
@@ -39,7 +39,7 @@ loop-less : tie.Need-loop-less Inv-loop μ-loop
 loop-less c = omega arith
 
 loop-again : tie.Need-loop-again Inv-loop μ-loop
-unfolding Rattle.fmath.specs.Least.least
+unfolding Rattle.checked.specs.Least.least
 loop-again c = let l = c .before .before .before .loop in (omega arith, (l .inv .1 .0, rw (add-one, ← (l .inv .1 .1)) (c .min .ensures)))
 
 returns : tie.Need-returns Inv-loop μ-loop

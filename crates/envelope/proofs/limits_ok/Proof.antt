@@ -1,7 +1,7 @@
 -- `envelope::limits_ok` meets its contract: its tests are the definition's.
 use borrow.Author.Needs.{needs}
-use Rattle.fmath.specs.Each.{every}
-use Rattle.fmath.proofs.Each.{_&&≡_}
+use Rattle.checked.specs.Each.{every}
+use Rattle.checked.proofs.Each.{_&&≡_}
 use Rattle.envelope.specs.Refusals.{limitsOk}
 use Rattle.envelope.proofs.limits_ok.Statement.{statement}
 use Rattle.envelope.proofs.limits_ok.Tie as tie

@@ -5,8 +5,8 @@ use mathlib.Core.Bool.{not}
 use native.Mathlib.Omega.{arith}
 use borrow.Author.Needs.{needs}
 use lib.Ieee.{lt}
-use Rattle.fmath.specs.Each.{at, all}
-use Rattle.fmath.proofs.Each.{all-more}
+use Rattle.checked.specs.Each.{at, all}
+use Rattle.checked.proofs.Each.{all-more}
 use Rattle.envelope.specs.Refusals.{ordered}
 use Rattle.envelope.proofs.ordered.Statement.{statement}
 use Rattle.envelope.proofs.ordered.Tie as tie

@@ -1,7 +1,7 @@
 -- `fmath::above_zero` meets its contract: its two tests are the definition's.
 use lib.Ieee.{ofBits}
 use borrow.Author.Needs.{needs}
-use Rattle.fmath.specs.Finite.{aboveZero}
+use Rattle.checked.specs.Finite.{aboveZero}
 use Rattle.fmath.proofs.above_zero.Statement.{statement}
 use Rattle.fmath.proofs.above_zero.Tie as tie
 

@@ -5,9 +5,9 @@ use native.Mathlib.Omega.{arith}
 use borrow.Author.Needs.{needs}
 use denote.Ref.{now}
 use lib.Ieee.{lt, ofBits}
-use Rattle.fmath.specs.Each.{all, at}
-use Rattle.fmath.specs.Finite.{+0, finite, aboveZero, allAboveZero}
-use Rattle.fmath.proofs.Each.{_&&≡_, all-more, all-both, all-missing}
+use Rattle.checked.specs.Each.{all, at}
+use Rattle.checked.specs.Finite.{+0, finite, aboveZero, allAboveZero}
+use Rattle.checked.proofs.Each.{_&&≡_, all-more, all-both, all-missing}
 use Rattle.fmath.proofs.all_above_zero.Statement.{statement}
 use Rattle.fmath.proofs.all_above_zero.Tie as tie
 

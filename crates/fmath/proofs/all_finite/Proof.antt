@@ -4,9 +4,9 @@ use mathlib.Core.Path.{_≡_, refl, sym}
 use native.Mathlib.Omega.{arith}
 use borrow.Author.Needs.{needs}
 use denote.Ref.{now}
-use Rattle.fmath.specs.Each.{all, at}
-use Rattle.fmath.specs.Finite.{finite, allFinite}
-use Rattle.fmath.proofs.Each.{all-more, all-missing}
+use Rattle.checked.specs.Each.{all, at}
+use Rattle.checked.specs.Finite.{finite, allFinite}
+use Rattle.checked.proofs.Each.{all-more, all-missing}
 use Rattle.fmath.proofs.all_finite.Statement.{statement}
 use Rattle.fmath.proofs.all_finite.Tie as tie
 

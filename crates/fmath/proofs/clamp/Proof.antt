@@ -1,8 +1,8 @@
 -- `fmath::clamp` meets its contract, by the tests that led to each answer.
 use mathlib.Core.Path.{_∙_}
 use lib.Ieee.{lt}
-use Rattle.fmath.specs.Least.{clamped}
-use Rattle.fmath.proofs.Chosen.{first, second}
+use Rattle.fmath.specs.Clamp.{clamped}
+use Rattle.checked.proofs.Chosen.{first, second}
 use Rattle.fmath.proofs.clamp.Statement.{statement}
 use Rattle.fmath.proofs.clamp.Tie as tie
 

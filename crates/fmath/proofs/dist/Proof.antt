@@ -7,7 +7,7 @@ use lib.ListN.{length}
 use lib.Ieee.{binary64}
 use Rattle.fmath.specs.Norm.{dist}
 use Rattle.fmath.specs.Answer.{someNotFinite}
-use Rattle.fmath.proofs.Told.{dist-tells}
+use Rattle.fmath.proofs.Lengths.{dist-tells}
 use Rattle.fmath.proofs.Judged.{is-short, is-not-finite, is-computed, is-value, unfit-both}
 use Rattle.fmath.proofs.dist.Statement.{statement}
 use Rattle.fmath.proofs.dist.Tie as tie

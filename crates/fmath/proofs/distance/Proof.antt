@@ -6,10 +6,11 @@ use native.Mathlib.Omega.{arith}
 use borrow.Author.Needs.{needs}
 use denote.Ref.{now}
 use lib.Ieee.{binary64, ofBits, div}
-use Rattle.fmath.specs.Finite.{+0}
-use Rattle.fmath.specs.Checked.{sumFrom}
+use Rattle.checked.specs.Finite.{+0}
+use Rattle.checked.specs.Checked.{sumFrom}
 use Rattle.fmath.specs.Norm.{squaredGap}
-use Rattle.fmath.proofs.Sums.{sum-more, dist-missing-left, dist-missing-right, dist-done}
+use Rattle.checked.proofs.Sums.{sum-more}
+use Rattle.fmath.proofs.Lengths.{dist-missing-left, dist-missing-right, dist-done}
 use Rattle.fmath.proofs.distance.Statement.{statement}
 use Rattle.fmath.proofs.distance.Tie as tie
 

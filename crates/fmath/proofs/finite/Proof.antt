@@ -2,7 +2,7 @@
 use mathlib.Core.Path.{_≡_, refl}
 use mathlib.Core.Bool.{true, false, _&&_}
 use lib.Ieee.{Float, nan, inf, fin, lt, neg, div, ofBits}
-use Rattle.fmath.specs.Finite.{finite}
+use Rattle.checked.specs.Finite.{finite}
 use Rattle.fmath.proofs.finite.Statement.{statement}
 use Rattle.fmath.proofs.finite.Tie as tie
 

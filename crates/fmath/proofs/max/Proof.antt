@@ -1,7 +1,7 @@
 -- `fmath::max` meets its contract, by the test that led to each answer.
 use lib.Ieee.{lt}
-use Rattle.fmath.specs.Least.{greater}
-use Rattle.fmath.proofs.Chosen.{first, second}
+use Rattle.checked.specs.Least.{greater}
+use Rattle.checked.proofs.Chosen.{first, second}
 use Rattle.fmath.proofs.max.Statement.{statement}
 use Rattle.fmath.proofs.max.Tie as tie
 

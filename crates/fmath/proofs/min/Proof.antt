@@ -1,7 +1,7 @@
 -- `fmath::min` meets its contract, by the test that led to each answer.
 use lib.Ieee.{lt}
-use Rattle.fmath.specs.Least.{lesser}
-use Rattle.fmath.proofs.Chosen.{first, second}
+use Rattle.checked.specs.Least.{lesser}
+use Rattle.checked.proofs.Chosen.{first, second}
 use Rattle.fmath.proofs.min.Statement.{statement}
 use Rattle.fmath.proofs.min.Tie as tie
 

@@ -9,7 +9,7 @@ use lib.ListN.{length}
 use lib.Ieee.{binary64}
 use Rattle.fmath.specs.Norm.{norm}
 use Rattle.fmath.specs.Answer.{someNotFinite}
-use Rattle.fmath.proofs.Told.{norm-tells}
+use Rattle.fmath.proofs.Lengths.{norm-tells}
 use Rattle.fmath.proofs.Judged.{is-short, is-not-finite, is-computed, is-value}
 use Rattle.fmath.proofs.norm.Statement.{statement}
 use Rattle.fmath.proofs.norm.Tie as tie

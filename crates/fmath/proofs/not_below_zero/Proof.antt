@@ -1,7 +1,7 @@
 -- `fmath::not_below_zero` meets its contract: its two tests are the definition's.
 use lib.Ieee.{ofBits}
 use borrow.Author.Needs.{needs}
-use Rattle.fmath.specs.Finite.{notBelowZero}
+use Rattle.checked.specs.Finite.{notBelowZero}
 use Rattle.fmath.proofs.not_below_zero.Statement.{statement}
 use Rattle.fmath.proofs.not_below_zero.Tie as tie
 

@@ -1,7 +1,7 @@
 -- `fmath::padded` meets its contract: what is put over eight zeros.
 use borrow.Author.Needs.{needs}
 use lib.Ieee.{ofBits}
-use Rattle.fmath.specs.Row.{padded}
+use Rattle.checked.specs.Row.{padded}
 use Rattle.fmath.proofs.padded.Statement.{statement}
 use Rattle.fmath.proofs.padded.Tie as tie
 

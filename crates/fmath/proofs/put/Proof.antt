@@ -6,8 +6,8 @@ use native.Mathlib.Omega.{arith}
 use borrow.Author.Needs.{needs}
 use denote.Ref.{now}
 use lib.ListN.{length, length-set}
-use Rattle.fmath.specs.Each.{at, over}
-use Rattle.fmath.proofs.Each.{over-more}
+use Rattle.checked.specs.Each.{at, over}
+use Rattle.checked.proofs.Each.{over-more}
 use Rattle.fmath.proofs.put.Statement.{statement}
 use Rattle.fmath.proofs.put.Tie as tie
 

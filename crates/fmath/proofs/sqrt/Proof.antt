@@ -3,7 +3,7 @@ use mathlib.Core.Path.{refl}
 use mathlib.Core.Bool.{false}
 use borrow.Author.Needs.{needs}
 use lib.Ieee.{binary64}
-use Rattle.fmath.specs.Checked.{root}
+use Rattle.checked.specs.Checked.{root}
 use Rattle.fmath.proofs.Judged.{is-computed, is-value}
 use Rattle.fmath.proofs.sqrt.Statement.{statement}
 use Rattle.fmath.proofs.sqrt.Tie as tie

@@ -9,9 +9,9 @@ use borrow.Author.Tests.{not-true, not-false}
 use denote.Ref.{now}
 use lib.ListN.{length, length-set}
 use lib.Ieee.{Float, binary64}
-use Rattle.fmath.specs.Each.{at}
-use Rattle.fmath.specs.Row.{padded}
-use Rattle.fmath.proofs.Copy.{all-padded, padded-at}
+use Rattle.checked.specs.Each.{at}
+use Rattle.checked.specs.Row.{padded}
+use Rattle.checked.proofs.Copy.{all-padded, padded-at}
 use Rattle.rollout.specs.declared.Plant.{Plant}
 use Rattle.rollout.specs.declared.Run.{Run}
 use Rattle.rollout.specs.Rule.{Task, after, forecast}

@@ -4,7 +4,7 @@ use mathlib.Core.Path.{_≡_, refl, _∙_}
 use native.Mathlib.Omega.{arith}
 use borrow.Author.Needs.{needs}
 use lib.ListN.{length, length-set}
-use Rattle.fmath.specs.Each.{at, over}
+use Rattle.checked.specs.Each.{at, over}
 use Rattle.rollout.specs.Of.{joinedOf}
 use Rattle.rollout.proofs.Wide.{joined-more}
 use Rattle.rollout.proofs.joined.Statement.{statement}

@@ -1,7 +1,7 @@
 -- `rollout::roomy` meets its contract: its tests are the definition's, and N is the one product of control steps and substeps.
 use native.Mathlib.Omega.{arith}
 use borrow.Author.Needs.{needs}
-use Rattle.fmath.specs.Each.{every}
+use Rattle.checked.specs.Each.{every}
 use Rattle.chunk.proofs.Rows.{place-small}
 use Rattle.rollout.specs.Of.{shaped, roomy}
 use Rattle.rollout.proofs.roomy.Statement.{statement}

@@ -4,9 +4,9 @@ use mathlib.Core.Path.{_≡_, refl, ap, _∙_}
 use native.Mathlib.Omega.{arith}
 use borrow.Author.Needs.{needs}
 use lib.Ieee.{binary64}
-use Rattle.fmath.specs.Each.{at}
-use Rattle.fmath.specs.Checked.{each}
-use Rattle.fmath.proofs.Told.{each-value}
+use Rattle.checked.specs.Each.{at}
+use Rattle.checked.specs.Checked.{each}
+use Rattle.checked.proofs.Told.{each-value}
 use Rattle.stopping.specs.Rule.{commanded, command}
 use Rattle.stopping.proofs.command.Statement.{statement}
 use Rattle.stopping.proofs.command.Tie as tie

@@ -1,7 +1,7 @@
 -- `stopping::roomy` meets its contract: its tests are the definition's.
 use native.Mathlib.Omega.{arith}
 use borrow.Author.Needs.{needs}
-use Rattle.fmath.specs.Each.{every}
+use Rattle.checked.specs.Each.{every}
 use Rattle.chunk.proofs.Rows.{place-small}
 use Rattle.rollout.specs.Of.{shaped}
 use Rattle.stopping.specs.Of.{roomy}

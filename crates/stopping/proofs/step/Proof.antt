@@ -4,9 +4,9 @@ use mathlib.Core.Path.{_≡_, refl}
 use native.Mathlib.Omega.{arith}
 use borrow.Author.Needs.{needs}
 use lib.Ieee.{Float, binary64}
-use Rattle.fmath.specs.Each.{at}
-use Rattle.fmath.specs.Checked.{Checked, each}
-use Rattle.fmath.proofs.Told.{each-value, each-sound}
+use Rattle.checked.specs.Each.{at}
+use Rattle.checked.specs.Checked.{Checked, each}
+use Rattle.checked.proofs.Told.{each-value, each-sound}
 use Rattle.stopping.specs.Rule.{moved, step}
 use Rattle.stopping.proofs.Told.{moved-tells}
 use Rattle.stopping.proofs.step.Statement.{statement}

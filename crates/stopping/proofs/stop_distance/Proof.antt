@@ -3,7 +3,7 @@ use mathlib.Core.Path.{_≡_}
 use borrow.Author.Needs.{needs}
 use lib.IntN.{pos}
 use lib.Ieee.{binary64, ofInt}
-use Rattle.fmath.specs.Checked.{times}
+use Rattle.checked.specs.Checked.{times}
 use Rattle.fmath.specs.Norm.{dist}
 use Rattle.rollout.specs.Of.{stateOf}
 use Rattle.stopping.specs.Rule.{stopDistance}

@@ -1,6 +1,6 @@
 -- `tier0::judge_action` meets its contract: each part is its rule's, and the speed's test tells of the step.
 use lib.Ieee.{binary64}
-use Rattle.fmath.proofs.Copy.{all-padded}
+use Rattle.checked.proofs.Copy.{all-padded}
 use Rattle.tier0.proofs.Steps.{judge-is}
 use borrow.Author.Needs.{needs}
 use Rattle.tier0.proofs.judge_action.Statement.{statement}

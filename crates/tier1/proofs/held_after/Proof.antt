@@ -3,7 +3,7 @@ use mathlib.Core.Path.{_≡_}
 use lib.ListN.{length}
 use borrow.Author.Tests.{not-true, not-false}
 use denote.Ref.{now}
-use Rattle.fmath.proofs.Each.{and-right}
+use Rattle.checked.proofs.Each.{and-right}
 use Rattle.tier1.proofs.Ticks.{no-chunk, chunk-held, chunk-fits}
 use borrow.Author.Needs.{needs}
 use Rattle.tier1.proofs.held_after.Statement.{statement}

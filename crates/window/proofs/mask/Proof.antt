@@ -8,7 +8,7 @@ use borrow.Author.Needs.{needs}
 use borrow.Author.Tests.{ltb-false}
 use lib.Dec.{ltb}
 use lib.Pow.{pow-lt, pow-pos}
-use Rattle.fmath.proofs.Each.{neither}
+use Rattle.checked.proofs.Each.{neither}
 use Rattle.window.proofs.mask.Statement.{statement}
 use Rattle.window.proofs.mask.Tie as tie
 

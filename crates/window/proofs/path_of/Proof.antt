@@ -3,9 +3,9 @@ use Prim.Native.Nat.{ℕ, _-_, _≤_}
 use mathlib.Core.Path.{_≡_, refl, ap, _∙_}
 use native.Mathlib.Omega.{arith}
 use lib.Ieee.{binary64, ofBits}
-use Rattle.fmath.specs.Checked.{sumFrom}
-use Rattle.fmath.specs.Finite.{+0}
-use Rattle.fmath.proofs.Sums.{sum-more}
+use Rattle.checked.specs.Checked.{sumFrom}
+use Rattle.checked.specs.Finite.{+0}
+use Rattle.checked.proofs.Sums.{sum-more}
 use Rattle.window.specs.Rule.{step, path}
 use Rattle.window.proofs.Ranges.{path-range}
 use Rattle.window.proofs.path_of.Statement.{statement}

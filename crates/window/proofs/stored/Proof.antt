@@ -5,7 +5,7 @@ use native.Mathlib.Omega.{arith}
 use borrow.Author.Needs.{needs}
 use lib.ListN.{length, length-set}
 use lib.Seq.{paste, paste-zero}
-use Rattle.fmath.proofs.Copy.{copy-more}
+use Rattle.checked.proofs.Copy.{copy-more}
 use Rattle.window.proofs.stored.Statement.{statement}
 use Rattle.window.proofs.stored.Tie as tie
 

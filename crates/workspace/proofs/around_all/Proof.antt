@@ -6,10 +6,10 @@ use native.Mathlib.Omega.{arith}
 use borrow.Author.Needs.{needs}
 use lib.ListN.{length, set, length-set}
 use lib.Ieee.{binary64}
-use Rattle.fmath.specs.Each.{at}
-use Rattle.fmath.specs.Finite.{finite}
-use Rattle.fmath.proofs.Each.{_&&≡_}
-use Rattle.fmath.proofs.Absorbing.{fine-add-left, fine-add-right}
+use Rattle.checked.specs.Each.{at}
+use Rattle.checked.specs.Finite.{finite}
+use Rattle.checked.proofs.Each.{_&&≡_}
+use Rattle.checked.proofs.Absorbing.{fine-add-left, fine-add-right}
 use Rattle.workspace.specs.Rule.{gap}
 use Rattle.workspace.specs.Of.{wallsOf}
 use Rattle.workspace.proofs.Gaps.{near-more, sums-tell}

@@ -3,9 +3,9 @@ use Prim.Native.Nat.{ℕ, _-_, _≤_, min}
 use mathlib.Core.Path.{_≡_, refl, sym, ap, _∙_}
 use native.Mathlib.Omega.{arith}
 use borrow.Author.Needs.{needs}
-use Rattle.fmath.specs.Each.{at, over}
-use Rattle.fmath.specs.Least.{clamped}
-use Rattle.fmath.proofs.Each.{over-more}
+use Rattle.checked.specs.Each.{at, over}
+use Rattle.fmath.specs.Clamp.{clamped}
+use Rattle.checked.proofs.Each.{over-more}
 use Rattle.workspace.specs.Of.{wallsOf}
 use Rattle.workspace.proofs.Gaps.{inward-cut}
 use Rattle.workspace.proofs.inward.Statement.{statement}

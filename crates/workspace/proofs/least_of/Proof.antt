@@ -4,9 +4,9 @@ use mathlib.Core.Path.{_≡_, refl, _∙_}
 use native.Mathlib.Omega.{arith}
 use borrow.Author.Needs.{needs}
 use lib.Ieee.{ofBits, div}
-use Rattle.fmath.specs.Each.{at}
-use Rattle.fmath.specs.Least.{least}
-use Rattle.fmath.proofs.Extremes.{least-more}
+use Rattle.checked.specs.Each.{at}
+use Rattle.checked.specs.Least.{least}
+use Rattle.checked.proofs.Extremes.{least-more}
 use Rattle.workspace.proofs.least_of.Statement.{statement}
 use Rattle.workspace.proofs.least_of.Tie as tie
 

@@ -5,8 +5,8 @@ use native.Mathlib.Omega.{arith}
 use borrow.Author.Needs.{needs}
 use denote.Ref.{now}
 use lib.ListN.{length}
-use Rattle.fmath.specs.Each.{some}
-use Rattle.fmath.proofs.Each.{some-more}
+use Rattle.checked.specs.Each.{some}
+use Rattle.checked.proofs.Each.{some-more}
 use Rattle.workspace.specs.Rule.{beyond}
 use Rattle.workspace.specs.Of.{wallsOf}
 use Rattle.workspace.proofs.Gaps.{outside-cut}

@@ -5,8 +5,8 @@ use borrow.Author.Needs.{needs}
 use borrow.Author.Tests.{not-false, ltb-false}
 use lib.Dec.{ltb}
 use lib.Ieee.{binary64}
-use Rattle.fmath.specs.Finite.{finite}
-use Rattle.fmath.proofs.Each.{neither}
+use Rattle.checked.specs.Finite.{finite}
+use Rattle.checked.proofs.Each.{neither}
 use Rattle.workspace.specs.Of.{wallsOf}
 use Rattle.workspace.proofs.Gaps.{slack-from}
 use Rattle.workspace.proofs.slack_abreast.Statement.{statement}

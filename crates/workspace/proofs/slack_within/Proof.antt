@@ -5,9 +5,9 @@ use native.Mathlib.Omega.{arith}
 use borrow.Author.Needs.{needs}
 use lib.ListN.{length}
 use lib.Ieee.{binary64, ofBits, div}
-use Rattle.fmath.specs.Each.{all}
-use Rattle.fmath.specs.Least.{least}
-use Rattle.fmath.specs.Checked.{leastOf}
+use Rattle.checked.specs.Each.{all}
+use Rattle.checked.specs.Least.{least}
+use Rattle.checked.specs.Checked.{leastOf}
 use Rattle.workspace.specs.Rule.{gapWithin, slackWithin}
 use Rattle.workspace.specs.declared.Distance.{Distance}
 use Rattle.workspace.specs.Of.{wallsOf}

@@ -4,7 +4,7 @@ use mathlib.Core.Path.{_≡_, sym, ap, _∙_}
 use borrow.Author.Needs.{needs}
 use borrow.Author.Tests.{eq-eqb, ne-eqb}
 use lib.Dec.{eqb}
-use Rattle.refusal.specs.Order.{if_then_else_}
+use Rattle.bits.specs.Choice.{if_then_else_}
 use Rattle.chunk.specs.declared.ChunkBuf.{ChunkBuf}
 use Rattle.chunk.specs.declared.Filled.{Filled}
 use Rattle.chunk.specs.Of.{clearedOf, heldRefusalOf, clearOf}

@@ -9,8 +9,9 @@ use lib.Dec.{eqb}
 use lib.Ieee.{Float}
 use lib.ListN.{length}
 use lib.Seq.{paste}
-use Rattle.refusal.specs.Order.{refusal, if_then_else_}
-use Rattle.fmath.proofs.Copy.{all-pasted}
+use Rattle.refusal.specs.Order.{refusal}
+use Rattle.bits.specs.Choice.{if_then_else_}
+use Rattle.checked.proofs.Copy.{all-pasted}
 use Rattle.chunk.specs.declared.ChunkBuf.{ChunkBuf}
 use Rattle.chunk.specs.declared.Filled.{Filled}
 use Rattle.chunk.specs.Of.{fillOf, heldOf}

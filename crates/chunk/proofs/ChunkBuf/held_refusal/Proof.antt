@@ -4,7 +4,7 @@ use mathlib.Core.Path.{sym, _∙_}
 use native.Mathlib.Nat.{lt-of-le-of-lt, le-of-lt}
 use borrow.Author.Needs.{needs}
 use borrow.Author.Tests.{not-true, not-false}
-use Rattle.fmath.specs.Finite.{allFinite}
+use Rattle.checked.specs.Finite.{allFinite}
 use Rattle.chunk.specs.Of.{heldRefusalOf}
 use Rattle.chunk.proofs.Judged.{refused-by-sizes, refused-by-numbers, accepted}
 use Rattle.chunk.proofs.Rows.{place-small}

@@ -5,7 +5,8 @@ use borrow.Author.Needs.{needs}
 use borrow.Author.Tests.{eq-eqb, ne-eqb}
 use lib.Dec.{eqb}
 use Rattle.refusal.specs.declared.Refusal.{Refusal}
-use Rattle.refusal.specs.Order.{refusedFor, if_then_else_}
+use Rattle.refusal.specs.Order.{refusedFor}
+use Rattle.bits.specs.Choice.{if_then_else_}
 use Rattle.chunk.specs.declared.ChunkBuf.{ChunkBuf}
 use Rattle.chunk.specs.declared.Holding.{Holding}
 use Rattle.chunk.specs.declared.Holding.the-variants as holding

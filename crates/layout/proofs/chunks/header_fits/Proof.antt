@@ -1,6 +1,6 @@
 -- `layout::chunks::header_fits` meets its contract: by evaluation.
 use mathlib.Core.Path.{refl}
-use Rattle.fmath.specs.Each.{every, every-from}
+use Rattle.checked.specs.Each.{every, every-from}
 use Rattle.layout.specs.Chunk.{headerFits}
 use borrow.Author.Needs.{needs}
 use Rattle.layout.proofs.chunks.header_fits.Statement.{statement}

@@ -1,6 +1,6 @@
 -- `layout::config::codes_fit` meets its contract: by evaluation.
 use mathlib.Core.Path.{refl}
-use Rattle.fmath.specs.Each.{every, every-from}
+use Rattle.checked.specs.Each.{every, every-from}
 use Rattle.layout.specs.Config.{codesFit}
 use borrow.Author.Needs.{needs}
 use Rattle.layout.proofs.config.codes_fit.Statement.{statement}

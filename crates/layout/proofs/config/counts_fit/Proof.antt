@@ -1,5 +1,5 @@
 -- `layout::config::counts_fit` meets its contract: each part is what its own function gives.
-use Rattle.fmath.specs.Each.{every, every-from}
+use Rattle.checked.specs.Each.{every, every-from}
 use Rattle.layout.specs.Config.{countsFit}
 use borrow.Author.Needs.{needs}
 use Rattle.layout.proofs.config.counts_fit.Statement.{statement}

@@ -1,6 +1,6 @@
 -- `layout::config::fields_fit` meets its contract: by evaluation.
 use mathlib.Core.Path.{refl}
-use Rattle.fmath.specs.Each.{every, every-from}
+use Rattle.checked.specs.Each.{every, every-from}
 use Rattle.layout.specs.Config.{fieldsFit}
 use borrow.Author.Needs.{needs}
 use Rattle.layout.proofs.config.fields_fit.Statement.{statement}

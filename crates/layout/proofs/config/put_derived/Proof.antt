@@ -1,6 +1,6 @@
 -- `layout::config::put_derived` meets its contract: by evaluation.
 use mathlib.Core.Path.{refl}
-use Rattle.fmath.specs.Each.{table}
+use Rattle.checked.specs.Each.{table}
 use Rattle.layout.specs.Config.{derivedFlat}
 use borrow.Author.Needs.{needs}
 use Rattle.layout.proofs.config.put_derived.Statement.{statement}

@@ -1,6 +1,6 @@
 -- `layout::scores::marks_fit` meets its contract: by evaluation.
 use mathlib.Core.Path.{refl}
-use Rattle.fmath.specs.Each.{every, every-from}
+use Rattle.checked.specs.Each.{every, every-from}
 use Rattle.layout.specs.Scores.{marksFit}
 use borrow.Author.Needs.{needs}
 use Rattle.layout.proofs.scores.marks_fit.Statement.{statement}

@@ -1,6 +1,6 @@
 -- `layout::scores::put_scores` meets its contract: by evaluation.
 use mathlib.Core.Path.{refl}
-use Rattle.fmath.specs.Each.{table}
+use Rattle.checked.specs.Each.{table}
 use Rattle.layout.specs.Scores.{scoresFlat}
 use borrow.Author.Needs.{needs}
 use Rattle.layout.proofs.scores.put_scores.Statement.{statement}

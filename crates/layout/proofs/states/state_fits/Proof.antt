@@ -1,5 +1,5 @@
 -- `layout::states::state_fits` meets its contract: the chunk's counts and its own.
-use Rattle.fmath.specs.Each.{every, every-from}
+use Rattle.checked.specs.Each.{every, every-from}
 use Rattle.layout.specs.State.{stateFits}
 use borrow.Author.Needs.{needs}
 use Rattle.layout.proofs.states.state_fits.Statement.{statement}

@@ -10,7 +10,8 @@ use borrow.Author.Needs.{needs}
 use borrow.Author.Tests.{ne-eqb}
 use lib.Dec.{eqb}
 use lib.ListN.{length, getD, drop}
-use Rattle.refusal.specs.Order.{Reason, numberOf, order, firstOf, _or_, named, earlier, if_then_else_}
+use Rattle.refusal.specs.Order.{Reason, numberOf, order, firstOf, _or_, named, earlier}
+use Rattle.bits.specs.Choice.{if_then_else_}
 use Rattle.refusal.proofs.Refusal.earlier.Statement.{statement}
 use Rattle.refusal.proofs.Refusal.earlier.Tie as tie
 

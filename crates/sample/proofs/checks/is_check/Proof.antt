@@ -1,6 +1,6 @@
 -- `sample::checks::is_check` meets its contract: by cases of the answer.
 use borrow.Author.Needs.{needs}
-use Rattle.fmath.specs.Each.{every, every-from}
+use Rattle.checked.specs.Each.{every, every-from}
 use Rattle.sample.specs.Checks.{isCheck}
 use Rattle.sample.proofs.checks.is_check.Statement.{statement}
 use Rattle.sample.proofs.checks.is_check.Tie as tie

@@ -3,7 +3,7 @@ use mathlib.Core.Path.{_≡_, refl, sym, ap, _∙_}
 use native.Mathlib.Omega.{arith}
 use lib.ListN.{length}
 use borrow.Author.Needs.{needs}
-use Rattle.fmath.specs.Each.{table}
+use Rattle.checked.specs.Each.{table}
 use Rattle.envelope.specs.declared.Derived.{Derived}
 use Rattle.layout.specs.Config.{derivedFlat}
 use Rattle.sample.specs.Config.{deriveAgrees}

@@ -7,9 +7,9 @@ use lib.ListN.{replicate}
 use lib.Ieee.{ofBits}
 use borrow.Author.Needs.{needs}
 use denote.Ref.{now}
-use Rattle.fmath.specs.Each.{over}
-use Rattle.fmath.specs.Finite.{+0}
-use Rattle.fmath.proofs.Each.{over-more}
+use Rattle.checked.specs.Each.{over}
+use Rattle.checked.specs.Finite.{+0}
+use Rattle.checked.proofs.Each.{over-more}
 use Rattle.sample.specs.Record.{num}
 use Rattle.sample.specs.Config.{placeOf, numbersAt}
 use Rattle.sample.proofs.config.numbers.Statement.{statement}

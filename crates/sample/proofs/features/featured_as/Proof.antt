@@ -3,7 +3,7 @@ use mathlib.Core.Path.{_≡_}
 use native.Mathlib.Omega.{arith}
 use lib.ListN.{length}
 use borrow.Author.Needs.{needs}
-use Rattle.fmath.specs.Each.{every, every-from}
+use Rattle.checked.specs.Each.{every, every-from}
 use Rattle.sample.specs.Features.{featuredAs}
 use Rattle.sample.proofs.features.featured_as.Statement.{statement}
 use Rattle.sample.proofs.features.featured_as.Tie as tie

@@ -1,6 +1,6 @@
 -- `sample::gate::gate_agrees` meets its contract: the calls, one after the other.
 use borrow.Author.Needs.{needs}
-use Rattle.fmath.specs.Each.{every, every-from}
+use Rattle.checked.specs.Each.{every, every-from}
 use Rattle.sample.specs.Gate.{gateAgrees}
 use Rattle.sample.proofs.gate.gate_agrees.Statement.{statement}
 use Rattle.sample.proofs.gate.gate_agrees.Tie as tie

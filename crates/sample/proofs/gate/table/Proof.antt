@@ -6,9 +6,9 @@ use native.Mathlib.Nat.{le-antisymm}
 use lib.Ieee.{ofBits}
 use lib.ListN.{replicate}
 use borrow.Author.Needs.{needs}
-use Rattle.fmath.proofs.Each.{over-more}
-use Rattle.fmath.specs.Finite.{+0}
-use Rattle.fmath.specs.Each.{over}
+use Rattle.checked.proofs.Each.{over-more}
+use Rattle.checked.specs.Finite.{+0}
+use Rattle.checked.specs.Each.{over}
 use Rattle.sample.specs.Gate.{tableAt}
 use Rattle.sample.specs.Record.{num}
 use Rattle.sample.proofs.gate.table.Statement.{statement}

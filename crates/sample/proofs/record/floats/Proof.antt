@@ -5,8 +5,8 @@ use native.Mathlib.Omega.{arith}
 use lib.ListN.{length, length-set}
 use borrow.Author.Needs.{needs}
 use denote.Ref.{now}
-use Rattle.fmath.proofs.Each.{over-more}
-use Rattle.fmath.specs.Each.{over}
+use Rattle.checked.proofs.Each.{over-more}
+use Rattle.checked.specs.Each.{over}
 use Rattle.sample.specs.Record.{num}
 use Rattle.sample.proofs.record.floats.Statement.{statement}
 use Rattle.sample.proofs.record.floats.Tie as tie

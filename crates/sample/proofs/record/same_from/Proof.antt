@@ -6,8 +6,8 @@ use lib.Ieee.{eq}
 use lib.ListN.{length}
 use borrow.Author.Needs.{needs}
 use denote.Ref.{now}
-use Rattle.fmath.proofs.Each.{all-more}
-use Rattle.fmath.specs.Each.{all, at as item}
+use Rattle.checked.proofs.Each.{all-more}
+use Rattle.checked.specs.Each.{all, at as item}
 use Rattle.sample.specs.Record.{num, sameFrom}
 use Rattle.sample.proofs.record.same_from.Statement.{statement}
 use Rattle.sample.proofs.record.same_from.Tie as tie

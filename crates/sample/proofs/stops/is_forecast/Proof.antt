@@ -1,6 +1,6 @@
 -- `sample::stops::is_forecast` meets its contract: by cases of the answer.
 use borrow.Author.Needs.{needs}
-use Rattle.fmath.specs.Each.{every, every-from}
+use Rattle.checked.specs.Each.{every, every-from}
 use Rattle.sample.specs.Stops.{isForecast}
 use Rattle.sample.proofs.stops.is_forecast.Statement.{statement}
 use Rattle.sample.proofs.stops.is_forecast.Tie as tie

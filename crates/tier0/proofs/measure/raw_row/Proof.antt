@@ -3,7 +3,7 @@ use Prim.Native.Nat.{_*_}
 use native.Mathlib.Omega.{arith}
 use denote.Ref.{now}
 use lib.ListN.{drop, length-drop}
-use Rattle.fmath.proofs.Copy.{all-padded}
+use Rattle.checked.proofs.Copy.{all-padded}
 use Rattle.chunk.proofs.Rows.{rest-is}
 use borrow.Author.Needs.{needs}
 use Rattle.tier0.proofs.measure.raw_row.Statement.{statement}

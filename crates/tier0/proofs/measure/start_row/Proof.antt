@@ -3,7 +3,7 @@ use mathlib.Core.Path.{_∙_}
 use native.Mathlib.Omega.{arith}
 use borrow.Author.Needs.{needs}
 use denote.Ref.{now}
-use Rattle.fmath.proofs.Copy.{all-put}
+use Rattle.checked.proofs.Copy.{all-put}
 use Rattle.tier0.specs.Chunk.{startRow}
 use Rattle.tier0.proofs.measure.start_row.Statement.{statement}
 use Rattle.tier0.proofs.measure.start_row.Tie as tie

@@ -6,9 +6,9 @@ use native.Mathlib.Omega.{arith}
 use borrow.Author.Needs.{needs}
 use denote.Ref.{now}
 use lib.Ieee.{ne}
-use Rattle.fmath.specs.Each.{at}
-use Rattle.conformal.specs.Bits.{bitsWhere}
-use Rattle.conformal.proofs.Bits.{Turned, turn}
+use Rattle.checked.specs.Each.{at}
+use Rattle.bits.specs.Bits.{bitsWhere}
+use Rattle.bits.proofs.Bits.{Turned, turn}
 use Rattle.tier0.specs.Rule.{moved}
 use Rattle.tier0.proofs.projected.moved.Statement.{statement}
 use Rattle.tier0.proofs.projected.moved.Tie as tie

@@ -7,11 +7,11 @@ use native.Mathlib.Omega.{arith}
 use borrow.Author.Needs.{needs}
 use denote.Ref.{now}
 use lib.Ieee.{binary64, Float, Format, sub, mul}
-use Rattle.fmath.specs.Each.{at}
-use Rattle.fmath.specs.Finite.{finite}
-use Rattle.fmath.specs.Checked.{each}
-use Rattle.fmath.proofs.Absorbing.{fine-add-right, fine-mul-left}
-use Rattle.fmath.proofs.Told.{each-value, each-sound, Tells, implied}
+use Rattle.checked.specs.Each.{at}
+use Rattle.checked.specs.Finite.{finite}
+use Rattle.checked.specs.Checked.{each}
+use Rattle.checked.proofs.Absorbing.{fine-add-right, fine-mul-left}
+use Rattle.checked.proofs.Told.{each-value, each-sound, Tells, implied}
 use Rattle.tier0.specs.Rule.{toward, towards}
 use Rattle.tier0.proofs.Steps.{a-row}
 use Rattle.tier0.proofs.projected.moved_toward.Statement.{statement}

@@ -2,7 +2,7 @@
 use native.Mathlib.Omega.{arith}
 use denote.Ref.{now}
 use lib.Ieee.{binary64}
-use Rattle.fmath.proofs.Copy.{all-put}
+use Rattle.checked.proofs.Copy.{all-put}
 use Rattle.chunk.proofs.Rows.{size-small}
 use Rattle.tier0.proofs.Rows.{rows-off, rows-on}
 use borrow.Author.Needs.{needs}

@@ -7,10 +7,10 @@ use borrow.Author.Needs.{needs}
 use denote.Ref.{now}
 use lib.ListN.{replicate}
 use lib.Ieee.{binary64, ofBits}
-use Rattle.fmath.specs.Each.{at}
-use Rattle.fmath.specs.Finite.{+0}
-use Rattle.fmath.specs.Checked.{each}
-use Rattle.fmath.proofs.Told.{each-value, each-sound}
+use Rattle.checked.specs.Each.{at}
+use Rattle.checked.specs.Finite.{+0}
+use Rattle.checked.specs.Checked.{each}
+use Rattle.checked.proofs.Told.{each-value, each-sound}
 use Rattle.tier0.specs.Chunk.{jolt, jolts}
 use Rattle.tier0.proofs.Rows.{jolt-tells}
 use Rattle.tier0.proofs.Steps.{a-row}

@@ -5,7 +5,7 @@ use native.Mathlib.Omega.{arith}
 use borrow.Author.Needs.{needs}
 use denote.Ref.{now}
 use lib.Ieee.{binary64}
-use Rattle.fmath.specs.Each.{all, some}
+use Rattle.checked.specs.Each.{all, some}
 use Rattle.chunk.proofs.Rows.{row-fits}
 use Rattle.tier0.specs.Chunk.{someOf, largeAt, further}
 use Rattle.tier0.proofs.Rows.{reads-few, some-turn, some-found}

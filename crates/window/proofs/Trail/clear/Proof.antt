@@ -4,7 +4,8 @@ use mathlib.Core.Path.{_≡_, sym, ap, _∙_}
 use borrow.Author.Needs.{needs}
 use borrow.Author.Tests.{eq-eqb, ne-eqb}
 use lib.Dec.{eqb}
-use Rattle.refusal.specs.Order.{refusal, if_then_else_}
+use Rattle.refusal.specs.Order.{refusal}
+use Rattle.bits.specs.Choice.{if_then_else_}
 use Rattle.window.specs.declared.Trail.{Trail}
 use Rattle.window.specs.declared.Recorded.{Recorded}
 use Rattle.window.specs.Answer.{trailReasons}

@@ -5,7 +5,8 @@ use borrow.Author.Needs.{needs}
 use borrow.Author.Tests.{eq-eqb, ne-eqb}
 use lib.Dec.{eqb}
 use Rattle.refusal.specs.declared.Refusal.{Refusal}
-use Rattle.refusal.specs.Order.{refusal, refusedFor, if_then_else_}
+use Rattle.refusal.specs.Order.{refusal, refusedFor}
+use Rattle.bits.specs.Choice.{if_then_else_}
 use Rattle.window.specs.declared.Trail.{Trail}
 use Rattle.window.specs.declared.Emptiness.{Emptiness}
 use Rattle.window.specs.declared.Emptiness.the-variants as emptiness

@@ -8,9 +8,10 @@ use borrow.Author.Tests.{eq-eqb, ne-eqb, ltb-false}
 use lib.Dec.{eqb, ltb}
 use lib.Ieee.{Float}
 use lib.ListN.{length}
-use Rattle.refusal.specs.Order.{refusal, if_then_else_}
-use Rattle.fmath.specs.Finite.{allFinite}
-use Rattle.fmath.proofs.Each.{neither}
+use Rattle.refusal.specs.Order.{refusal}
+use Rattle.bits.specs.Choice.{if_then_else_}
+use Rattle.checked.specs.Finite.{allFinite}
+use Rattle.checked.proofs.Each.{neither}
 use Rattle.window.specs.declared.Trail.{Trail}
 use Rattle.window.specs.declared.Recorded.{Recorded}
 use Rattle.window.specs.Answer.{outOfSize, unfit, pushReasons}

@@ -2,7 +2,7 @@
 use mathlib.Core.Path.{sym, _∙_}
 use borrow.Author.Needs.{needs}
 use lib.ListN.{length}
-use Rattle.fmath.specs.Finite.{allFinite}
+use Rattle.checked.specs.Finite.{allFinite}
 use Rattle.window.specs.Answer.{outOfSize, unfit}
 use Rattle.window.proofs.TrailJudged.{trail-refused, position-refused, both-accepted}
 use Rattle.window.proofs.Trail.push_refusal.Statement.{statement}

@@ -1,0 +1,175 @@
+-- Laws of `all`, `some`, `every`, `table` and `over`: one turn of a loop that computes each, its end, and what it says of one index.
+use Prim.Native.Nat.{ℕ, zero, suc, _+_, _≤_, _<_, min}
+use mathlib.Core.Path.{_≡_, refl, ap, sym, _∙_}
+use mathlib.Core.Bool.{Bool, true, false, _&&_, _||_, false≢true, or-false}
+use mathlib.Core.List.{List, [], _∷_}
+use native.Mathlib.Nat.{le-refl, lt-of-not-le}
+use native.Mathlib.Decide.{decLe}
+use native.Mathlib.Numerals.{add-one}
+use native.Mathlib.Omega.{arith}
+use borrow.Author.Count.{below-more}
+use lib.ListN.{length, getD, take, set, length-append, length-set, List·getD-append, List·getD-eq-default}
+use lib.Seq.{take-suc-set, take-all, set-out, getD-append-seam, getD-set-same, getD-set-other}
+use lib.Ieee.{Float, nan}
+use Rattle.checked.specs.Each.{at, all, some, every, every-from, table, over}
+
+-- ---- conjunctions
+
+-- two answers and what each is
+infixl 35 _&&≡_
+pub _&&≡_ : {a b c d : Bool} → a ≡ c → b ≡ d → a && b ≡ c && d
+e &&≡ h = rw (e, h)
+
+pub and-left : (a b : Bool) → a && b ≡ true → a ≡ true
+and-left true b e = refl
+and-left false b e = e
+
+pub and-right : (a b : Bool) → a && b ≡ true → b ≡ true
+and-right true b e = e
+and-right false b e = absurd (false≢true e)
+
+-- where neither of two tests holds
+pub neither : (a b : Bool) → a || b ≡ false → (a ≡ false) × (b ≡ false)
+neither true b e = absurd (false≢true (sym e))
+neither false b e = (refl, e)
+
+-- ---- all
+
+-- one turn of a loop that keeps the answer so far
+pub all-more : (p : ℕ → Bool) (i : ℕ) (ok t : Bool) → ok ≡ all p i → t ≡ p i → ok && t ≡ all p (i + 1)
+unfolding all
+all-more p i ok t h g = rw (h, g, add-one)
+
+pub all-at : (p : ℕ → Bool) (n : ℕ) → all p n ≡ true → (j : ℕ) → j < n → p j ≡ true
+unfolding all
+all-at p zero h j l = absurd (omega arith)
+all-at p (suc n) h j l = below-more (λ (i : ℕ). p i ≡ true) n (all-at p n (and-left (all p n) (p n) h)) (and-right (all p n) (p n) h) j (omega arith)
+
+pub all-from : (p : ℕ → Bool) (n : ℕ) → ((j : ℕ) → j < n → p j ≡ true) → all p n ≡ true
+unfolding all
+all-from p zero h = refl
+all-from p (suc n) h = all-from p n (λ j l. h j (omega arith)) &&≡ h n (omega arith)
+
+-- one that fails is enough
+pub all-fails : (p : ℕ → Bool) (n j : ℕ) → j < n → p j ≡ false → all p n ≡ false
+all-fails p n j l e = go (all p n) refl
+  where
+    go : (b : Bool) → all p n ≡ b → b ≡ false
+    go true h = sym (all-at p n h j l) ∙ e
+    go false h = refl
+
+-- an entry that is not there fails a test that a NaN fails
+pub all-missing : (q : Float → Bool) (l : List Float) (n : ℕ) → q nan ≡ false → length l < n → all (λ (i : ℕ). q (at l i)) n ≡ false
+all-missing q l n e h = all-fails (λ (i : ℕ). q (at l i)) n (length l) h (ap q (List·getD-eq-default l nan (le-refl (length l))) ∙ e)
+
+apart : (a b p q : Bool) → (a && b) && (p && q) ≡ (a && p) && (b && q)
+apart true true p q = refl
+apart true false true q = refl
+apart true false false q = refl
+apart false b p q = refl
+
+-- two tests of each, judged one by one or together
+pub all-both : (p q : ℕ → Bool) (n : ℕ) → all p n && all q n ≡ all (λ (i : ℕ). p i && q i) n
+unfolding all
+all-both p q zero = refl
+all-both p q (suc n) = apart (all p n) (p n) (all q n) (q n) ∙ ap (λ (b : Bool). b && (p n && q n)) (all-both p q n)
+
+-- ---- some
+
+pub some-more : (p : ℕ → Bool) (i : ℕ) (so t : Bool) → so ≡ some p i → t ≡ p i → so || t ≡ some p (i + 1)
+unfolding some
+some-more p i so t h g = rw (h, g, add-one)
+
+-- .. and from some place on none does
+pub some-cut : (p : ℕ → Bool) (n m : ℕ) → ((j : ℕ) → m ≤ j → p j ≡ false) → some p n ≡ some p (min n m)
+unfolding some
+some-cut p zero m h = let e : min 0 m ≡ 0 = omega arith in rw e
+some-cut p (suc n) m h = go (decLe m n) (some-cut p n m h)
+  where
+    go : Dec (m ≤ n) → some p n ≡ some p (min n m) → some p n || p n ≡ some p (min (suc n) m)
+    go (yes l) e = let k : min (suc n) m ≡ min n m = omega arith in rw (h n l, k) (or-false (some p n) ∙ e)
+    go (no l) e = let k : min (suc n) m ≡ suc n = omega (arith, lt-of-not-le l) in rw k
+
+-- ---- every
+
+from-first : (a : Bool) (l : List Bool) → every-from a l ≡ true → a ≡ true
+unfolding every-from
+from-first a [] e = e
+from-first a (b ∷ l) e = and-left a b (from-first (a && b) l e)
+
+from-rest : (a : Bool) (l : List Bool) (k : ℕ) → every-from a l ≡ true → getD l k true ≡ true
+unfolding every-from
+from-rest a [] k e = refl
+from-rest a (b ∷ l) zero e = and-right a b (from-first (a && b) l e)
+from-rest a (b ∷ l) (suc k) e = from-rest (a && b) l k e
+
+-- test k of some that all hold
+pub every-at : (l : List Bool) (k : ℕ) → every l ≡ true → getD l k true ≡ true
+unfolding every
+every-at [] k e = refl
+every-at (a ∷ l) zero e = from-first a l e
+every-at (a ∷ l) (suc k) e = from-rest a l k e
+
+-- ---- table
+
+-- one turn of a loop that fills an array from the front
+pub table-more : (g : ℕ → Float) (i : ℕ) (a : List Float) (v : Float) → i < length a → take i a ≡ table g i → v ≡ g i → take (i + 1) (set a i v) ≡ table g (i + 1)
+unfolding table
+table-more g i a v h e w = rw (add-one, take-suc-set a i v h, e, w)
+
+-- .. and its end
+pub table-all : (g : ℕ → Float) (n i : ℕ) (a : List Float) → i ≡ n → length a ≡ n → take i a ≡ table g i → a ≡ table g n
+table-all g n i a hi hl e = sym (take-all n a (omega arith)) ∙ rw hi at e
+
+pub table-long : (g : ℕ → Float) (n : ℕ) → length (table g n) ≡ n
+unfolding table
+table-long g zero = refl
+table-long g (suc n) = let e = table-long g n in length-append (table g n) (g n ∷ []) ∙ omega arith
+
+-- entry j of a table
+pub table-at : (g : ℕ → Float) (n j : ℕ) → j < n → at (table g n) j ≡ g j
+unfolding table
+table-at g zero j l = absurd (omega arith)
+table-at g (suc n) j l =
+    below-more (λ (i : ℕ). at (table g (suc n)) i ≡ g i) n
+    (λ i h. List·getD-append (table g n) (g n ∷ []) nan i (rw (table-long g n) h) ∙ table-at g n i h)
+    (ap (at (table g (suc n))) (sym (table-long g n)) ∙ getD-append-seam (table g n) (g n) [] nan)
+    j (omega arith)
+
+-- ---- over
+
+pub over-more : (g : ℕ → Float) (l a : List Float) (i : ℕ) (v : Float) → a ≡ over g l i → v ≡ g i → set a i v ≡ over g l (i + 1)
+unfolding over
+over-more g l a i v e w = rw (add-one, e, w)
+
+pub length-over : (g : ℕ → Float) (l : List Float) (n : ℕ) → length (over g l n) ≡ length l
+unfolding over
+length-over g l zero = refl
+length-over g l (suc n) = simp length-set (length-over g l n)
+
+-- nothing is put past the list's end
+pub over-cut : (g : ℕ → Float) (l : List Float) (n : ℕ) → over g l n ≡ over g l (min n (length l))
+unfolding over
+over-cut g l zero = let e : min 0 (length l) ≡ 0 = omega arith in rw e
+over-cut g l (suc n) = go (decLe (length l) n) (over-cut g l n)
+  where
+    go : Dec (length l ≤ n) → over g l n ≡ over g l (min n (length l)) → set (over g l n) n (g n) ≡ over g l (min (suc n) (length l))
+    go (yes h) e =
+        let k : min (suc n) (length l) ≡ min n (length l) = omega arith in
+        rw k (set-out (over g l n) n (g n) (rw (length-over g l n) h) ∙ e)
+    go (no h) e = let k : min (suc n) (length l) ≡ suc n = omega (arith, lt-of-not-le h) in rw k
+
+-- what was put, and what was kept
+pub over-at : (g : ℕ → Float) (l : List Float) (n j : ℕ) → j < n → j < length l → at (over g l n) j ≡ g j
+unfolding over
+over-at g l zero j h b = absurd (omega arith)
+over-at g l (suc n) j h b =
+    below-more (λ (i : ℕ). i < length l → at (set (over g l n) n (g n)) i ≡ g i) n
+    (λ i c d. let e : i ≡ n → ⊥ = λ z. omega arith in getD-set-other (over g l n) n i (g n) nan e ∙ over-at g l n i c d)
+    (λ d. getD-set-same (over g l n) n (g n) nan (rw (length-over g l n) d))
+    j (omega arith) b
+
+pub over-keeps : (g : ℕ → Float) (l : List Float) (n j : ℕ) → n ≤ j → at (over g l n) j ≡ at l j
+unfolding over
+over-keeps g l zero j h = refl
+over-keeps g l (suc n) j h = let e : j ≡ n → ⊥ = λ z. omega arith in getD-set-other (over g l n) n j (g n) nan e ∙ over-keeps g l n j (omega arith)

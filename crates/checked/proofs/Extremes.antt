@@ -1,0 +1,145 @@
+-- The least and the greatest of some numbers: one turn of a loop, that they are attained, and that they bound every member.
+use mathlib.Core.Path.{_≡_, refl}
+use mathlib.Core.Bool.{Bool, true, false, cond}
+use Prim.Native.Nat.{ℕ, zero, suc, _+_, _≤_, _<_}
+use native.Mathlib.Numerals.{add-one}
+use native.Mathlib.Omega.{arith}
+use borrow.Author.Count.{below-more}
+use mathlib.Core.Logic.{_⊎_, inl, inr}
+use lib.Ieee.{Float, nan, inf, fin, lt, isNan}
+use Rattle.checked.specs.Least.{lesser, greater, least, greatest}
+use Rattle.checked.proofs.Ordered.{Real, lt-not-below, lt-asymmetric, lt-irrefl}
+
+-- ---- of two
+
+pub lesser-real : (a b : Float) → Real a → Real b → Real (lesser a b)
+unfolding lesser
+lesser-real a b p q = go (lt a b)
+  where
+    go : (t : Bool) → Real (cond t a b)
+    go true = p
+    go false = q
+
+-- what is not below the first is not below the lesser
+pub lesser-left : (a b x : Float) → Real a → lt x a ≡ false → lt x (lesser a b) ≡ false
+unfolding lesser
+lesser-left a b x w h = go (lt a b) refl
+  where
+    go : (t : Bool) → lt a b ≡ t → lt x (cond t a b) ≡ false
+    go true e = h
+    go false e = lt-not-below x a b w h e
+
+pub lesser-right : (a b : Float) → lt b (lesser a b) ≡ false
+unfolding lesser
+lesser-right a b = go (lt a b) refl
+  where
+    go : (t : Bool) → lt a b ≡ t → lt b (cond t a b) ≡ false
+    go true e = lt-asymmetric a b e
+    go false e = lt-irrefl b
+
+pub greater-real : (a b : Float) → Real a → Real b → Real (greater a b)
+unfolding greater
+greater-real a b p q = go (lt b a)
+  where
+    go : (t : Bool) → Real (cond t a b)
+    go true = p
+    go false = q
+
+pub greater-left : (a b x : Float) → Real a → lt a x ≡ false → lt (greater a b) x ≡ false
+unfolding greater
+greater-left a b x w h = go (lt b a) refl
+  where
+    go : (t : Bool) → lt b a ≡ t → lt (cond t a b) x ≡ false
+    go true e = h
+    go false e = lt-not-below b a x w e h
+
+pub greater-right : (a b : Float) → lt (greater a b) b ≡ false
+unfolding greater
+greater-right a b = go (lt b a) refl
+  where
+    go : (t : Bool) → lt b a ≡ t → lt (cond t a b) b ≡ false
+    go true e = lt-asymmetric b a e
+    go false e = lt-irrefl b
+
+not-below-nan : (x : Float) → cond (lt x nan) x nan ≡ nan
+unfolding lt
+not-below-nan nan = refl
+not-below-nan (inf s) = refl
+not-below-nan (fin s m e) = refl
+
+-- nothing is above infinity
+pub not-above-inf : (x : Float) → lt (inf false) x ≡ false
+unfolding lt
+not-above-inf nan = refl
+not-above-inf (inf s) = refl
+not-above-inf (fin s m e) = refl
+
+-- ---- of many
+
+module _ (g : ℕ → Float) where
+  pub least-more : (i : ℕ) (m x : Float) → m ≡ least g i → x ≡ g i → lesser m x ≡ least g (i + 1)
+  unfolding least
+  least-more i m x e h = rw (add-one, e, h)
+
+  -- where the members from some place on are no numbers, neither is the least
+  pub least-missing : (m n : ℕ) → m < n → ((j : ℕ) → m ≤ j → g j ≡ nan) → least g n ≡ nan
+  unfolding least lesser
+  least-missing m zero h w = absurd (omega arith)
+  least-missing m (suc n) h w = rw (w n (omega arith)) (not-below-nan (least g n))
+
+  pub least-real : (n : ℕ) → ((j : ℕ) → j < n → Real (g j)) → Real (least g n)
+  unfolding least isNan
+  least-real zero w = tt
+  least-real (suc n) w = lesser-real (least g n) (g n) (least-real n (λ j h. w j (omega arith))) (w n (omega arith))
+
+  -- no member is below the least
+  pub least-bounds : (n : ℕ) → ((j : ℕ) → j < n → Real (g j)) → (j : ℕ) → j < n → lt (g j) (least g n) ≡ false
+  unfolding least
+  least-bounds zero w j h = absurd (omega arith)
+  least-bounds (suc n) w j h =
+      below-more (λ (j : ℕ). lt (g j) (lesser (least g n) (g n)) ≡ false) n
+      (λ j h. lesser-left (least g n) (g n) (g j) (least-real n (λ i p. w i (omega arith))) (least-bounds n (λ i p. w i (omega arith)) j h))
+      (lesser-right (least g n) (g n))
+      j (omega arith)
+
+  -- the least of some numbers is one of them
+  pub least-attained : (n : ℕ) → (j : ℕ) × (j < suc n) × (least g (suc n) ≡ g j)
+  unfolding least lesser
+  least-attained zero = (0, omega arith, rw (not-above-inf (g 0)))
+  least-attained (suc n) = go (lt (least g (suc n)) (g (suc n))) (least-attained n)
+    where
+      go : (t : Bool) → (j : ℕ) × (j < suc n) × (least g (suc n) ≡ g j) → (j : ℕ) × (j < suc (suc n)) × (cond t (least g (suc n)) (g (suc n)) ≡ g j)
+      go true w = (w .0, omega (arith, w .1), w .2)
+      go false w = (suc n, omega arith, refl)
+
+module _ (z : Float) (g : ℕ → Float) where
+  pub greatest-more : (i : ℕ) (m x : Float) → m ≡ greatest z g i → x ≡ g i → greater m x ≡ greatest z g (i + 1)
+  unfolding greatest
+  greatest-more i m x e h = rw (add-one, e, h)
+
+  pub greatest-real : (n : ℕ) → Real z → ((j : ℕ) → j < n → Real (g j)) → Real (greatest z g n)
+  unfolding greatest
+  greatest-real zero r w = r
+  greatest-real (suc n) r w = greater-real (greatest z g n) (g n) (greatest-real n r (λ j h. w j (omega arith))) (w n (omega arith))
+
+  -- no member is above the greatest
+  pub greatest-bounds : (n : ℕ) → Real z → ((j : ℕ) → j < n → Real (g j)) → (j : ℕ) → j < n → lt (greatest z g n) (g j) ≡ false
+  unfolding greatest
+  greatest-bounds zero r w j h = absurd (omega arith)
+  greatest-bounds (suc n) r w j h =
+      below-more (λ (j : ℕ). lt (greater (greatest z g n) (g n)) (g j) ≡ false) n
+      (λ j h. greater-left (greatest z g n) (g n) (g j) (greatest-real n r (λ i p. w i (omega arith))) (greatest-bounds n r (λ i p. w i (omega arith)) j h))
+      (greater-right (greatest z g n) (g n))
+      j (omega arith)
+
+  -- the greatest is where it starts from, or one of them
+  pub greatest-attained : (n : ℕ) → (greatest z g n ≡ z) ⊎ ((j : ℕ) × (j < n) × (greatest z g n ≡ g j))
+  unfolding greatest greater
+  greatest-attained zero = inl refl
+  greatest-attained (suc n) = go (lt (g n) (greatest z g n)) (greatest-attained n)
+    where
+      go : (t : Bool) → (greatest z g n ≡ z) ⊎ ((j : ℕ) × (j < n) × (greatest z g n ≡ g j))
+          → (cond t (greatest z g n) (g n) ≡ z) ⊎ ((j : ℕ) × (j < suc n) × (cond t (greatest z g n) (g n) ≡ g j))
+      go true (inl e) = inl e
+      go true (inr w) = inr (w .0, omega (arith, w .1), w .2)
+      go false w = inr (n, omega arith, refl)

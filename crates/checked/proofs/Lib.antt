@@ -1,0 +1,9 @@
+pub mod Chosen
+pub mod Each
+pub mod Copy
+pub mod Absorbing
+pub mod Sums
+pub mod Told
+pub mod Ordered
+pub mod Extremes
+pub mod Sign

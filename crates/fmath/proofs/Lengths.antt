@@ -1,0 +1,62 @@
+-- norm and dist: they tell of each number on the way, they are a NaN where a coordinate is missing, and the loops that sum up end in them.
+use Prim.Native.Nat.{ℕ, _<_}
+use mathlib.Core.Path.{_≡_, refl}
+use mathlib.Core.List.{List}
+use native.Mathlib.Nat.{le-refl}
+use lib.ListN.{length, List·getD-eq-default}
+use lib.Ieee.{Float, Format, nan, sub}
+use Rattle.root.specs.Root.{rootOf}
+use Rattle.checked.specs.Each.{at}
+use Rattle.checked.specs.Finite.{finite, +0}
+use Rattle.checked.specs.Checked.{sumFrom}
+use Rattle.fmath.specs.Norm.{squareAt, norm, squaredGap, dist}
+use Rattle.checked.proofs.Absorbing.{fine-mul-left, fine-root, sub-nan, nan-sub, nan-mul, root-nan}
+use Rattle.checked.proofs.Sums.{sum-nan}
+use Rattle.checked.proofs.Told.{Tells, implied, told, sum-tells}
+
+-- the entry after the last
+past : (v : List Float) → at v (length v) ≡ nan
+past v = List·getD-eq-default v nan (le-refl (length v))
+
+module _ (f : Format) where
+  pub gap-tells : (a b : List Float) (j : ℕ) → Tells (squaredGap f a b j)
+  unfolding squaredGap
+  gap-tells a b j = implied _ _ (fine-mul-left f (sub f (at a j) (at b j)) (sub f (at a j) (at b j)))
+
+  pub square-tells : (v : List Float) (j : ℕ) → Tells (squareAt f v j)
+  unfolding squareAt
+  square-tells v j = refl
+
+  pub dist-tells : (a b : List Float) (n : ℕ) → Tells (dist f a b n)
+  unfolding dist finite
+  dist-tells a b n = told _ _ _ (sum-tells f +0 (squaredGap f a b) refl (gap-tells a b) n) (fine-root f (sumFrom f +0 (squaredGap f a b) n .value))
+
+  pub norm-tells : (v : List Float) (n : ℕ) → Tells (norm f v n)
+  unfolding norm finite
+  norm-tells v n = told _ _ _ (sum-tells f +0 (squareAt f v) refl (square-tells v) n) (fine-root f (sumFrom f +0 (squareAt f v) n .value))
+
+  pub norm-missing : (v : List Float) (n : ℕ) → length v < n → norm f v n .value ≡ nan
+  unfolding norm squareAt
+  norm-missing v n h =
+      rw (sum-nan f +0 (squareAt f v) n (length v) h (rw (past v) (nan-mul f nan))) (root-nan f)
+
+  gap-missing : (a b : List Float) (n j : ℕ) → j < n → squaredGap f a b j .value ≡ nan → dist f a b n .value ≡ nan
+  unfolding dist
+  gap-missing a b n j h e = rw (sum-nan f +0 (squaredGap f a b) n j h e) (root-nan f)
+
+  pub dist-missing-left : (a b : List Float) (n : ℕ) → length a < n → dist f a b n .value ≡ nan
+  unfolding squaredGap
+  dist-missing-left a b n h = gap-missing a b n (length a) h (rw (past a, nan-sub f (at b (length a))) (nan-mul f nan))
+
+  pub dist-missing-right : (a b : List Float) (n : ℕ) → length b < n → dist f a b n .value ≡ nan
+  unfolding squaredGap
+  dist-missing-right a b n h = gap-missing a b n (length b) h (rw (past b, sub-nan f (at a (length b))) (nan-mul f nan))
+
+  -- the root at the end of a loop
+  pub norm-done : (v : List Float) (n i : ℕ) (s r : Float) → s ≡ sumFrom f +0 (squareAt f v) i .value → i ≡ n → r ≡ rootOf f s → r ≡ norm f v n .value
+  unfolding norm
+  norm-done v n i s r e h g = rw (g, e, h)
+
+  pub dist-done : (a b : List Float) (n i : ℕ) (s r : Float) → s ≡ sumFrom f +0 (squaredGap f a b) i .value → i ≡ n → r ≡ rootOf f s → r ≡ dist f a b n .value
+  unfolding dist
+  dist-done a b n i s r e h g = rw (g, e, h)

@@ -1,0 +1,114 @@
+// The features of the trail, and all twelve of a tick.
+ghost use mathlib.Core.Path.{_≡_};
+ghost use Prim.Native.Nat.{_^_, _<_};
+ghost use lib.Dec.{leb};
+ghost use lib.Ieee.{binary64};
+ghost use Rattle.tier1.specs.Rule.{pathIneff, stall, ifThere, validAt, valueAt, twelve};
+ghost use Rattle.envelope.specs.Derive.{kept};
+ghost use Rattle.tier1.specs.Of.{pairFrom, gatheredFrom, twelveFrom};
+use crate::AllFeatures;
+use crate::EPS;
+use crate::Feature;
+use crate::Manifest;
+use crate::Pair;
+use crate::held::absent_pair;
+use conformal::Feat;
+use window::Trail;
+
+// PathIneff and Stall of the last 20 samples. The way and the quotient are tested, since greatest and least hide them.
+fn moving(m: Manifest, t: Trail) -> Pair
+    ensures { λ r. ⌜ r ≡ pairFrom (ifThere (leb 20 (t .len)) (pathIneff binary64 m t)) (ifThere (leb 20 (t .len)) (stall binary64 m t)) ⌝ }
+{
+    if t.len < 20 {
+        return absent_pair();
+    }
+    let n = t.displacement(m.pos_dim, 20);
+    let p = t.travelled(m.pos_dim, 20);
+    let first = 1.0 - n / fmath::max(p, EPS);
+    let away = 0.05 * m.iso / m.dt * 20.0 * m.dt;
+    let part = n / away;
+    let second = 1.0 - fmath::min(1.0, part);
+    let u = fmath::finite(p);
+    let v = fmath::finite(first);
+    let w = fmath::finite(away);
+    let x = fmath::finite(part);
+    let y = fmath::finite(second);
+    Pair {
+        first,
+        second,
+        sound: (u & v) & ((w & x) & y),
+    }
+}
+
+// Whether feature j, whose bit has the weight w, is valid.
+fn valid_at(held: u32, len: u8, ext: usize, j: usize, w: u32) -> bool
+    requires { ⌜ (0 < w) × (w ≡ 2 ^ j) ⌝ }
+    ensures { λ r. ⌜ r ≡ validAt held len ext j ⌝ }
+{
+    if j < Feat::PATH_INEFF {
+        return held / w % 2 == 1;
+    }
+    if j < Feat::EXT0 {
+        return 20 <= len;
+    }
+    j - Feat::EXT0 < ext
+}
+
+// Feature j, 0.0 where it is not valid.
+fn feature_at<'a>(on: bool, held: &'a [f64; 6], trail: &'a [f64; 2], ext: &[f64], j: usize) -> f64
+    ensures { λ r. ⌜ r ≡ kept on (valueAt (now (held .entry)) (now (trail .entry)) (now (ext .entry)) j) ⌝ }
+{
+    if !on {
+        return 0.0;
+    }
+    if j < Feat::PATH_INEFF {
+        return held[j];
+    }
+    if j < Feat::EXT0 {
+        return trail[j - Feat::PATH_INEFF];
+    }
+    if j - Feat::EXT0 < ext.len() {
+        return ext[j - Feat::EXT0];
+    }
+    0.0 / 0.0
+}
+
+// The held features, those of the trail and the external ones, with their bits.
+fn gathered(
+    held: [f64; 6],
+    held_valid: u32,
+    len: u8,
+    trail: [f64; 2],
+    sound: bool,
+    ext: &[f64],
+) -> AllFeatures
+    ensures { λ r. ⌜ r ≡ gatheredFrom held «held_valid» len trail sound (now (ext .entry)) ⌝ }
+{
+    let mut f = [0.0; 12];
+    let mut valid = 0u32;
+    let mut w = 1u32;
+    let mut j = 0usize;
+    while j < Feat::COUNT {
+        let on = valid_at(held_valid, len, ext.len(), j, w);
+        f[j] = feature_at(on, &held, &trail, ext, j);
+        valid += bits::weight(on, w);
+        w *= 2;
+        j += 1;
+    }
+    AllFeatures { f, valid, sound }
+}
+
+// All twelve features of a tick.
+pub(crate) fn twelve(
+    m: Manifest,
+    t: Trail,
+    held: [f64; 6],
+    held_valid: u32,
+    ext: &[f64],
+) -> AllFeatures
+    ensures { λ r. ⌜ r ≡ twelveFrom (twelve binary64 m t held «held_valid» (now (ext .entry))) ⌝ }
+{
+    let p = moving(m, t);
+    let trail = [p.first, p.second];
+    gathered(held, held_valid, t.len, trail, p.sound, ext)
+}
