@@ -10,8 +10,9 @@ use Rattle.checked.specs.Each.{all}
 use Rattle.checked.specs.Finite.{+0}
 use Rattle.rollout.specs.Plant.{State}
 use Rattle.rollout.specs.Forecast.{Forecast, fine, reached, placeOf, marginOf}
-use Rattle.rollout.specs.Of.{runOf, reckonedFrom}
-use Rattle.rollout.specs.declared.Reckoned.{Reckoned}
+use Rattle.rollout.specs.Of.{runOf}
+use Rattle.checked.specs.Of.{reckonedFrom}
+use Rattle.checked.specs.declared.Reckoned.{Reckoned}
 use Rattle.rollout.specs.declared.Run.{Run}
 use Rattle.rollout.proofs.Reach.{reach-whole, reach-le}
 use Rattle.brake.specs.declared.BrakeOut.the-variants as out

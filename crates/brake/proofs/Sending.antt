@@ -30,9 +30,10 @@ use Rattle.workspace.specs.Of.{wallsOf}
 use Rattle.workspace.specs.declared.Workspace.{Workspace}
 use Rattle.brake.specs.declared.Sent.{Sent}
 use Rattle.brake.specs.declared.Sent.the-variants as sent
-use Rattle.brake.specs.declared.Row.{Row}
+use Rattle.checked.specs.declared.Row.{Row}
 use Rattle.brake.specs.Rule.{setpoint, brakeRow, holdRow}
-use Rattle.brake.specs.Of.{workspaceFor, rowFrom}
+use Rattle.brake.specs.Of.{workspaceFor}
+use Rattle.checked.specs.Of.{rowFrom}
 use Rattle.brake.specs.Answer.{rowLent, sentAt, rowAt, brakeSent, brakeRefusal, brakeAnswer, brakeOutput, holdRefusal, holdAnswer, holdOutput}
 
 -- ---- position kinds

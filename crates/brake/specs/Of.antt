@@ -3,7 +3,6 @@ use Prim.Native.Nat.{ℕ, suc, _*_, _≤_}
 use mathlib.Core.Path.{_≡_}
 use mathlib.Core.List.{List}
 use lib.Ieee.{Float, binary64}
-use Rattle.checked.specs.Checked.{Checked}
 use Rattle.envelope.specs.Derive.{derived}
 use Rattle.envelope.specs.Steps.{substepsIn}
 use Rattle.envelope.specs.declared.BrakeKind.{BrakeKind}
@@ -14,7 +13,6 @@ use Rattle.workspace.specs.declared.Workspace.{Workspace}
 use Rattle.rollout.specs.declared.Course.{Course}
 use Rattle.rollout.specs.declared.Plant.{Plant}
 use Rattle.rollout.specs.Rule.{rowsLeft}
-use Rattle.brake.specs.declared.Row.{Row}
 use Rattle.brake.specs.Rule.{live, eight}
 
 abbrev pub workspaceFor : FuseConfig → Workspace
@@ -33,9 +31,6 @@ courseFor c h d from = record {
 
 abbrev pub startFor : FuseConfig → List Float → List Float → Plant
 startFor c p v = record { p = eight p (live c); v = eight v (live c) }
-
-abbrev pub rowFrom : Checked (List Float) → Row
-rowFrom x = record { at = x .value; sound = x .sound }
 
 -- how many entries a forecast has: N, or one for the start and one for each row
 abbrev pub countFor : BrakeModel → BrakeKind → ℕ → ℕ

@@ -18,7 +18,10 @@ ghost use Rattle.stopping.specs.Rule as stopping-rule;
 ghost use Rattle.stopping.specs.Of as stopped;
 ghost use Rattle.brake.specs.Rule.{armOf, forecastOf, setpoint, ramp, scaledAt, slowed, slower, shorter, brakeRow, holdRow};
 ghost use Rattle.brake.specs.Answer.{tooShort, outcome, lentJudged, forecastAnswer, forecastSlacks, rowLent, brakeAnswer, brakeOutput, holdAnswer, holdOutput};
-ghost use Rattle.brake.specs.Of.{workspaceFor, courseFor, startFor, rowFrom, countFor, Planned};
+ghost use Rattle.brake.specs.Of.{workspaceFor, courseFor, startFor, countFor, Planned};
+ghost use Rattle.checked.specs.Of.{rowFrom};
+use checked::Reckoned;
+use checked::Row;
 use envelope::ActionKind;
 use envelope::BrakeKind;
 use envelope::BrakeModel;
@@ -27,7 +30,6 @@ use refusal::Refusal;
 use rollout::Course;
 use rollout::Law;
 use rollout::Plant;
-use rollout::Reckoned;
 use rollout::Run;
 use stopping::Arm;
 use workspace::Workspace;
@@ -47,12 +49,6 @@ pub enum BrakeOut {
 pub enum Sent {
     Done,
     Refused(Refusal),
-}
-
-// A row, and whether each number computed on the way is finite.
-struct Row {
-    at: [f64; 8],
-    sound: bool,
 }
 
 // The walls that module 4 derives.

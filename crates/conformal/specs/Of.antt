@@ -5,12 +5,8 @@ use mathlib.Core.List.{List}
 use lib.Ieee.{Float}
 use Rattle.checked.specs.Checked.{Checked}
 use Rattle.conformal.specs.Rule.{liveTerm, leastOf}
-use Rattle.conformal.specs.declared.OneZ.{OneZ}
 use Rattle.conformal.specs.declared.AllZ.{AllZ}
 use Rattle.conformal.specs.declared.Joined.{Joined}
-
-abbrev pub standardFrom : Checked Float → OneZ
-standardFrom x = record { z = x .value; sound = x .sound }
 
 abbrev pub standardsFrom : Checked (List Float) → AllZ
 standardsFrom x = record { z = x .value; sound = x .sound }

@@ -9,7 +9,9 @@ ghost use Rattle.bits.specs.Bits.{bit};
 ghost use Rattle.conformal.specs.Rule.{live, standard, standards, aggregate, firedBits};
 ghost use Rattle.conformal.specs.Refusals.{sizesOk, numbersOk, scoresOk};
 ghost use Rattle.conformal.specs.Answer.{judged, scored, standardised, aggregated, tripped, timeBinOf};
-ghost use Rattle.conformal.specs.Of.{standardFrom, standardsFrom, termFrom};
+ghost use Rattle.checked.specs.Of.{reckonedFrom};
+ghost use Rattle.conformal.specs.Of.{standardsFrom, termFrom};
+use checked::Reckoned;
 use refusal::Refusal;
 
 // The bits of the twelve features.
@@ -95,12 +97,6 @@ pub enum TimeBin {
 // The z of all features; `sound` says that each number computed on the way is finite.
 struct AllZ {
     z: [f64; 12],
-    sound: bool,
-}
-
-// z of one feature, likewise.
-struct OneZ {
-    z: f64,
     sound: bool,
 }
 
@@ -196,18 +192,21 @@ fn bit(w: u32, j: usize) -> bool
 }
 
 // z of one feature.
-fn standard(live: bool, x: f64, center: f64, scale: f64) -> OneZ
-    ensures { λ r. ⌜ r ≡ standardFrom (standard binary64 live x center scale) ⌝ }
+fn standard(live: bool, x: f64, center: f64, scale: f64) -> Reckoned
+    ensures { λ r. ⌜ r ≡ reckonedFrom (standard binary64 live x center scale) ⌝ }
 {
     let d = x - center;
     let z = d / scale;
     let a = fmath::finite(d);
     let b = fmath::finite(z);
     if live {
-        OneZ { z, sound: a & b }
+        Reckoned {
+            value: z,
+            sound: a & b,
+        }
     } else {
-        OneZ {
-            z: 0.0,
+        Reckoned {
+            value: 0.0,
             sound: true,
         }
     }
@@ -238,7 +237,7 @@ fn standards<'a>(
     while j < 12 {
         let live = bit(mask, j) & bit(valid, j);
         let one = standard(live, x[j], center[row + j], scale[row + j]);
-        z[j] = one.z;
+        z[j] = one.value;
         sound = sound & one.sound;
         j += 1;
     }

@@ -13,9 +13,10 @@ use Rattle.checked.specs.Least.{lesser, least}
 use Rattle.checked.proofs.Each.{_&&≡_, over-more, all-at, all-from}
 use Rattle.checked.proofs.Extremes.{least-more}
 use Rattle.workspace.specs.declared.Workspace.{Workspace}
-use Rattle.workspace.specs.declared.Distance.{Distance}
+use Rattle.checked.specs.declared.Reckoned.{Reckoned}
 use Rattle.workspace.specs.Rule.{Walls, slack}
-use Rattle.workspace.specs.Of.{wallsOf, distanceFrom}
+use Rattle.workspace.specs.Of.{wallsOf}
+use Rattle.checked.specs.Of.{reckonedFrom}
 use Rattle.rollout.specs.declared.Law.{Law}
 use Rattle.rollout.specs.declared.Plant.{Plant}
 use Rattle.rollout.specs.declared.Run.{Run}
@@ -98,7 +99,7 @@ module _
     (f : Format) (t : Task) (l : List Float) (k : ℕ) (r : Run) (out : List Float) (g : Law) (w : Workspace) (n : ℕ) (a : List Float)
     (u : Under t g w n) (h : Along f t l k r out) (go : Towards f t k 1 a r) (s : r .sound ≡ true) (axes : n ≤ length (r .plant .p))
     (next : Plant) (e : stateOf next ≡ substep f (gainsOf g) a n (stateOf (r .plant)) .value)
-    (d : Distance) (v : d ≡ distanceFrom (slack f (wallsOf w) (next .p) n)) where
+    (d : Reckoned) (v : d ≡ reckonedFrom (slack f (wallsOf w) (next .p) n)) where
   aims : aim f t k ≡ a
   aims = ap (aim f t) (sym (add-zero k)) ∙ go s 0 (omega arith)
 
@@ -109,24 +110,24 @@ module _
   stepped = e ∙ sym (ap (λ (x : Gains). substep f x a (t .n) (stateOf (r .plant)) .value) (u .gains) ∙ ap (λ (x : ℕ). substep f (gainsOf g) a x (stateOf (r .plant)) .value) (u .live))
 
   -- the slack that the code takes is the task's
-  distance-is : d ≡ distanceFrom (slack f (t .walls) (substep f (t .gains) a (t .n) (stateOf (r .plant)) .value .p) (t .n))
+  distance-is : d ≡ reckonedFrom (slack f (t .walls) (substep f (t .gains) a (t .n) (stateOf (r .plant)) .value .p) (t .n))
   distance-is =
       v
-      ∙ ap (λ (x : State). distanceFrom (slack f (wallsOf w) (x .p) n)) stepped
+      ∙ ap (λ (x : State). reckonedFrom (slack f (wallsOf w) (x .p) n)) stepped
       ∙ sym
-      (ap (λ (x : Walls). distanceFrom (slack f x (substep f (t .gains) a (t .n) (stateOf (r .plant)) .value .p) (t .n))) (u .walls)
-      ∙ ap (λ (x : ℕ). distanceFrom (slack f (wallsOf w) (substep f (t .gains) a (t .n) (stateOf (r .plant)) .value .p) x)) (u .live))
+      (ap (λ (x : Walls). reckonedFrom (slack f x (substep f (t .gains) a (t .n) (stateOf (r .plant)) .value .p) (t .n))) (u .walls)
+      ∙ ap (λ (x : ℕ). reckonedFrom (slack f (wallsOf w) (substep f (t .gains) a (t .n) (stateOf (r .plant)) .value .p) x)) (u .live))
 
   fine-is : d .sound ≡ fine (forecast f t) k
-  fine-is = ap (λ (x : Distance). x .sound) distance-is ∙ next-fine f t k a (stateOf (r .plant)) aims from (rw (u .live) axes)
+  fine-is = ap (λ (x : Reckoned). x .sound) distance-is ∙ next-fine f t k a (stateOf (r .plant)) aims from (rw (u .live) axes)
 
   pub turn-fails : d .sound ≡ false → Along f t l (k + 1) (record { plant = r .plant; margin = r .margin; done = r .done; sound = false }) out
   turn-fails b = along-fails (forecast f t) (after f t) l k r out h s (sym fine-is ∙ b)
 
-  pub turn-advances : d .sound ≡ true → (m : Float) → m ≡ lesser (r .margin) (d .least) → Along f t l (k + 1) (record { plant = next; margin = m; done = r .done + 1; sound = true }) (set out (r .done) (d .least))
+  pub turn-advances : d .sound ≡ true → (m : Float) → m ≡ lesser (r .margin) (d .value) → Along f t l (k + 1) (record { plant = next; margin = m; done = r .done + 1; sound = true }) (set out (r .done) (d .value))
   turn-advances b m c =
-      along-advances (forecast f t) (after f t) l k r out h s (sym fine-is ∙ b) next (stepped ∙ next-state f t k a (stateOf (r .plant)) aims from) (d .least)
-      (ap (λ (x : Distance). x .least) distance-is ∙ next-slack f t k a (stateOf (r .plant)) aims from) m c
+      along-advances (forecast f t) (after f t) l k r out h s (sym fine-is ∙ b) next (stepped ∙ next-state f t k a (stateOf (r .plant)) aims from) (d .value)
+      (ap (λ (x : Reckoned). x .value) distance-is ∙ next-slack f t k a (stateOf (r .plant)) aims from) m c
 
 -- a run that still goes did so before, so it goes towards the setpoint that it was given
 pub towards-next : (f : Format) (t : Task) (l : List Float) (k count i : ℕ) (a : List Float) (r₀ r : Run) (out₀ out : List Float)

@@ -14,9 +14,10 @@ use Rattle.checked.specs.Each.{at, over}
 use Rattle.checked.specs.Least.{lesser}
 use Rattle.checked.proofs.Each.{length-over, over-at, over-keeps}
 use Rattle.workspace.specs.declared.Workspace.{Workspace}
-use Rattle.workspace.specs.declared.Distance.{Distance}
+use Rattle.checked.specs.declared.Reckoned.{Reckoned}
 use Rattle.workspace.specs.Rule.{slack}
-use Rattle.workspace.specs.Of.{wallsOf, distanceFrom}
+use Rattle.workspace.specs.Of.{wallsOf}
+use Rattle.checked.specs.Of.{reckonedFrom}
 use Rattle.workspace.proofs.Gaps.{slack-same}
 use Rattle.rollout.specs.declared.Law.{Law}
 use Rattle.rollout.specs.declared.Plant.{Plant}
@@ -105,14 +106,14 @@ module _
     (u : Under t g w n) (h : Along f t l k (running moved still n margin done) out) (go : Towards f t k 1 a (running moved still n margin done)) (axes : n ≤ 8)
     (lp : length (moved .p) ≡ 8) (lv : length (moved .v) ≡ 8) (sp : length (still .p) ≡ 8) (sv : length (still .v) ≡ 8) (same : (j : ℕ) → j < n → at aim j ≡ at a j)
     (next : Plant) (e : stateOf next ≡ substep f (gainsOf g) aim 8 (stateOf moved) .value)
-    (d : Distance) (v : d ≡ distanceFrom (slack f (wallsOf w) (next .p) n)) where
+    (d : Reckoned) (v : d ≡ reckonedFrom (slack f (wallsOf w) (next .p) n)) where
   steps : stateOf (joinedOf next still n) ≡ substep f (gainsOf g) a n (stateOf (joinedOf moved still n)) .value
   steps =
       ap (λ (q : State). record { p = over (at (q .p)) (still .p) n; v = over (at (q .v)) (still .v) n }) e
       ∙ abreast-moves f (gainsOf g) a aim (stateOf moved) (stateOf still) 8 n axes same (omega (arith, lp)) (omega (arith, lv)) (omega (arith, sp)) (omega (arith, sv))
 
-  measures : d ≡ distanceFrom (slack f (wallsOf w) (joinedOf next still n .p) n)
-  measures = v ∙ ap distanceFrom (slack-same f (wallsOf w) (next .p) (over (at (next .p)) (still .p) n) n (λ j b. sym (over-at (at (next .p)) (still .p) n j b (omega (arith, sp)))))
+  measures : d ≡ reckonedFrom (slack f (wallsOf w) (joinedOf next still n .p) n)
+  measures = v ∙ ap reckonedFrom (slack-same f (wallsOf w) (next .p) (over (at (next .p)) (still .p) n) n (λ j b. sym (over-at (at (next .p)) (still .p) n j b (omega (arith, sp)))))
 
   long : n ≤ length (joinedOf moved still n .p)
   long = omega (arith, length-over (at (moved .p)) (still .p) n, sp)
@@ -120,7 +121,7 @@ module _
   pub wide-fails : d .sound ≡ false → Along f t l (k + 1) (endedOf moved still n margin done false) out
   wide-fails = turn-fails f t l k (running moved still n margin done) out g w n a u h go refl long (joinedOf next still n) steps d measures
 
-  pub wide-advances : d .sound ≡ true → (m : Float) → m ≡ lesser margin (d .least) → Along f t l (k + 1) (running next still n m (done + 1)) (set out done (d .least))
+  pub wide-advances : d .sound ≡ true → (m : Float) → m ≡ lesser margin (d .value) → Along f t l (k + 1) (running next still n m (done + 1)) (set out done (d .value))
   wide-advances = turn-advances f t l k (running moved still n margin done) out g w n a u h go refl long (joinedOf next still n) steps d measures
 
 -- a run that goes

@@ -7,7 +7,6 @@ use lib.Dec.{leb, eqb}
 use lib.Ieee.{Float, Format, inf}
 use Rattle.checked.specs.Each.{at, all, over, every}
 use Rattle.checked.specs.Least.{least}
-use Rattle.checked.specs.Checked.{Checked}
 use Rattle.envelope.specs.declared.ControlSteps.{ControlSteps}
 use Rattle.envelope.specs.Steps.{substepsIn}
 use Rattle.workspace.specs.declared.Workspace.{Workspace}
@@ -17,7 +16,6 @@ use Rattle.rollout.specs.declared.Course.{Course}
 use Rattle.rollout.specs.declared.Law.{Law}
 use Rattle.rollout.specs.declared.Plant.{Plant}
 use Rattle.rollout.specs.declared.Run.{Run}
-use Rattle.rollout.specs.declared.Reckoned.{Reckoned}
 use Rattle.rollout.specs.Plant.{Gains, Motion, State}
 use Rattle.rollout.specs.Forecast.{Forecast, fine, slackAt, reach, reached}
 use Rattle.rollout.specs.Rule.{Task, rowsLeft, aim, after, forecast}
@@ -41,9 +39,6 @@ joinedOf moved still n = record { p = over (at (moved .p)) (still .p) n; v = ove
 -- a run that has come so far, with its plant joined of two
 abbrev pub endedOf : Plant → Plant → ℕ → Float → ℕ → Bool → Run
 endedOf moved still n margin done sound = record { plant = joinedOf moved still n; margin = margin; done = done; sound = sound }
-
-abbrev pub reckonedFrom : Checked Float → Reckoned
-reckonedFrom x = record { value = x .value; sound = x .sound }
 
 abbrev pub taskOf : Law → Workspace → Course → Plant → List Float → Task
 taskOf g w c s rows = record {

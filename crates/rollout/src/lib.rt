@@ -11,7 +11,9 @@ ghost use Rattle.rollout.specs.Plant.{axis, substep};
 ghost use Rattle.rollout.specs.Forecast.{writtenOf};
 ghost use Rattle.rollout.specs.Rule.{Task, rowsLeft, after, stopDistance, forecast};
 ghost use Rattle.rollout.specs.declared.Plant.{Plant};
-ghost use Rattle.rollout.specs.Of.{gainsOf, stateOf, movedFrom, joinedOf, endedOf, reckonedFrom, taskOf, Along, Towards, Under, leftOf, shaped, roomy, noRun, runOf};
+ghost use Rattle.rollout.specs.Of.{gainsOf, stateOf, movedFrom, joinedOf, endedOf, taskOf, Along, Towards, Under, leftOf, shaped, roomy, noRun, runOf};
+ghost use Rattle.checked.specs.Of.{reckonedFrom};
+use checked::Reckoned;
 use envelope::ControlSteps;
 use envelope::Substeps;
 use workspace::Workspace;
@@ -45,12 +47,6 @@ pub struct Run {
     pub plant: Plant,
     pub margin: f64,
     pub done: usize,
-    pub sound: bool,
-}
-
-// A number, and whether each number computed on the way is finite.
-pub struct Reckoned {
-    pub value: f64,
     pub sound: bool,
 }
 
@@ -108,8 +104,8 @@ fn advance(g: Law, w: Workspace, n: usize, a: &[f64], run: Run, slack: &mut [f64
         };
     }
     let at = run.done;
-    slack[at] = gap.least;
-    let margin = fmath::min(run.margin, gap.least);
+    slack[at] = gap.value;
+    let margin = fmath::min(run.margin, gap.value);
     Run {
         plant: next,
         margin,
@@ -200,8 +196,8 @@ fn abreast(
         if !room.sound {
             return ended(moved, still, n, margin, at, false);
         }
-        slack[at] = room.least;
-        margin = fmath::min(margin, room.least);
+        slack[at] = room.value;
+        margin = fmath::min(margin, room.value);
         moved = next;
         at += 1;
         s += 1;

@@ -9,20 +9,18 @@ use lib.Ieee.{Float, Format, inf}
 use Rattle.checked.specs.Least.{lesser}
 use Rattle.checked.proofs.Each.{and-left}
 use Rattle.checked.proofs.Told.{implied}
-use Rattle.workspace.specs.declared.Distance.{Distance}
+use Rattle.checked.specs.declared.Reckoned.{Reckoned}
 use Rattle.workspace.specs.Rule.{slackWithin}
-use Rattle.workspace.specs.Of.{distanceFrom}
+use Rattle.checked.specs.Of.{reckonedFrom, rowFrom}
 use Rattle.rollout.specs.declared.Plant.{Plant}
 use Rattle.rollout.specs.declared.Run.{Run}
 use Rattle.rollout.specs.Plant.{State}
 use Rattle.rollout.specs.Forecast.{fine, slackAt}
 use Rattle.rollout.specs.Of.{stateOf}
 use Rattle.rollout.proofs.Along.{stands-at, along-fails, along-advances, along-start}
-use Rattle.rollout.specs.declared.Reckoned.{Reckoned}
-use Rattle.stopping.specs.declared.Stepped.{Stepped}
+use Rattle.checked.specs.declared.Row.{Row}
 use Rattle.stopping.specs.Rule.{Task, rowAt, radius, command, step, reaction, gain, radiusAt, commandAt, stepAt, after, stand, entry, forecast}
-use Rattle.stopping.specs.Of.{Along, Under, steppedFrom, haltedAt}
-use Rattle.rollout.specs.Of.{reckonedFrom}
+use Rattle.stopping.specs.Of.{Along, Under, haltedAt}
 use Rattle.stopping.proofs.Told.{command-told}
 
 module _
@@ -30,8 +28,8 @@ module _
     (g wait : Float) (u : Under f t g wait) (a : List Float) (row : rowAt t k ≡ a) (axes : t .n ≤ length (r .plant .v))
     (v : List Float) (ev : v ≡ command f (t .arm .kind) (t .arm .dt) g a (stateOf (r .plant)) (t .n) .value)
     (reach : Reckoned) (er : reach ≡ reckonedFrom (radius f (t .arm .brake) (t .arm .«a_max») (t .arm .«j_max») wait v (t .n)))
-    (d : Distance) (ed : d ≡ distanceFrom (slackWithin f (t .walls) (reach .value) (r .plant .p) (t .n)))
-    (next : Stepped) (en : next ≡ steppedFrom (step f (t .arm .dt) v (r .plant .p) (t .n))) where
+    (d : Reckoned) (ed : d ≡ reckonedFrom (slackWithin f (t .walls) (reach .value) (r .plant .p) (t .n)))
+    (next : Row) (en : next ≡ rowFrom (step f (t .arm .dt) v (r .plant .p) (t .n))) where
   from : stateOf (r .plant) ≡ after f t k
   unfolding stand
   from = stands-at (forecast f t) (stand f t) l (suc k) r out h s
@@ -59,12 +57,12 @@ module _
       ∙ implied _ _ (λ b. command-told f (t .arm .kind) (t .arm .dt) (gain f t .value) (rowAt t k) (stateOf (r .plant)) (t .n) axes (t .arm .brake) (t .arm .«a_max») (t .arm .«j_max») (reaction f t .value) (and-left _ _ b))
       ∙ tested
 
-  slack-is : d .least ≡ slackAt (forecast f t) (suc k)
+  slack-is : d .value ≡ slackAt (forecast f t) (suc k)
   unfolding entry
   slack-is =
       rw (ed, reach-is, v-is) (ap (λ (q : State). slackWithin f (t .walls) (radiusAt f t (commandAt f t k q .value) .value) (q .p) (t .n) .value) from)
 
-  next-is : _≡_ {A = State} (record { p = next .p; v = v }) (stand f t (suc k + 1))
+  next-is : _≡_ {A = State} (record { p = next .at; v = v }) (stand f t (suc k + 1))
   unfolding stand after
   next-is =
       rw (add-one, en, v-is)
@@ -73,16 +71,16 @@ module _
   pub turn-fails : reach .sound && (d .sound && next .sound) ≡ false → Along f t l (suc k + 1) (haltedAt (r .plant) (r .margin) (r .done)) out
   turn-fails b = along-fails (forecast f t) (stand f t) l (suc k) r out h s (fine-is ∙ b)
 
-  pub turn-advances : reach .sound && (d .sound && next .sound) ≡ true → (m : Float) → m ≡ lesser (r .margin) (d .least)
-      → Along f t l (suc k + 1) (record { plant = record { p = next .p; v = v }; margin = m; done = r .done + 1; sound = true }) (set out (r .done) (d .least))
+  pub turn-advances : reach .sound && (d .sound && next .sound) ≡ true → (m : Float) → m ≡ lesser (r .margin) (d .value)
+      → Along f t l (suc k + 1) (record { plant = record { p = next .at; v = v }; margin = m; done = r .done + 1; sound = true }) (set out (r .done) (d .value))
   turn-advances b m c =
-      along-advances (forecast f t) (stand f t) l (suc k) r out h s (fine-is ∙ b) (record { p = next .p; v = v }) next-is (d .least) slack-is m c
+      along-advances (forecast f t) (stand f t) l (suc k) r out h s (fine-is ∙ b) (record { p = next .at; v = v }) next-is (d .value) slack-is m c
 
 -- the start's entry, from what the code computes of it
 module _
     (f : Format) (t : Task) (l : List Float) (q : Plant) (eq : stateOf q ≡ t .start) (g : Reckoned) (eg : reckonedFrom (gain f t) ≡ g) (wait : Reckoned) (ew : reckonedFrom (reaction f t) ≡ wait)
     (reach : Reckoned) (er : reach ≡ reckonedFrom (radius f (t .arm .brake) (t .arm .«a_max») (t .arm .«j_max») (wait .value) (q .v) (t .n)))
-    (d : Distance) (ed : d ≡ distanceFrom (slackWithin f (t .walls) (reach .value) (q .p) (t .n))) where
+    (d : Reckoned) (ed : d ≡ reckonedFrom (slackWithin f (t .walls) (reach .value) (q .p) (t .n))) where
   abbrev first : Run
   first = record { plant = q; margin = inf false; done = 0; sound = true }
 
@@ -94,14 +92,14 @@ module _
   unfolding entry
   start-fine = rw (ed, er, ← ew, ← eg) (ap (λ (s : State). reaction f t .sound && (gain f t .sound && (radiusAt f t (s .v) .sound && slackWithin f (t .walls) (radiusAt f t (s .v) .value) (s .p) (t .n) .sound))) (sym eq))
 
-  start-slack : d .least ≡ slackAt (forecast f t) 0
+  start-slack : d .value ≡ slackAt (forecast f t) 0
   unfolding entry
   start-slack = rw (ed, er, ← ew) (ap (λ (s : State). slackWithin f (t .walls) (radiusAt f t (s .v) .value) (s .p) (t .n) .value) eq)
 
   pub start-fails : wait .sound && (g .sound && (reach .sound && d .sound)) ≡ false → Along f t l 1 (haltedAt q (inf false) 0) l
   start-fails b = along-fails (forecast f t) (stand f t) l 0 first l at-start refl (start-fine ∙ b)
 
-  pub start-enters : wait .sound && (g .sound && (reach .sound && d .sound)) ≡ true → (m : Float) → m ≡ lesser (inf false) (d .least)
-      → Along f t l 1 (record { plant = q; margin = m; done = 1; sound = true }) (set l 0 (d .least))
+  pub start-enters : wait .sound && (g .sound && (reach .sound && d .sound)) ≡ true → (m : Float) → m ≡ lesser (inf false) (d .value)
+      → Along f t l 1 (record { plant = q; margin = m; done = 1; sound = true }) (set l 0 (d .value))
   unfolding stand after
-  start-enters b m c = along-advances (forecast f t) (stand f t) l 0 first l at-start refl (start-fine ∙ b) q eq (d .least) start-slack m c
+  start-enters b m c = along-advances (forecast f t) (stand f t) l 0 first l at-start refl (start-fine ∙ b) q eq (d .value) start-slack m c

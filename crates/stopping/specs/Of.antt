@@ -15,12 +15,7 @@ use Rattle.rollout.specs.Of.{stateOf, Ran, leftOf, shaped}
 use Rattle.stopping.specs.declared.Arm.{Arm}
 use Rattle.stopping.specs.Rule.{Task, reaction, gain, stand, forecast}
 use Rattle.checked.specs.Finite.{finite}
-use Rattle.checked.specs.Checked.{Checked}
-use Rattle.rollout.specs.declared.Reckoned.{Reckoned}
-use Rattle.stopping.specs.declared.Stepped.{Stepped}
-
-abbrev pub steppedFrom : Checked (List Float) → Stepped
-steppedFrom x = record { p = x .value; sound = x .sound }
+use Rattle.checked.specs.declared.Reckoned.{Reckoned}
 
 -- the sum of two reckoned numbers
 abbrev pub sumOf : Format → Reckoned → Reckoned → Reckoned

@@ -8,16 +8,18 @@ ghost use lib.IntN.{pos};
 ghost use lib.Ieee.{Float, binary64, ofInt};
 ghost use Rattle.bits.specs.Choice.{if_then_else_};
 ghost use Rattle.stopping.specs.Rule.{ratio, ramp, ease, glide, radius, commanded, command, step, rowAt, gain, reaction, stand, stopDistance, forecast};
-ghost use Rattle.stopping.specs.Of.{steppedFrom, sumOf, taskOf, haltedAt, Along, Under, roomy};
+ghost use Rattle.checked.specs.Of.{rowFrom, reckonedFrom};
+ghost use Rattle.stopping.specs.Of.{sumOf, taskOf, haltedAt, Along, Under, roomy};
 ghost use Rattle.checked.specs.Checked.{times, divided};
 ghost use Rattle.rollout.specs.Forecast.{writtenOf};
-ghost use Rattle.rollout.specs.Of.{stateOf, reckonedFrom, leftOf, shaped, runOf, noRun};
+ghost use Rattle.rollout.specs.Of.{stateOf, leftOf, shaped, runOf, noRun};
 ghost use Rattle.rollout.specs.declared.Plant.{Plant};
+use checked::Reckoned;
+use checked::Row;
 use envelope::ActionKind;
 use envelope::BrakeKind;
 use rollout::Course;
 use rollout::Plant;
-use rollout::Reckoned;
 use rollout::Run;
 use workspace::Workspace;
 
@@ -28,12 +30,6 @@ pub struct Arm {
     pub dt: f64,
     pub a_max: f64,
     pub j_max: f64,
-}
-
-// Where a step leads, and whether each coordinate of it is finite.
-struct Stepped {
-    p: [f64; 8],
-    sound: bool,
 }
 
 fn quotient(k_p: f64, k_v: f64) -> Reckoned
@@ -142,9 +138,9 @@ fn command(arm: Arm, g: f64, a: &[f64], s: Plant, n: usize) -> [f64; 8]
 }
 
 // One Euler step of the first n axes.
-fn step(dt: f64, v: [f64; 8], p: [f64; 8], n: usize) -> Stepped
+fn step(dt: f64, v: [f64; 8], p: [f64; 8], n: usize) -> Row
     requires { ⌜ n ≤ 8 ⌝ }
-    ensures { λ r. ⌜ r ≡ steppedFrom (step binary64 dt v p n) ⌝ }
+    ensures { λ r. ⌜ r ≡ rowFrom (step binary64 dt v p n) ⌝ }
 {
     let mut r = p;
     let mut sound = true;
@@ -155,7 +151,7 @@ fn step(dt: f64, v: [f64; 8], p: [f64; 8], n: usize) -> Stepped
         sound = sound & fmath::finite(x);
         j += 1;
     }
-    Stepped { p: r, sound }
+    Row { at: r, sound }
 }
 
 // A run that goes no further than it has come.
@@ -194,13 +190,13 @@ fn row(
     let r = radius(arm, wait, v, n);
     let gap = workspace::slack_within(w, r.value, p, n);
     let next = step(arm.dt, v, p, n);
-    let there = next.p;
+    let there = next.at;
     if !(r.sound & (gap.sound & next.sound)) {
         return halted(plant, run.margin, run.done);
     }
     let at = run.done;
-    slack[at] = gap.least;
-    let margin = fmath::min(run.margin, gap.least);
+    slack[at] = gap.value;
+    let margin = fmath::min(run.margin, gap.value);
     Run {
         plant: Plant { p: there, v },
         margin,
@@ -257,8 +253,8 @@ fn begin(
     if !(wait.sound & (g.sound & (r.sound & gap.sound))) {
         return halted(start, inf, 0);
     }
-    slack[0] = gap.least;
-    let margin = fmath::min(inf, gap.least);
+    slack[0] = gap.value;
+    let margin = fmath::min(inf, gap.value);
     Run {
         plant: start,
         margin,

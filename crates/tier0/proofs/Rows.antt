@@ -29,13 +29,14 @@ use Rattle.tier0.specs.declared.Difference.{Difference}
 use Rattle.tier0.specs.declared.Difference.the-variants as D
 use Rattle.tier0.specs.declared.SlowZone.{SlowZone}
 use Rattle.tier0.specs.declared.Ruling.{Ruling}
-use Rattle.tier0.specs.declared.Row.{Row}
+use Rattle.checked.specs.declared.Row.{Row}
 use Rattle.tier0.specs.declared.Test.{Test}
 use Rattle.tier0.specs.declared.Stride.{Stride}
 use Rattle.tier0.specs.declared.Ran.{Ran}
 use Rattle.tier0.specs.Rule.{Slow, SPEED, arms, slowZone, outOfBox, outOfReach, tripBits, moves, moved, Projected}
 use Rattle.tier0.specs.Chunk.{rawRow, startRow, rowBefore, stepTo, peakStep, someLonger, someOutOfBox, someOf, bend, jolt, bends, jolts, exceeds, largeAt, further, tripOf, tooLarge, putRow, Run, nextRow, runRows, projectedRows, checkChunk}
-use Rattle.tier0.specs.Of.{slowOf, zoneFrom, rowFrom, testFrom, stepsFrom, runFrom, ranFrom, rulingFrom}
+use Rattle.tier0.specs.Of.{slowOf, zoneFrom, testFrom, stepsFrom, runFrom, ranFrom, rulingFrom}
+use Rattle.checked.specs.Of.{rowFrom}
 
 -- ---- one row
 

@@ -19,12 +19,13 @@ use Rattle.envelope.specs.declared.Contact.{Contact}
 use Rattle.envelope.specs.declared.Contact.the-variants as C
 use Rattle.tier0.specs.declared.Checks.{Checks}
 use Rattle.tier0.specs.declared.SlowZone.{SlowZone}
-use Rattle.tier0.specs.declared.Row.{Row}
+use Rattle.checked.specs.declared.Row.{Row}
 use Rattle.tier0.specs.declared.Test.{Test}
 use Rattle.tier0.specs.declared.Clamped.{Clamped}
 use Rattle.tier0.specs.declared.Verdict.{Verdict}
 use Rattle.tier0.specs.Rule.{Slow, WORKSPACE, SPEED, ACCEL, JERK, REACH, CONTACT, arms, shared, clear, seen, inZone, zoneIn, slowZone, outOfBox, outOfReach, bit, tripBits, shrink, towards, shortened, pulled, leash, boxed, leashed, reached, moves, moved, project, projection, checkAction}
-use Rattle.tier0.specs.Of.{slowOf, zoneFrom, rowFrom, testFrom, clampedFrom, verdictFrom}
+use Rattle.tier0.specs.Of.{slowOf, zoneFrom, testFrom, clampedFrom, verdictFrom}
+use Rattle.checked.specs.Of.{rowFrom}
 
 pub a-row : (x : Checked (List Float)) {r : List Float} {k : Bool} → r ≡ x .value → k ≡ x .sound → _≡_ {A = Row} (record { at = r; sound = k }) (rowFrom x)
 a-row x e h = rw (e, h)

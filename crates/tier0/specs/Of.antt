@@ -17,7 +17,6 @@ use Rattle.envelope.specs.declared.FuseConfig.{FuseConfig}
 use Rattle.tier0.specs.declared.Check.{Check}
 use Rattle.tier0.specs.declared.Checks.{Checks}
 use Rattle.tier0.specs.declared.SlowZone.{SlowZone}
-use Rattle.tier0.specs.declared.Row.{Row}
 use Rattle.tier0.specs.declared.Test.{Test}
 use Rattle.tier0.specs.declared.Clamped.{Clamped}
 use Rattle.tier0.specs.declared.Verdict.{Verdict}
@@ -57,9 +56,6 @@ slowOf z = record { inside = z .inside; step = z .step }
 
 abbrev pub zoneFrom : Checked Slow → SlowZone
 zoneFrom x = record { inside = x .value .inside; step = x .value .step; sound = x .sound }
-
-abbrev pub rowFrom : Checked (List Float) → Row
-rowFrom x = record { at = x .value; sound = x .sound }
 
 abbrev pub testFrom : Checked Bool → Test
 testFrom x = record { holds = x .value; sound = x .sound }

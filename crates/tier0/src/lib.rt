@@ -72,12 +72,6 @@ pub struct SlowZone {
     pub sound: bool,
 }
 
-// A row, with zeros up to eight numbers.
-pub struct Row {
-    pub at: [f64; 8],
-    pub sound: bool,
-}
-
 // The differences of rows that have a limit.
 pub enum Difference {
     Accel,

@@ -6,15 +6,16 @@ ghost use lib.Ieee.{binary64};
 ghost use Rattle.checked.specs.Checked.{each};
 ghost use Rattle.tier0.specs.Rule.{towards, shortened, pulled, leash, boxed, leashed, reached, moves, moved, project, projection};
 ghost use Rattle.tier0.specs.Chunk.{putRow, runRows, projectedRows};
-ghost use Rattle.tier0.specs.Of.{slowOf, rowFrom, clampedFrom, runFrom, ranFrom};
+ghost use Rattle.tier0.specs.Of.{slowOf, clampedFrom, runFrom, ranFrom};
+ghost use Rattle.checked.specs.Of.{rowFrom};
 use crate::Checks;
 use crate::Clamped;
 use crate::Ran;
-use crate::Row;
 use crate::SlowZone;
 use crate::measure::armed;
 use crate::measure::raw_row;
 use crate::measure::shared;
+use checked::Row;
 use envelope::ClampMode;
 use envelope::TripMask;
 

@@ -8,16 +8,17 @@ ghost use Rattle.checked.specs.Finite.{+0};
 ghost use Rattle.tier0.specs.Rule.{outOfBox, outOfReach, tripBits};
 ghost use Rattle.tier0.specs.Chunk.{bends, jolts, someOf, largeAt, further, tripOf, tooLarge};
 ghost use Rattle.tier0.specs.declared.Difference.the-variants.{Accel, Jerk};
-ghost use Rattle.tier0.specs.Of.{rowFrom, testFrom, stepsFrom};
+ghost use Rattle.checked.specs.Of.{rowFrom};
+ghost use Rattle.tier0.specs.Of.{testFrom, stepsFrom};
 use crate::Checks;
 use crate::Difference;
-use crate::Row;
 use crate::Stride;
 use crate::Test;
 use crate::measure::armed;
 use crate::measure::raw_row;
 use crate::measure::row_before;
 use crate::measure::shared;
+use checked::Row;
 use envelope::TripMask;
 
 // WORKSPACE, where it is armed.

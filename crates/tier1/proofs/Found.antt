@@ -18,19 +18,20 @@ use Rattle.fmath.proofs.Lengths.{dist-tells}
 use Rattle.window.specs.declared.Trail.{Trail}
 use Rattle.window.proofs.TrailTold.{net-tells, path-tells}
 use Rattle.tier1.specs.declared.Manifest.{Manifest}
-use Rattle.tier1.specs.declared.Feature.{Feature}
+use Rattle.checked.specs.declared.Reckoned.{Reckoned}
 use Rattle.tier1.specs.declared.Pair.{Pair}
 use Rattle.tier1.specs.Rule.{shared, _⊕_, _⊘_, sumRows, gaps, steps, jolts, stepLength, tce, acc, acmNeg, njr, reach, startRow, peak, speedPeak, netLength, pathLength, pathIneff, stallReach, stall, ifThere}
-use Rattle.tier1.specs.Of.{featureFrom, pairFrom}
+use Rattle.checked.specs.Of.{reckonedFrom}
+use Rattle.tier1.specs.Of.{pairFrom}
 use Rattle.tier1.proofs.Tells.{Shows, Tell, shown, pure-shows, finite-neg, plus-tells, rooted-tells, over-tells, over-given-tells, gaps-tell, jolts-tell, lengths-tell, stall-reach-tells}
 
 -- ---- features that are there or not
 
-module _ (x : Checked Float) {t : Bool} {r : Feature} where
-  pub not-there : t ≡ false → r ≡ featureFrom (pure +0) → r ≡ featureFrom (ifThere t x)
+module _ (x : Checked Float) {t : Bool} {r : Reckoned} where
+  pub not-there : t ≡ false → r ≡ reckonedFrom (pure +0) → r ≡ reckonedFrom (ifThere t x)
   not-there e h = rw e h
 
-  pub is-there : t ≡ true → r ≡ featureFrom x → r ≡ featureFrom (ifThere t x)
+  pub is-there : t ≡ true → r ≡ reckonedFrom x → r ≡ reckonedFrom (ifThere t x)
   is-there e h = rw e h
 
 module _ (x y : Checked Float) {t : Bool} {r : Pair} where
@@ -40,7 +41,7 @@ module _ (x y : Checked Float) {t : Bool} {r : Pair} where
   pub both-there : t ≡ true → r ≡ pairFrom x y → r ≡ pairFrom (ifThere t x) (ifThere t y)
   both-there e h = rw e h
 
-a-feature : (x : Checked Float) {v : Float} {k : Bool} → v ≡ x .value → k ≡ x .sound → _≡_ {A = Feature} (record { at = v; sound = k }) (featureFrom x)
+a-feature : (x : Checked Float) {v : Float} {k : Bool} → v ≡ x .value → k ≡ x .sound → _≡_ {A = Reckoned} (record { value = v; sound = k }) (reckonedFrom x)
 a-feature x e h = rw (e, h)
 
 a-pair : (x y : Checked Float) {v w : Float} {k l : Bool} → v ≡ x .value → w ≡ y .value → k ≡ x .sound → l ≡ y .sound → _≡_ {A = Pair} (record { first = v; second = w; sound = k && l }) (pairFrom x y)
@@ -59,7 +60,7 @@ module _ (f : Format) (m : Manifest) where
     unfolding acmNeg
     acm-sound = ek ∙ finite-neg (div f s n) ∙ rw (es, en, and-true) (sym (over-given-tells f (shown (lengths-tell f m b (h - 1))) (ofInt f (pos (h - 1))) .tells))
 
-    pub acm-is : _≡_ {A = Feature} (record { at = neg (div f s n); sound = k }) (featureFrom (acmNeg f m b h))
+    pub acm-is : _≡_ {A = Reckoned} (record { value = neg (div f s n); sound = k }) (reckonedFrom (acmNeg f m b h))
     unfolding acmNeg
     acm-is = a-feature (acmNeg f m b h) (rw (es, en)) acm-sound
 
@@ -84,7 +85,7 @@ module _ (f : Format) (m : Manifest) where
         let y : q ≡ finite (div f (above .value) (under .value)) = eq ∙ rw (ej, eg, en, el) in
         x &&≡ y ∙ sym (over-tells f above-shows under)
 
-    pub njr-is : _≡_ {A = Feature} (record { at = div f (div f j l) (add f eps (div f g n)); sound = p && q }) (featureFrom (njr f m b h))
+    pub njr-is : _≡_ {A = Reckoned} (record { value = div f (div f j l) (add f eps (div f g n)); sound = p && q }) (reckonedFrom (njr f m b h))
     unfolding njr
     njr-is = a-feature (njr f m b h) (rw (ej, eg, en, el)) njr-sound
 
@@ -124,14 +125,14 @@ module _ (f : Format) (m : Manifest) where
     matched-is = a-pair (tce f m a k b l) (acc f m a k b l) tce-value acc-value tce-sound acc-sound
 
   pub reach-is : (p b : List Float) {n : ℕ} {d : Float} {k : Bool} → n ≡ shared m p → d ≡ dist f b p n .value → k ≡ finite (div f d (m .iso))
-      → _≡_ {A = Feature} (record { at = div f d (m .iso); sound = k }) (featureFrom (reach f m p b))
+      → _≡_ {A = Reckoned} (record { value = div f d (m .iso); sound = k }) (reckonedFrom (reach f m p b))
   unfolding reach
   reach-is p b en ed ek =
       let t : Tell (dist f b p (shared m p)) = record { tells = dist-tells f b p (shared m p) } in
       a-feature (reach f m p b) (rw (ed, en)) (ek ∙ rw (ed, en) (sym (over-given-tells f (shown t) (m .iso) .tells)))
 
-  pub speed-is : (p b : List Float) (h : ℕ) {q : List Float} {x : Feature} {k : Bool} → q ≡ startRow f m p b → x ≡ featureFrom (peak f (m .dim) q b h) → k ≡ finite (div f (x .at) (m .iso))
-      → _≡_ {A = Feature} (record { at = div f (x .at) (m .iso); sound = x .sound && k }) (featureFrom (speedPeak f m p b h))
+  pub speed-is : (p b : List Float) (h : ℕ) {q : List Float} {x : Reckoned} {k : Bool} → q ≡ startRow f m p b → x ≡ reckonedFrom (peak f (m .dim) q b h) → k ≡ finite (div f (x .value) (m .iso))
+      → _≡_ {A = Reckoned} (record { value = div f (x .value) (m .iso); sound = x .sound && k }) (reckonedFrom (speedPeak f m p b h))
   unfolding speedPeak
   speed-is p b h eq ex ek = rw (ek, ex, eq)
 

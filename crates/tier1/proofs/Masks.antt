@@ -15,12 +15,13 @@ use Rattle.envelope.specs.Derive.{kept}
 use Rattle.window.specs.declared.Trail.{Trail}
 use Rattle.tier1.specs.declared.Manifest.{Manifest}
 use Rattle.tier1.specs.declared.Kept.{Kept}
-use Rattle.tier1.specs.declared.Feature.{Feature}
+use Rattle.checked.specs.declared.Reckoned.{Reckoned}
 use Rattle.tier1.specs.declared.Pair.{Pair}
 use Rattle.tier1.specs.declared.SixFeatures.{SixFeatures}
 use Rattle.tier1.specs.declared.AllFeatures.{AllFeatures}
 use Rattle.tier1.specs.Rule.{shared, acmNeg, njr, reach, speedPeak, pathIneff, stall, overlap, boundaryAt, ifThere, boundary, boundaryBits, moving, validAt, valueAt, twelve}
-use Rattle.tier1.specs.Of.{featureFrom, pairFrom, metFrom, boundaryFrom, gatheredFrom, twelveFrom}
+use Rattle.checked.specs.Of.{reckonedFrom}
+use Rattle.tier1.specs.Of.{pairFrom, metFrom, boundaryFrom, gatheredFrom, twelveFrom}
 
 -- ---- of a chunk
 
@@ -38,13 +39,13 @@ module _ (m : Manifest) (k : Kept) (a p : List Float) (t h : ℕ) (b : List Floa
   unfolding boundaryBits
   bits-are e g i = i ∙ rw (e, g)
 
-  pub boundary-is : {v : ℕ} {u : Pair} {w x y z : Feature} → v ≡ boundaryBits m k p t h
+  pub boundary-is : {v : ℕ} {u : Pair} {w x y z : Reckoned} → v ≡ boundaryBits m k p t h
       → u ≡ metFrom m k a t b h
-      → w ≡ featureFrom (ifThere (leb 2 h) (acmNeg binary64 m b h))
-      → x ≡ featureFrom (ifThere (leb 4 h) (njr binary64 m b h))
-      → y ≡ featureFrom (ifThere (ltb 0 (shared m p)) (reach binary64 m p b))
-      → z ≡ featureFrom (speedPeak binary64 m p b h)
-      → _≡_ {A = SixFeatures} (record { held = u .first ∷ u .second ∷ w .at ∷ x .at ∷ y .at ∷ z .at ∷ []; valid = v; sound = u .sound && (w .sound && (x .sound && (y .sound && z .sound))) })
+      → w ≡ reckonedFrom (ifThere (leb 2 h) (acmNeg binary64 m b h))
+      → x ≡ reckonedFrom (ifThere (leb 4 h) (njr binary64 m b h))
+      → y ≡ reckonedFrom (ifThere (ltb 0 (shared m p)) (reach binary64 m p b))
+      → z ≡ reckonedFrom (speedPeak binary64 m p b h)
+      → _≡_ {A = SixFeatures} (record { held = u .first ∷ u .second ∷ w .value ∷ x .value ∷ y .value ∷ z .value ∷ []; valid = v; sound = u .sound && (w .sound && (x .sound && (y .sound && z .sound))) })
       (boundaryFrom (boundary binary64 m k a p t h b) (boundaryBits m k p t h))
   unfolding boundary
   boundary-is ev eu ew ex ey ez = rw (ev, eu, ew, ex, ey, ez, and-true, both-first)

@@ -15,9 +15,9 @@ use Rattle.fmath.specs.Norm.{dist}
 use Rattle.checked.proofs.Each.{all-more}
 use Rattle.checked.proofs.Extremes.{greatest-more}
 use Rattle.fmath.proofs.Lengths.{dist-tells}
-use Rattle.tier1.specs.declared.Feature.{Feature}
+use Rattle.checked.specs.declared.Reckoned.{Reckoned}
 use Rattle.tier1.specs.Rule.{row, sumRows, stride, peak}
-use Rattle.tier1.specs.Of.{featureFrom}
+use Rattle.checked.specs.Of.{reckonedFrom}
 
 -- what is left from where a row starts is at least as long as the row
 pub row-long : (i d : ℕ) (l : List Float) {r : List Float} → i * d + d ≤ length l → r ≡ drop (i * d) l → d ≤ length r
@@ -50,5 +50,5 @@ module _ (f : Format) (d : ℕ) (q b : List Float) where
     all-more (λ (j : ℕ). stride f d q b j .sound) (i + 1) k t (w .1) (h ∙ ap finite e ∙ sym (dist-tells f (row b d (i + 1)) (row b d i) d) ∙ later i .1),
   )
 
-  pub peak-is : (i h : ℕ) {m : Float} {k : Bool} → i ≡ h → Peaks i m k → _≡_ {A = Feature} (record { at = m; sound = k }) (featureFrom (peak f d q b h))
+  pub peak-is : (i h : ℕ) {m : Float} {k : Bool} → i ≡ h → Peaks i m k → _≡_ {A = Reckoned} (record { value = m; sound = k }) (reckonedFrom (peak f d q b h))
   peak-is i h e w = rw (← e, w .0, w .1)

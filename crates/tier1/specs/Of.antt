@@ -21,7 +21,6 @@ use Rattle.envelope.specs.declared.Derived.{Derived}
 use Rattle.envelope.specs.declared.FuseConfig.{FuseConfig}
 use Rattle.tier1.specs.declared.Manifest.{Manifest}
 use Rattle.tier1.specs.declared.Kept.{Kept}
-use Rattle.tier1.specs.declared.Feature.{Feature}
 use Rattle.tier1.specs.declared.Pair.{Pair}
 use Rattle.tier1.specs.declared.SixFeatures.{SixFeatures}
 use Rattle.tier1.specs.declared.AllFeatures.{AllFeatures}
@@ -57,9 +56,6 @@ keptOf rt = record {
 }
 
 -- ---- what a private function answers: the rule's value, and whether all that was computed is finite
-
-abbrev pub featureFrom : Checked Float → Feature
-featureFrom x = record { at = x .value; sound = x .sound }
 
 abbrev pub pairFrom : Checked Float → Checked Float → Pair
 pairFrom x y = record { first = x .value; second = y .value; sound = x .sound && y .sound }

@@ -9,9 +9,9 @@ ghost use Rattle.checked.specs.Checked.{pure};
 ghost use Rattle.checked.specs.Finite.{+0};
 ghost use Rattle.tier1.specs.Rule.{shared, tce, acc, acmNeg, njr, reach, speedPeak, overlap, boundaryAt, ifThere, boundary, boundaryBits};
 ghost use Rattle.bits.specs.Bits.{bitsWhere};
-ghost use Rattle.tier1.specs.Of.{featureFrom, pairFrom, metFrom, boundaryFrom};
+ghost use Rattle.checked.specs.Of.{reckonedFrom};
+ghost use Rattle.tier1.specs.Of.{pairFrom, metFrom, boundaryFrom};
 use crate::EPS;
-use crate::Feature;
 use crate::Kept;
 use crate::Manifest;
 use crate::Pair;
@@ -23,6 +23,7 @@ use crate::sums::squared_gaps;
 use crate::sums::squared_jolts;
 use crate::sums::start_row;
 use crate::sums::step_lengths;
+use checked::Reckoned;
 use conformal::Feat;
 
 // The weights of the held features' bits.
@@ -53,11 +54,11 @@ fn overlap(k: Kept, t: u32, h: usize, d: usize) -> usize
 }
 
 // A feature that is not there.
-fn absent() -> Feature
-    ensures { λ r. ⌜ r ≡ featureFrom (pure +0) ⌝ }
+fn absent() -> Reckoned
+    ensures { λ r. ⌜ r ≡ reckonedFrom (pure +0) ⌝ }
 {
-    Feature {
-        at: 0.0,
+    Reckoned {
+        value: 0.0,
         sound: true,
     }
 }
@@ -107,24 +108,24 @@ fn met(m: Manifest, k: Kept, a: &[f64], t: u32, b: &[f64], h: usize) -> Pair
 }
 
 // AcmNeg of h rows: the mean step, negated.
-fn acm_neg(m: Manifest, b: &[f64], h: usize) -> Feature
+fn acm_neg(m: Manifest, b: &[f64], h: usize) -> Reckoned
     requires { ⌜ (m .dim ≤ 8) × (h ≤ 64) × (h * m .dim ≤ length (now b)) ⌝ }
-    ensures { λ r. ⌜ r ≡ featureFrom (ifThere (leb 2 h) (acmNeg binary64 m (now (b .entry)) h)) ⌝ }
+    ensures { λ r. ⌜ r ≡ reckonedFrom (ifThere (leb 2 h) (acmNeg binary64 m (now (b .entry)) h)) ⌝ }
 {
     if h < 2 {
         return absent();
     }
     let n = h - 1;
     let s = step_lengths(m, b, n);
-    let at = -(s / count(n));
-    let sound = fmath::finite(at);
-    Feature { at, sound }
+    let value = -(s / count(n));
+    let sound = fmath::finite(value);
+    Reckoned { value, sound }
 }
 
 // Njr of h rows: the mean squared third difference over the mean squared first one.
-fn njr(m: Manifest, b: &[f64], h: usize) -> Feature
+fn njr(m: Manifest, b: &[f64], h: usize) -> Reckoned
     requires { ⌜ (m .dim ≤ 8) × (h ≤ 64) × (h * m .dim ≤ length (now b)) ⌝ }
-    ensures { λ r. ⌜ r ≡ featureFrom (ifThere (leb 4 h) (njr binary64 m (now (b .entry)) h)) ⌝ }
+    ensures { λ r. ⌜ r ≡ reckonedFrom (ifThere (leb 4 h) (njr binary64 m (now (b .entry)) h)) ⌝ }
 {
     if h < 4 {
         return absent();
@@ -132,37 +133,40 @@ fn njr(m: Manifest, b: &[f64], h: usize) -> Feature
     let num = squared_jolts(m, b, h - 3);
     let den = squared_gaps(m, b, 1, b, h - 1);
     let under = EPS + den / count(h - 1);
-    let at = num / count(h - 3) / under;
+    let value = num / count(h - 3) / under;
     let p = fmath::finite(under);
-    let q = fmath::finite(at);
-    Feature { at, sound: p & q }
+    let q = fmath::finite(value);
+    Reckoned {
+        value,
+        sound: p & q,
+    }
 }
 
 // Reach: the distance of row 0 from the position, where they share a coordinate.
-fn reach(m: Manifest, pos: &[f64], b: &[f64]) -> Feature
-    ensures { λ r. ⌜ r ≡ featureFrom (ifThere (ltb 0 (shared m (now (pos .entry)))) (reach binary64 m (now (pos .entry)) (now (b .entry)))) ⌝ }
+fn reach(m: Manifest, pos: &[f64], b: &[f64]) -> Reckoned
+    ensures { λ r. ⌜ r ≡ reckonedFrom (ifThere (ltb 0 (shared m (now (pos .entry)))) (reach binary64 m (now (pos .entry)) (now (b .entry)))) ⌝ }
 {
     let n = shared(m, pos.len());
     if 0 < n {
         let far = fmath::distance(b, pos, n);
-        let at = far / m.iso;
-        let sound = fmath::finite(at);
-        return Feature { at, sound };
+        let value = far / m.iso;
+        let sound = fmath::finite(value);
+        return Reckoned { value, sound };
     }
     absent()
 }
 
 // SpeedPeak: the greatest step of h rows.
-fn speed_peak(m: Manifest, pos: &[f64], b: &[f64], h: usize) -> Feature
+fn speed_peak(m: Manifest, pos: &[f64], b: &[f64], h: usize) -> Reckoned
     requires { ⌜ (m .dim ≤ 8) × (0 < h) × (h ≤ 64) × (h * m .dim ≤ length (now b)) ⌝ }
-    ensures { λ r. ⌜ r ≡ featureFrom (speedPeak binary64 m (now (pos .entry)) (now (b .entry)) h) ⌝ }
+    ensures { λ r. ⌜ r ≡ reckonedFrom (speedPeak binary64 m (now (pos .entry)) (now (b .entry)) h) ⌝ }
 {
     let q = start_row(m, pos, b);
     let p = peak(m.dim, q, b, h);
-    let at = p.at / m.iso;
-    let fine = fmath::finite(at);
-    Feature {
-        at,
+    let value = p.value / m.iso;
+    let fine = fmath::finite(value);
+    Reckoned {
+        value,
         sound: p.sound & fine,
     }
 }
@@ -200,7 +204,7 @@ pub(crate) fn boundary(
     let x = njr(m, b, h);
     let y = reach(m, pos, b);
     let z = speed_peak(m, pos, b, h);
-    let held = [u.first, u.second, w.at, x.at, y.at, z.at];
+    let held = [u.first, u.second, w.value, x.value, y.value, z.value];
     SixFeatures {
         held,
         valid,

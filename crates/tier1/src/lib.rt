@@ -54,12 +54,6 @@ pub struct Manifest {
     pub iso: f64,
 }
 
-// A feature; `sound` says that each number computed on the way is finite.
-pub struct Feature {
-    pub at: f64,
-    pub sound: bool,
-}
-
 // Two features, likewise.
 pub struct Pair {
     pub first: f64,

@@ -7,9 +7,9 @@ ghost use lib.Ieee.{binary64, ofInt};
 ghost use Rattle.checked.specs.Checked.{sumFrom};
 ghost use Rattle.checked.specs.Finite.{+0};
 ghost use Rattle.tier1.specs.Rule.{row, sumRows, gap, gaps, jolt, jolts, stepLength, startRow, peak};
-ghost use Rattle.tier1.specs.Of.{featureFrom};
-use crate::Feature;
+ghost use Rattle.checked.specs.Of.{reckonedFrom};
 use crate::Manifest;
+use checked::Reckoned;
 
 // A small count as a number.
 pub(crate) fn count(n: usize) -> f64
@@ -145,9 +145,9 @@ pub(crate) fn start_row(m: Manifest, pos: &[f64], b: &[f64]) -> [f64; 8]
 
 // The greatest step of the first h rows of d numbers, where q stands before row 0. Each is tested, since a NaN drops out of
 // the greatest.
-pub(crate) fn peak(d: usize, q: [f64; 8], b: &[f64], h: usize) -> Feature
+pub(crate) fn peak(d: usize, q: [f64; 8], b: &[f64], h: usize) -> Reckoned
     requires { ⌜ (0 < h) × (h ≤ 64) × (h * d ≤ length (now b)) ⌝ }
-    ensures { λ r. ⌜ r ≡ featureFrom (peak binary64 d q (now (b .entry)) h) ⌝ }
+    ensures { λ r. ⌜ r ≡ reckonedFrom (peak binary64 d q (now (b .entry)) h) ⌝ }
 {
     let n = fmath::distance(b, &q, d);
     let mut most = fmath::max(0.0, n);
@@ -159,5 +159,5 @@ pub(crate) fn peak(d: usize, q: [f64; 8], b: &[f64], h: usize) -> Feature
         sound = sound & fmath::finite(x);
         i += 1;
     }
-    Feature { at: most, sound }
+    Reckoned { value: most, sound }
 }

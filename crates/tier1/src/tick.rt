@@ -8,10 +8,10 @@ ghost use Rattle.envelope.specs.Derive.{kept};
 ghost use Rattle.tier1.specs.Of.{pairFrom, gatheredFrom, twelveFrom};
 use crate::AllFeatures;
 use crate::EPS;
-use crate::Feature;
 use crate::Manifest;
 use crate::Pair;
 use crate::held::absent_pair;
+use checked::Reckoned;
 use conformal::Feat;
 use window::Trail;
 

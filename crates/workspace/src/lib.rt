@@ -6,19 +6,15 @@ ghost use lib.Ieee.{binary64, add, sub};
 ghost use Rattle.checked.specs.Each.{at};
 ghost use Rattle.checked.specs.Finite.{finite};
 ghost use Rattle.checked.specs.Least.{least};
+ghost use Rattle.checked.specs.Of.{reckonedFrom};
 ghost use Rattle.workspace.specs.Rule.{outside, inward, between, betweenWithin, gap, slack, slackWithin};
-ghost use Rattle.workspace.specs.Of.{wallsOf, distanceFrom};
+ghost use Rattle.workspace.specs.Of.{wallsOf};
+use checked::Reckoned;
 
 // The walls of the box, moved inward by the margin.
 pub struct Workspace {
     pub lo: [f64; 8],
     pub hi: [f64; 8],
-}
-
-// The least distance to a wall, and whether each number computed on the way is finite.
-pub struct Distance {
-    pub least: f64,
-    pub sound: bool,
 }
 
 // One of the first n coordinates lies strictly beyond a wall.
@@ -49,25 +45,25 @@ pub fn inward(w: Workspace, a: [f64; 8], n: usize) -> [f64; 8]
     r
 }
 
-fn gap(lo: f64, hi: f64, p: f64) -> Distance
-    ensures { λ r. ⌜ r ≡ distanceFrom (between binary64 lo hi p) ⌝ }
+fn gap(lo: f64, hi: f64, p: f64) -> Reckoned
+    ensures { λ r. ⌜ r ≡ reckonedFrom (between binary64 lo hi p) ⌝ }
 {
     let low = p - lo;
     let high = hi - p;
     let fine = fmath::finite(low) & fmath::finite(high);
-    Distance {
-        least: fmath::min(low, high),
+    Reckoned {
+        value: fmath::min(low, high),
         sound: fine,
     }
 }
 
 // The slack of a point over its first n coordinates.
-pub fn slack(w: Workspace, p: [f64; 8], n: usize) -> Distance
-    ensures { λ r. ⌜ r ≡ distanceFrom (slack binary64 (wallsOf w) p n) ⌝ }
+pub fn slack(w: Workspace, p: [f64; 8], n: usize) -> Reckoned
+    ensures { λ r. ⌜ r ≡ reckonedFrom (slack binary64 (wallsOf w) p n) ⌝ }
 {
     if 8 < n {
-        return Distance {
-            least: 0.0 / 0.0,
+        return Reckoned {
+            value: 0.0 / 0.0,
             sound: false,
         };
     }
@@ -76,11 +72,14 @@ pub fn slack(w: Workspace, p: [f64; 8], n: usize) -> Distance
     let mut j = 0;
     while j < n {
         let g = gap(w.lo[j], w.hi[j], p[j]);
-        least = fmath::min(least, g.least);
+        least = fmath::min(least, g.value);
         sound = sound & g.sound;
         j += 1;
     }
-    Distance { least, sound }
+    Reckoned {
+        value: least,
+        sound,
+    }
 }
 
 // The lesser distance to the walls of one axis, and the sum of both.
@@ -146,8 +145,8 @@ fn least_of(near: [f64; 8], n: usize) -> f64
 
 // The same slack, quicker: all eight axes are measured, and one test of a sum tells that each distance is finite. Where it does not tell,
 // the n axes are judged one by one.
-pub fn slack_abreast(w: Workspace, p: [f64; 8], n: usize) -> Distance
-    ensures { λ r. ⌜ r ≡ distanceFrom (slack binary64 (wallsOf w) p n) ⌝ }
+pub fn slack_abreast(w: Workspace, p: [f64; 8], n: usize) -> Reckoned
+    ensures { λ r. ⌜ r ≡ reckonedFrom (slack binary64 (wallsOf w) p n) ⌝ }
 {
     let r = around_all(w, p);
     if (8 < n) | !fmath::finite(r.sum) {
@@ -155,28 +154,31 @@ pub fn slack_abreast(w: Workspace, p: [f64; 8], n: usize) -> Distance
     }
     let near = r.near;
     let least = least_of(near, n);
-    Distance { least, sound: true }
+    Reckoned {
+        value: least,
+        sound: true,
+    }
 }
 
-fn gap_within(r: f64, lo: f64, hi: f64, p: f64) -> Distance
-    ensures { λ s. ⌜ s ≡ distanceFrom (betweenWithin binary64 r lo hi p) ⌝ }
+fn gap_within(r: f64, lo: f64, hi: f64, p: f64) -> Reckoned
+    ensures { λ s. ⌜ s ≡ reckonedFrom (betweenWithin binary64 r lo hi p) ⌝ }
 {
     let low = p - r - lo;
     let high = hi - p - r;
     let fine = fmath::finite(low) & fmath::finite(high);
-    Distance {
-        least: fmath::min(low, high),
+    Reckoned {
+        value: fmath::min(low, high),
         sound: fine,
     }
 }
 
 // .. with a stopping radius taken off.
-pub fn slack_within(w: Workspace, r: f64, p: [f64; 8], n: usize) -> Distance
-    ensures { λ s. ⌜ s ≡ distanceFrom (slackWithin binary64 (wallsOf w) r p n) ⌝ }
+pub fn slack_within(w: Workspace, r: f64, p: [f64; 8], n: usize) -> Reckoned
+    ensures { λ s. ⌜ s ≡ reckonedFrom (slackWithin binary64 (wallsOf w) r p n) ⌝ }
 {
     if 8 < n {
-        return Distance {
-            least: 0.0 / 0.0,
+        return Reckoned {
+            value: 0.0 / 0.0,
             sound: false,
         };
     }
@@ -185,9 +187,12 @@ pub fn slack_within(w: Workspace, r: f64, p: [f64; 8], n: usize) -> Distance
     let mut j = 0;
     while j < n {
         let g = gap_within(r, w.lo[j], w.hi[j], p[j]);
-        least = fmath::min(least, g.least);
+        least = fmath::min(least, g.value);
         sound = sound & g.sound;
         j += 1;
     }
-    Distance { least, sound }
+    Reckoned {
+        value: least,
+        sound,
+    }
 }

@@ -6,7 +6,7 @@ use lib.Ieee.{Float, binary64}
 use Rattle.checked.specs.Checked.{pure}
 use Rattle.workspace.specs.Of.{wallsOf}
 use Rattle.brake.specs.Rule.{brakeRow}
-use Rattle.brake.specs.Of.{rowFrom}
+use Rattle.checked.specs.Of.{rowFrom}
 use Rattle.brake.proofs.Sending.{position-brakes}
 use borrow.Author.Needs.{needs}
 use Rattle.brake.proofs.brake_row.Statement.{statement}

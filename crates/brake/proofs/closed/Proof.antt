@@ -7,7 +7,8 @@ use lib.Ieee.{binary64}
 use Rattle.rollout.specs.declared.Run.{Run}
 use Rattle.rollout.specs.Plant.{State}
 use Rattle.rollout.specs.Forecast.{fine}
-use Rattle.rollout.specs.Of.{stateOf, reckonedFrom, runOf}
+use Rattle.rollout.specs.Of.{stateOf, runOf}
+use Rattle.checked.specs.Of.{reckonedFrom}
 use Rattle.stopping.specs.Rule.{Task, reaction, stand, stopDistance, forecast}
 use Rattle.stopping.specs.Of.{taskOf}
 use Rattle.rollout.proofs.Reach.{reach-whole}

@@ -8,7 +8,8 @@ use Rattle.rollout.specs.declared.Run.{Run}
 use Rattle.rollout.specs.Plant.{State}
 use Rattle.rollout.specs.Forecast.{fine}
 use Rattle.rollout.specs.Rule.{Task, after, stopDistance, forecast}
-use Rattle.rollout.specs.Of.{stateOf, reckonedFrom, taskOf, runOf}
+use Rattle.rollout.specs.Of.{stateOf, taskOf, runOf}
+use Rattle.checked.specs.Of.{reckonedFrom}
 use Rattle.rollout.proofs.Reach.{reach-whole}
 use Rattle.brake.proofs.Outcome.{done-few}
 use Rattle.brake.proofs.second_order.Statement.{statement}

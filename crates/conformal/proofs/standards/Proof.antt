@@ -7,8 +7,8 @@ use lib.ListN.{length, take, length-set}
 use lib.Ieee.{binary64}
 use Rattle.checked.specs.Each.{all, at, table}
 use Rattle.checked.proofs.Each.{all-more, table-more, table-all}
-use Rattle.conformal.specs.declared.OneZ.{OneZ}
-use Rattle.conformal.specs.Of.{standardFrom}
+use Rattle.checked.specs.declared.Reckoned.{Reckoned}
+use Rattle.checked.specs.Of.{reckonedFrom}
 use Rattle.conformal.specs.Rule.{live, standardAt, standards}
 use Rattle.conformal.proofs.standards.Statement.{statement}
 use Rattle.conformal.proofs.standards.Tie as tie
@@ -78,9 +78,9 @@ loop-again : tie.Need-loop-again Inv-loop μ-loop
 loop-again c =
     let l = c .before .before .before .before .before .before .before .before .loop in
     let a = c .before .before .before .before .before .before .before .before .before .before .args in
-    let e : c .before .standard .result ≡ standardFrom (standardAt binary64 (a .center .now) (a .scale .now) (a .bin) (live (a .mask) (a .valid)) (a .x .now) (l .j))
+    let e : c .before .standard .result ≡ reckonedFrom (standardAt binary64 (a .center .now) (a .scale .now) (a .bin) (live (a .mask) (a .valid)) (a .x .now) (l .j))
     = (c .before .standard .ensures) ∙ rw (c .before .before .before .before .before .before .bit .ensures, c .before .before .before .before .before .bit2 .ensures, c .before .before .before .before .before .before .before .before .before .last-bin .ensures) in
-    (omega arith, (simp length-set (l .inv .1 .0), (table-more _ _ _ _ (omega arith) (l .inv .1 .1 .0) (ap (λ (r : OneZ). r .z) e), all-more _ _ _ _ (l .inv .1 .1 .1) (ap (λ (r : OneZ). r .sound) e))))
+    (omega arith, (simp length-set (l .inv .1 .0), (table-more _ _ _ _ (omega arith) (l .inv .1 .1 .0) (ap (λ (r : Reckoned). r .value) e), all-more _ _ _ _ (l .inv .1 .1 .1) (ap (λ (r : Reckoned). r .sound) e))))
 
 returns : tie.Need-returns Inv-loop μ-loop
 unfolding standards

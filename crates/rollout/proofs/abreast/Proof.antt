@@ -138,7 +138,7 @@ loop-again c =
     let i = c .before .before .before .before .before .before .before .before .loop in (
       omega arith,
       (
-        length-set (i .slack) (i .at) (c .before .before .before .slack-abreast .result .least) ∙ i .inv .1 .0,
+        length-set (i .slack) (i .at) (c .before .before .before .slack-abreast .result .value) ∙ i .inv .1 .0,
         (
           omega (arith, i .inv .1 .1 .0),
           (

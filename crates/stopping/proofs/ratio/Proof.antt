@@ -3,7 +3,7 @@ use mathlib.Core.Path.{sym, ap, _∙_}
 use lib.Ieee.{binary64}
 use Rattle.envelope.specs.declared.BrakeKind.{BrakeKind}
 use Rattle.stopping.specs.Rule.{ratio}
-use Rattle.rollout.specs.Of.{reckonedFrom}
+use Rattle.checked.specs.Of.{reckonedFrom}
 use borrow.Author.Needs.{needs}
 use Rattle.stopping.proofs.ratio.Statement.{statement}
 use Rattle.stopping.proofs.ratio.Tie as tie

@@ -37,7 +37,7 @@ returns-2 c =
     let t = tested (c .before .before) in
     let m = c .before .before .before .before .around-all in
     let e = slack-from binary64 (wallsOf (s .w)) (s .p) (m .result .near) 8 (s .n) (ltb-false _ _ (t .0)) (m .ensures .0) (m .ensures .1 (t .1)) in
-    λ i. record { least = (c .least-of .ensures ∙ e .0) i; sound = e .1 i }
+    λ i. record { value = (c .least-of .ensures ∙ e .0) i; sound = e .1 i }
 
 pub slack-abreast-spec : {M : Type 1} → statement M
 slack-abreast-spec =

@@ -9,7 +9,7 @@ use Rattle.checked.specs.Each.{all}
 use Rattle.checked.specs.Least.{least}
 use Rattle.checked.specs.Checked.{leastOf}
 use Rattle.workspace.specs.Rule.{gapWithin, slackWithin}
-use Rattle.workspace.specs.declared.Distance.{Distance}
+use Rattle.checked.specs.declared.Reckoned.{Reckoned}
 use Rattle.workspace.specs.Of.{wallsOf}
 use Rattle.workspace.proofs.Gaps.{within-slack-missing, least-of-more}
 use Rattle.workspace.proofs.slack_within.Statement.{statement}
@@ -69,7 +69,7 @@ loop-again c =
     let s = c .before .before .before .before .before .before .before .before .args in
     let g = c .before .before .gap-within in
     let m =
-    least-of-more (gapWithin binary64 (wallsOf (s .t1)) (s .r) (s .t3)) (l .j) (l .least) (g .result .least) (l .sound) (g .result .sound) (l .inv .1) (ap (λ (d : Distance). d .least) (g .ensures)) (ap (λ (d : Distance). d .sound) (g .ensures)) in
+    least-of-more (gapWithin binary64 (wallsOf (s .t1)) (s .r) (s .t3)) (l .j) (l .least) (g .result .value) (l .sound) (g .result .sound) (l .inv .1) (ap (λ (d : Reckoned). d .value) (g .ensures)) (ap (λ (d : Reckoned). d .sound) (g .ensures)) in
     (omega arith, (c .before .min .ensures ∙ m .0, m .1))
 
 returns-2 : tie.Need-returns-2 Inv-loop μ-loop
