@@ -13,8 +13,9 @@ use Rattle.envelope.specs.declared.BrakeModel.{BrakeModel}
 use Rattle.envelope.specs.declared.FuseConfig.{FuseConfig}
 use Rattle.envelope.proofs.BrakeKind as kind
 use Rattle.workspace.specs.declared.Workspace.{Workspace}
-use Rattle.rollout.specs.declared.Course.{Course}
-use Rattle.rollout.specs.declared.Plant.{Plant}
+use Rattle.course.specs.declared.Course.{Course}
+use Rattle.course.specs.declared.Plant.{Plant}
+use Rattle.course.specs.Rows.{rowsLeft}
 use Rattle.rollout.specs.Rule as rollout
 use Rattle.rollout.specs.Of as rolled
 use Rattle.stopping.specs.declared.Arm.{Arm}
@@ -32,7 +33,7 @@ no-tag (inr (inl e)) = omega arith
 no-tag (inr (inr (inl e))) = omega arith
 no-tag (inr (inr (inr e))) = omega arith
 
-pub other-count : (b : BrakeModel) (from : ℕ) (k : BrakeKind) → Other k → countFor b k from ≡ suc (rollout.rowsLeft (b .commit) from .0)
+pub other-count : (b : BrakeModel) (from : ℕ) (k : BrakeKind) → Other k → countFor b k from ≡ suc (rowsLeft (b .commit) from .0)
 other-count b from (PdSecondOrder kp kv dt) h = absurd (no-tag h)
 other-count b from (FirstOrderDecay kp kv dt) h = refl
 other-count b from (BoundedAccel kp kv dt) h = refl

@@ -13,9 +13,9 @@ use Rattle.chunk.specs.Refusals.{chunkReasons}
 use Rattle.envelope.specs.Refusals.{configJudged}
 use Rattle.envelope.specs.declared.BrakeKind.the-variants.{PdSecondOrder}
 use Rattle.envelope.specs.declared.FuseConfig.{FuseConfig}
-use Rattle.rollout.specs.Forecast.{Forecast, fine, slackAt, placeOf, marginOf, feasibleOf, writtenOf}
+use Rattle.course.specs.Forecast.{Forecast, fine, slackAt, placeOf, marginOf, feasibleOf, writtenOf}
 use Rattle.rollout.specs.Rule.{forecast}
-use Rattle.rollout.proofs.Promises.{Whole, whole-reached, written-in-order, others-kept, first-failing-place, failing-at-the-end}
+use Rattle.course.proofs.Entries.{Whole, whole-reached, written-in-order, others-kept, first-failing-place, failing-at-the-end}
 use Rattle.brake.specs.declared.BrakeOut.{BrakeOut}
 use Rattle.brake.specs.declared.BrakeOut.the-variants as out
 use Rattle.brake.specs.Rule.{secondOrder, forecastBy}

@@ -22,8 +22,8 @@ use Rattle.envelope.specs.declared.BrakeKind.{BrakeKind}
 use Rattle.envelope.specs.declared.BrakeKind.the-variants.{PdSecondOrder, FirstOrderDecay, BoundedAccel, JerkLimited, ZeroVelocityHold}
 use Rattle.envelope.specs.declared.FuseConfig.{FuseConfig}
 use Rattle.envelope.proofs.Accepted.{Fit, accepted, dim-most, substeps-least, commit-most, substeps-in-all}
-use Rattle.rollout.specs.Forecast.{placeOf, writtenOf}
-use Rattle.rollout.specs.Rule.{rowsLeft}
+use Rattle.course.specs.Forecast.{placeOf, writtenOf}
+use Rattle.course.specs.Rows.{rowsLeft}
 use Rattle.brake.specs.declared.BrakeOut.{BrakeOut}
 use Rattle.brake.specs.declared.BrakeOut.the-variants as out
 use Rattle.brake.specs.Answer.{tooShort, outcome, plan, lentJudged, forecastRefusal, forecastAnswer, forecastSlacks}

@@ -8,13 +8,13 @@ use borrow.Author.Tests.{ne-eqb}
 use lib.Ieee.{le}
 use Rattle.checked.specs.Each.{all}
 use Rattle.checked.specs.Finite.{+0}
-use Rattle.rollout.specs.Plant.{State}
-use Rattle.rollout.specs.Forecast.{Forecast, fine, reached, placeOf, marginOf}
-use Rattle.rollout.specs.Of.{runOf}
+use Rattle.course.specs.Plant.{State}
+use Rattle.course.specs.Forecast.{Forecast, fine, reached, placeOf, marginOf}
+use Rattle.course.specs.Of.{runOf}
 use Rattle.checked.specs.Of.{reckonedFrom}
 use Rattle.checked.specs.declared.Reckoned.{Reckoned}
-use Rattle.rollout.specs.declared.Run.{Run}
-use Rattle.rollout.proofs.Reach.{reach-whole, reach-le}
+use Rattle.course.specs.declared.Run.{Run}
+use Rattle.course.proofs.Reach.{reach-whole, reach-le}
 use Rattle.brake.specs.declared.BrakeOut.the-variants as out
 use Rattle.brake.specs.Answer.{outcome}
 

@@ -21,10 +21,11 @@ use Rattle.envelope.specs.Refusals.{configJudged}
 use Rattle.envelope.specs.declared.ControlSteps.{ControlSteps}
 use Rattle.envelope.proofs.Walls.{low-wall-fits, high-wall-fits}
 use Rattle.rollout.specs.Plant.{Gains}
-use Rattle.rollout.specs.Forecast.{Forecast, fine, slackAt, reached, marginOf, feasibleOf, writtenOf}
+use Rattle.course.specs.Forecast.{Forecast, fine, slackAt, reached, marginOf, feasibleOf, writtenOf}
 use Rattle.rollout.specs.Rule.{forecast, stop}
-use Rattle.rollout.proofs.Reach.{reach-le, first-or-all}
-use Rattle.rollout.proofs.Promises.{Whole, whole-reached, written-in-order, others-kept, first-failing-place, empty-margin, margin-attained, margin-least, feasible-none-negative, none-negative-feasible, entry-is-slack, entries-real, braking, shorter-begins-longer, feasible-inside}
+use Rattle.course.proofs.Reach.{reach-le, first-or-all}
+use Rattle.course.proofs.Entries.{Whole, whole-reached, written-in-order, others-kept, first-failing-place, empty-margin, margin-attained, margin-least, feasible-none-negative, none-negative-feasible}
+use Rattle.rollout.proofs.Promises.{entry-is-slack, entries-real, braking, shorter-begins-longer, feasible-inside}
 use Rattle.brake.specs.declared.BrakeOut.{BrakeOut}
 use Rattle.brake.specs.declared.BrakeOut.the-variants.{Accepted, Refused}
 use Rattle.brake.specs.Answer.{plan, lentJudged}

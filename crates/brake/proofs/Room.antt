@@ -10,16 +10,17 @@ use Rattle.envelope.specs.declared.BrakeKind.{BrakeKind}
 use Rattle.envelope.specs.declared.BrakeKind.the-variants.{PdSecondOrder}
 use Rattle.envelope.specs.declared.FuseConfig.{FuseConfig}
 use Rattle.envelope.specs.Steps.{substepsIn}
-use Rattle.rollout.specs.Rule.{rowsLeft}
+use Rattle.course.specs.Rows.{rowsLeft}
+use Rattle.course.specs.Of.{shaped}
 use Rattle.rollout.specs.Of as rolled
-use Rattle.rollout.proofs.Room.{is-shaped}
+use Rattle.course.proofs.Room.{is-shaped}
 use Rattle.stopping.specs.Of as stopped
 use Rattle.brake.specs.Rule.{live}
 use Rattle.brake.specs.Of.{courseFor, countFor, Planned}
 use Rattle.brake.proofs.ByKind.{Other, other-count}
 
 module _ (c : FuseConfig) (len h d from room : ℕ) (w : Planned c len h d from room) where
-  shape : rolled.shaped (courseFor c h d from) len ≡ true
+  shape : shaped (courseFor c h d from) len ≡ true
   shape = is-shaped (courseFor c h d from) len (record { axes = axes; within = within; rowed = w .rowed; there = w .there })
     where
       axes : live c ≤ 8

@@ -13,7 +13,7 @@ use Rattle.checked.specs.Checked.{Checked}
 use Rattle.chunk.specs.Refusals.{chunkReasons}
 use Rattle.envelope.specs.Refusals.{configJudged}
 use Rattle.envelope.specs.declared.FuseConfig.{FuseConfig}
-use Rattle.rollout.specs.Forecast.{Forecast, placeOf, marginOf, feasibleOf, writtenOf}
+use Rattle.course.specs.Forecast.{Forecast, placeOf, marginOf, feasibleOf, writtenOf}
 use Rattle.brake.specs.declared.BrakeOut.{BrakeOut}
 use Rattle.brake.specs.declared.BrakeOut.the-variants as out
 use Rattle.brake.specs.declared.Sent.{Sent}

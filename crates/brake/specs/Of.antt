@@ -10,9 +10,9 @@ use Rattle.envelope.specs.declared.BrakeKind.the-variants.{PdSecondOrder, First
 use Rattle.envelope.specs.declared.BrakeModel.{BrakeModel}
 use Rattle.envelope.specs.declared.FuseConfig.{FuseConfig}
 use Rattle.workspace.specs.declared.Workspace.{Workspace}
-use Rattle.rollout.specs.declared.Course.{Course}
-use Rattle.rollout.specs.declared.Plant.{Plant}
-use Rattle.rollout.specs.Rule.{rowsLeft}
+use Rattle.course.specs.declared.Course.{Course}
+use Rattle.course.specs.declared.Plant.{Plant}
+use Rattle.course.specs.Rows.{rowsLeft}
 use Rattle.brake.specs.Rule.{live, eight}
 
 abbrev pub workspaceFor : FuseConfig → Workspace

@@ -15,7 +15,8 @@ use Rattle.envelope.specs.declared.BrakeKind.the-variants.{PdSecondOrder}
 use Rattle.envelope.specs.declared.ControlSteps.{ControlSteps}
 use Rattle.envelope.specs.declared.FuseConfig.{FuseConfig}
 use Rattle.workspace.specs.Rule.{slack}
-use Rattle.rollout.specs.Plant.{Gains, State}
+use Rattle.rollout.specs.Plant.{Gains}
+use Rattle.course.specs.Plant.{State}
 use Rattle.rollout.specs.Rule.{Task, after, entry, stop}
 use Rattle.brake.specs.declared.BrakeOut.{BrakeOut}
 use Rattle.brake.specs.declared.BrakeOut.the-variants.{Accepted, Refused}

@@ -19,8 +19,9 @@ use Rattle.envelope.specs.declared.BrakeKind.{BrakeKind}
 use Rattle.envelope.specs.declared.BrakeKind.the-variants.{PdSecondOrder, FirstOrderDecay, BoundedAccel, JerkLimited, ZeroVelocityHold}
 use Rattle.envelope.specs.declared.FuseConfig.{FuseConfig}
 use Rattle.workspace.specs.Rule.{Walls, inward}
-use Rattle.rollout.specs.Plant.{Gains, State}
-use Rattle.rollout.specs.Forecast.{Forecast}
+use Rattle.rollout.specs.Plant.{Gains}
+use Rattle.course.specs.Plant.{State}
+use Rattle.course.specs.Forecast.{Forecast}
 use Rattle.rollout.specs.Rule as rollout
 use Rattle.stopping.specs.declared.Arm.{Arm}
 use Rattle.stopping.specs.Rule as stopping

@@ -10,27 +10,28 @@ ghost use Rattle.chunk.specs.Refusals.{chunkReasons};
 ghost use Rattle.envelope.specs.Refusals.{configJudged};
 ghost use Rattle.envelope.specs.Steps.{substepsIn};
 ghost use Rattle.workspace.specs.Of.{wallsOf};
-ghost use Rattle.rollout.specs.Plant.{State};
-ghost use Rattle.rollout.specs.Forecast.{Forecast, writtenOf};
+ghost use Rattle.course.specs.Plant.{State};
+ghost use Rattle.course.specs.Forecast.{Forecast, writtenOf};
 ghost use Rattle.rollout.specs.Rule as rolling;
+ghost use Rattle.course.specs.Of.{leftOf, runOf};
 ghost use Rattle.rollout.specs.Of as rolled;
 ghost use Rattle.stopping.specs.Rule as stopping-rule;
 ghost use Rattle.stopping.specs.Of as stopped;
 ghost use Rattle.brake.specs.Rule.{armOf, forecastOf, setpoint, ramp, scaledAt, slowed, slower, shorter, brakeRow, holdRow};
 ghost use Rattle.brake.specs.Answer.{tooShort, outcome, lentJudged, forecastAnswer, forecastSlacks, rowLent, brakeAnswer, brakeOutput, holdAnswer, holdOutput};
 ghost use Rattle.brake.specs.Of.{workspaceFor, courseFor, startFor, countFor, Planned};
-ghost use Rattle.checked.specs.Of.{rowFrom};
+ghost use Rattle.checked.specs.Of.{rowFrom, reckonedFrom};
 use checked::Reckoned;
 use checked::Row;
+use course::Course;
+use course::Plant;
+use course::Run;
 use envelope::ActionKind;
 use envelope::BrakeKind;
 use envelope::BrakeModel;
 use envelope::FuseConfig;
 use refusal::Refusal;
-use rollout::Course;
 use rollout::Law;
-use rollout::Plant;
-use rollout::Run;
 use stopping::Arm;
 use workspace::Workspace;
 
@@ -111,7 +112,7 @@ fn start_of(c: FuseConfig, pos: &[f64], vel: &[f64]) -> Plant
 // What a run and the stop distance at its end come to: the first number that isn't finite has the place after the entries.
 fn settled(run: Run, stop: Reckoned) -> BrakeOut
     requires { ⌜ run .done ≤ 4096 ⌝ }
-    ensures { λ r. ⌜ ((t : Forecast) (stand : ℕ → State) → run ≡ rolled.runOf t stand → (run .sound ≡ true → stop ≡ rolled.reckonedFrom (t .stop)) → r ≡ outcome t) ⌝ }
+    ensures { λ r. ⌜ ((t : Forecast) (stand : ℕ → State) → run ≡ runOf t stand → (run .sound ≡ true → stop ≡ reckonedFrom (t .stop)) → r ≡ outcome t) ⌝ }
 {
     if !run.sound | !stop.sound {
         return BrakeOut::Refused(Refusal {
@@ -136,7 +137,7 @@ fn second_order(
     rows: &[f64],
     slack: &mut [f64],
 ) -> BrakeOut
-    requires { ⌜ (rolled.roomy c (length (now rows)) (length (now slack)) ≡ true) × (substepsIn (rolled.leftOf c) (c .brake) (c .per) ≤ 4096) ⌝ }
+    requires { ⌜ (rolled.roomy c (length (now rows)) (length (now slack)) ≡ true) × (substepsIn (leftOf c) (c .brake) (c .per) ≤ 4096) ⌝ }
     ensures { λ r. ⌜ (r ≡ outcome (rolling.forecast binary64 (rolled.taskOf g w c start (now (rows .entry))))) × (now (slack .exit) ≡ writtenOf (rolling.forecast binary64 (rolled.taskOf g w c start (now (rows .entry)))) (now (slack .entry))) ⌝ }
 {
     let run = rollout::rollout(g, w, c, start, rows, slack);
@@ -155,7 +156,7 @@ fn closed(
     rows: &[f64],
     slack: &mut [f64],
 ) -> BrakeOut
-    requires { ⌜ (stopped.roomy c (length (now rows)) (length (now slack)) ≡ true) × (suc (rolled.leftOf c .0) ≤ 4096) ⌝ }
+    requires { ⌜ (stopped.roomy c (length (now rows)) (length (now slack)) ≡ true) × (suc (leftOf c .0) ≤ 4096) ⌝ }
     ensures { λ r. ⌜ (r ≡ outcome (stopping-rule.forecast binary64 (stopped.taskOf arm react w c start (now (rows .entry))))) × (now (slack .exit) ≡ writtenOf (stopping-rule.forecast binary64 (stopped.taskOf arm react w c start (now (rows .entry)))) (now (slack .entry))) ⌝ }
 {
     let run = stopping::stopping(arm, react, w, c, start, rows, slack);
@@ -197,7 +198,7 @@ fn forecast(
 fn entries(brake: BrakeModel, from: usize) -> usize
     ensures { λ r. ⌜ r ≡ countFor brake (brake .kind) from ⌝ }
 {
-    let left = rollout::rows_left(brake.commit, from);
+    let left = course::rows_left(brake.commit, from);
     let kind = brake.kind;
     match kind {
         BrakeKind::PdSecondOrder {
@@ -312,7 +313,7 @@ fn setpoint(w: Workspace, pos: &[f64], n: usize) -> [f64; 8]
 
 // The part of the velocity that one step of braking leaves.
 fn ramp(a_max: f64, dt: f64, vel: &[f64], n: usize) -> Reckoned
-    ensures { λ r. ⌜ r ≡ rolled.reckonedFrom (ramp binary64 «a_max» dt (now (vel .entry)) n) ⌝ }
+    ensures { λ r. ⌜ r ≡ reckonedFrom (ramp binary64 «a_max» dt (now (vel .entry)) n) ⌝ }
 {
     let s = fmath::magnitude(vel, fmath::fewer(n, vel.len()));
     let most = s + 1e-9;

@@ -1,5 +1,4 @@
 pub mod Told
-pub mod Reach
 pub mod Along
 pub mod Wide
 pub mod Rows

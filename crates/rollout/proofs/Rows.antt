@@ -11,8 +11,10 @@ use lib.Ieee.{Float, Format}
 use Rattle.chunk.specs.Rule.{rowOf}
 use Rattle.chunk.proofs.Rows.{row-within}
 use Rattle.workspace.specs.Rule.{inward}
-use Rattle.rollout.specs.Plant.{State, substep}
-use Rattle.rollout.specs.Rule.{Task, rowsLeft, pushes, rowAt, pushed, setpoint, aim, after}
+use Rattle.course.specs.Plant.{State}
+use Rattle.rollout.specs.Plant.{substep}
+use Rattle.rollout.specs.Rule.{Task, pushes, rowAt, pushed, setpoint, aim, after}
+use Rattle.course.specs.Rows.{rowsLeft}
 
 -- one row more
 pub row-more : (i per : ℕ) → (i + 1) * per ≡ i * per + per

@@ -19,7 +19,8 @@ use Rattle.checked.proofs.Told.{Tells, implied}
 use Rattle.fmath.proofs.Lengths.{dist-tells}
 use Rattle.workspace.specs.Rule.{Walls, between, gap, slack}
 use Rattle.workspace.proofs.Gaps.{between-tells}
-use Rattle.rollout.specs.Plant.{Gains, Motion, State, axis, motionAt, substep}
+use Rattle.rollout.specs.Plant.{Gains, Motion, axis, motionAt, substep}
+use Rattle.course.specs.Plant.{State}
 use Rattle.rollout.specs.Rule.{stopDistance}
 
 -- axis j anew

@@ -20,11 +20,13 @@ use Rattle.workspace.specs.Of.{wallsOf}
 use Rattle.checked.specs.Of.{reckonedFrom}
 use Rattle.workspace.proofs.Gaps.{slack-same}
 use Rattle.rollout.specs.declared.Law.{Law}
-use Rattle.rollout.specs.declared.Plant.{Plant}
-use Rattle.rollout.specs.declared.Run.{Run}
-use Rattle.rollout.specs.Plant.{Gains, Motion, State, axis, motionAt, substep}
+use Rattle.course.specs.declared.Plant.{Plant}
+use Rattle.course.specs.declared.Run.{Run}
+use Rattle.rollout.specs.Plant.{Gains, Motion, axis, motionAt, substep}
+use Rattle.course.specs.Plant.{State}
 use Rattle.rollout.specs.Rule.{Task}
-use Rattle.rollout.specs.Of.{gainsOf, stateOf, joinedOf, endedOf, Along, Towards, Under}
+use Rattle.rollout.specs.Of.{gainsOf, joinedOf, endedOf, Along, Towards, Under}
+use Rattle.course.specs.Of.{stateOf}
 use Rattle.rollout.proofs.Told.{put, untouched, length-kept, substep-at, substep-speed}
 use Rattle.rollout.proofs.Along.{turn-fails, turn-advances}
 

@@ -1,4 +1,3 @@
 pub mod Plant
-pub mod Forecast
 pub mod Rule
 pub mod Of

@@ -5,6 +5,7 @@ use lib.ListN.{set}
 use lib.Ieee.{Float, Format}
 use Rattle.checked.specs.Each.{at}
 use Rattle.checked.specs.Checked.{Checked, _>>=_, pure, plus, minus, times}
+use Rattle.course.specs.Plant.{State}
 
 pub record Gains : Type 0 where
   pub kp : Float
@@ -28,11 +29,6 @@ axis f g a m = do
   dp ← times f v (g .dt)
   p ← plus f (m .p) dp
   pure (record { p = p; v = v })
-
--- where the arm is, and how fast it moves, axis by axis
-pub record State : Type 0 where
-  pub p : List Float
-  pub v : List Float
 
 abbrev pub motionAt : State → ℕ → Motion
 motionAt s j = record { p = at (s .p) j; v = at (s .v) j }

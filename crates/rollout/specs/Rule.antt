@@ -1,5 +1,5 @@
 -- The second-order brake: the committed rows, then the setpoint clamp(p), each held for its substeps; the slack after each substep.
-use Prim.Native.Nat.{ℕ, zero, suc, _+_, _-_, _/_}
+use Prim.Native.Nat.{ℕ, zero, suc, _+_, _/_}
 use mathlib.Core.List.{List}
 use lib.Dec.{ltb}
 use lib.Ieee.{Float, Format}
@@ -12,12 +12,10 @@ use Rattle.envelope.specs.declared.ControlSteps.{ControlSteps}
 use Rattle.envelope.specs.declared.Substeps.{Substeps}
 use Rattle.envelope.specs.Steps.{substepsOf, substepsIn}
 use Rattle.workspace.specs.Rule.{Walls, inward, slack}
-use Rattle.rollout.specs.Plant.{Gains, State, substep}
-use Rattle.rollout.specs.Forecast.{Forecast}
-
--- the control steps still committed from a row on: none past them
-abbrev pub rowsLeft : ControlSteps → ℕ → ControlSteps
-rowsLeft commit from = record { 0 = commit .0 - from }
+use Rattle.rollout.specs.Plant.{Gains, substep}
+use Rattle.course.specs.Plant.{State}
+use Rattle.course.specs.Rows.{rowsLeft}
+use Rattle.course.specs.Forecast.{Forecast}
 
 pub record Task : Type 0 where
   pub gains : Gains

@@ -8,46 +8,24 @@ ghost use lib.Ieee.{Float, binary64};
 ghost use Rattle.bits.specs.Choice.{if_then_else_};
 ghost use Rattle.envelope.specs.Steps.{substepsOf};
 ghost use Rattle.rollout.specs.Plant.{axis, substep};
-ghost use Rattle.rollout.specs.Forecast.{writtenOf};
-ghost use Rattle.rollout.specs.Rule.{Task, rowsLeft, after, stopDistance, forecast};
-ghost use Rattle.rollout.specs.declared.Plant.{Plant};
-ghost use Rattle.rollout.specs.Of.{gainsOf, stateOf, movedFrom, joinedOf, endedOf, taskOf, Along, Towards, Under, leftOf, shaped, roomy, noRun, runOf};
+ghost use Rattle.course.specs.Forecast.{writtenOf};
+ghost use Rattle.rollout.specs.Rule.{Task, after, stopDistance, forecast};
+ghost use Rattle.course.specs.declared.Plant.{Plant};
+ghost use Rattle.rollout.specs.Of.{gainsOf, movedFrom, joinedOf, endedOf, taskOf, Along, Towards, Under, roomy};
+ghost use Rattle.course.specs.Of.{stateOf, leftOf, shaped, noRun, runOf};
 ghost use Rattle.checked.specs.Of.{reckonedFrom};
 use checked::Reckoned;
+use course::Course;
+use course::Plant;
+use course::Run;
 use envelope::ControlSteps;
-use envelope::Substeps;
 use workspace::Workspace;
-
-// Where the arm is and how fast it moves, axis by axis.
-pub struct Plant {
-    pub p: [f64; 8],
-    pub v: [f64; 8],
-}
 
 // The gains, and the length of a substep.
 pub struct Law {
     pub k_p: f64,
     pub k_v: f64,
     pub dt: f64,
-}
-
-// The live axes, the shape of the rows, and how far the run goes.
-pub struct Course {
-    pub live: usize,
-    pub horizon: u16,
-    pub dim: u16,
-    pub from: usize,
-    pub commit: ControlSteps,
-    pub brake: ControlSteps,
-    pub per: Substeps,
-}
-
-// How far a run has come: the plant, the least slack, the entries written, and whether each number so far is finite.
-pub struct Run {
-    pub plant: Plant,
-    pub margin: f64,
-    pub done: usize,
-    pub sound: bool,
 }
 
 struct Moved {
@@ -216,22 +194,12 @@ fn hold(g: Law, w: Workspace, n: usize, a: &[f64], count: usize, run: Run, slack
     abreast(g, w, n, a, count, run, slack)
 }
 
-// The control steps still committed from a row on: none past them.
-pub fn rows_left(commit: ControlSteps, from: usize) -> ControlSteps
-    ensures { λ r. ⌜ r .0 ≡ rowsLeft commit from .0 ⌝ }
-{
-    if (commit.0 as usize) <= from {
-        return ControlSteps(0);
-    }
-    ControlSteps(commit.0 - from as u16)
-}
-
 // The committed rows, each held for its substeps.
 fn push(g: Law, w: Workspace, c: Course, rows: &[f64], run: Run, slack: &mut [f64]) -> Run
     requires { ⌜ (shaped c (length (now rows)) ≡ true) × (run .done + substepsOf (leftOf c) (c .per) ≤ length (now slack)) ⌝ }
     ensures { λ r. ⌜ (r .done ≤ run .done + substepsOf (leftOf c) (c .per)) × ((s : Plant) (l : List Float) → Along binary64 (taskOf g w c s (now (rows .entry))) l 0 run (now (slack .entry)) → Along binary64 (taskOf g w c s (now (rows .entry))) l (substepsOf (leftOf c) (c .per)) r (now (slack .exit))) ⌝ }
 {
-    let left = rows_left(c.commit, c.from).0 as usize;
+    let left = course::rows_left(c.commit, c.from).0 as usize;
     let per = c.per.0 as usize;
     let mut r = run;
     let mut i = 0;
@@ -247,7 +215,7 @@ fn push(g: Law, w: Workspace, c: Course, rows: &[f64], run: Run, slack: &mut [f6
 fn roomy(c: Course, len: usize, room: usize) -> bool
     ensures { λ r. ⌜ r ≡ roomy c len room ⌝ }
 {
-    let n = envelope::substeps_in(rows_left(c.commit, c.from), c.brake, c.per);
+    let n = envelope::substeps_in(course::rows_left(c.commit, c.from), c.brake, c.per);
     let shape = (c.horizon as usize) * (c.dim as usize);
     (c.live <= 8)
         & (c.live <= c.dim as usize)

@@ -12,12 +12,12 @@ use Rattle.checked.proofs.Told.{implied}
 use Rattle.checked.specs.declared.Reckoned.{Reckoned}
 use Rattle.workspace.specs.Rule.{slackWithin}
 use Rattle.checked.specs.Of.{reckonedFrom, rowFrom}
-use Rattle.rollout.specs.declared.Plant.{Plant}
-use Rattle.rollout.specs.declared.Run.{Run}
-use Rattle.rollout.specs.Plant.{State}
-use Rattle.rollout.specs.Forecast.{fine, slackAt}
-use Rattle.rollout.specs.Of.{stateOf}
-use Rattle.rollout.proofs.Along.{stands-at, along-fails, along-advances, along-start}
+use Rattle.course.specs.declared.Plant.{Plant}
+use Rattle.course.specs.declared.Run.{Run}
+use Rattle.course.specs.Plant.{State}
+use Rattle.course.specs.Forecast.{fine, slackAt}
+use Rattle.course.specs.Of.{stateOf}
+use Rattle.course.proofs.Along.{stands-at, along-fails, along-advances, along-start}
 use Rattle.checked.specs.declared.Row.{Row}
 use Rattle.stopping.specs.Rule.{Task, rowAt, radius, command, step, reaction, gain, radiusAt, commandAt, stepAt, after, stand, entry, forecast}
 use Rattle.stopping.specs.Of.{Along, Under, haltedAt}

@@ -4,8 +4,8 @@ use mathlib.Core.Bool.{true}
 use Prim.Native.Nat.{ℕ, _<_}
 use borrow.Author.Tests.{ltb-true}
 use Rattle.checked.proofs.Each.{every-at}
-use Rattle.rollout.specs.declared.Course.{Course}
-use Rattle.rollout.specs.Of.{leftOf, shaped}
+use Rattle.course.specs.declared.Course.{Course}
+use Rattle.course.specs.Of.{leftOf, shaped}
 use Rattle.stopping.specs.Of.{roomy}
 
 pub room-of : (c : Course) (len room : ℕ) → roomy c len room ≡ true → (shaped c len ≡ true) × (leftOf c .0 < room)

@@ -19,7 +19,7 @@ use Rattle.fmath.proofs.Lengths.{norm-tells, dist-tells}
 use Rattle.envelope.specs.declared.ActionKind.{ActionKind}
 use Rattle.envelope.specs.declared.ActionKind.the-variants.{EePosition, EeDelta, JointPosition, JointVelocity, Other}
 use Rattle.envelope.specs.declared.BrakeKind.{BrakeKind}
-use Rattle.rollout.specs.Plant.{State}
+use Rattle.course.specs.Plant.{State}
 use Rattle.stopping.specs.declared.Arm.{Arm}
 use Rattle.stopping.specs.Rule.{ramp, ease, glide, radius, commanded, command, moved, stopDistance}
 

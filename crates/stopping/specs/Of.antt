@@ -8,10 +8,10 @@ use lib.Ieee.{Float, Format, add}
 use Rattle.checked.specs.Each.{every}
 use Rattle.workspace.specs.declared.Workspace.{Workspace}
 use Rattle.workspace.specs.Of.{wallsOf}
-use Rattle.rollout.specs.declared.Course.{Course}
-use Rattle.rollout.specs.declared.Plant.{Plant}
-use Rattle.rollout.specs.declared.Run.{Run}
-use Rattle.rollout.specs.Of.{stateOf, Ran, leftOf, shaped}
+use Rattle.course.specs.declared.Course.{Course}
+use Rattle.course.specs.declared.Plant.{Plant}
+use Rattle.course.specs.declared.Run.{Run}
+use Rattle.course.specs.Of.{stateOf, Ran, leftOf, shaped}
 use Rattle.stopping.specs.declared.Arm.{Arm}
 use Rattle.stopping.specs.Rule.{Task, reaction, gain, stand, forecast}
 use Rattle.checked.specs.Finite.{finite}

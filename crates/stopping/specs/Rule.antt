@@ -15,9 +15,9 @@ use Rattle.envelope.specs.declared.BrakeKind.{BrakeKind}
 use Rattle.envelope.specs.declared.BrakeKind.the-variants.{PdSecondOrder, FirstOrderDecay, BoundedAccel, JerkLimited, ZeroVelocityHold}
 use Rattle.envelope.specs.declared.ControlSteps.{ControlSteps}
 use Rattle.workspace.specs.Rule.{Walls, slackWithin}
-use Rattle.rollout.specs.Plant.{State}
-use Rattle.rollout.specs.Forecast.{Forecast}
-use Rattle.rollout.specs.Rule.{rowsLeft}
+use Rattle.course.specs.Plant.{State}
+use Rattle.course.specs.Forecast.{Forecast}
+use Rattle.course.specs.Rows.{rowsLeft}
 use Rattle.stopping.specs.declared.Arm.{Arm}
 
 pub record Task : Type 0 where

@@ -15,7 +15,7 @@ use Rattle.chunk.specs.Rule.{rowOf}
 use Rattle.envelope.specs.declared.ActionKind.the-variants.{JointVelocity}
 use Rattle.envelope.specs.declared.BrakeKind.the-variants.{BoundedAccel}
 use Rattle.workspace.specs.Rule.{betweenWithin, slackWithin}
-use Rattle.rollout.specs.Forecast.{slackAt, reach, placeOf, marginOf, feasibleOf}
+use Rattle.course.specs.Forecast.{slackAt, reach, placeOf, marginOf, feasibleOf}
 use Rattle.stopping.specs.Rule.{Task, ratio, ramp, glide, radius, commanded, command, moved, step, reaction, after, entry, stopDistance, forecast}
 
 abbrev sample : Task

@@ -11,16 +11,16 @@ ghost use Rattle.stopping.specs.Rule.{ratio, ramp, ease, glide, radius, 
 ghost use Rattle.checked.specs.Of.{rowFrom, reckonedFrom};
 ghost use Rattle.stopping.specs.Of.{sumOf, taskOf, haltedAt, Along, Under, roomy};
 ghost use Rattle.checked.specs.Checked.{times, divided};
-ghost use Rattle.rollout.specs.Forecast.{writtenOf};
-ghost use Rattle.rollout.specs.Of.{stateOf, leftOf, shaped, runOf, noRun};
-ghost use Rattle.rollout.specs.declared.Plant.{Plant};
+ghost use Rattle.course.specs.Forecast.{writtenOf};
+ghost use Rattle.course.specs.Of.{stateOf, leftOf, shaped, runOf, noRun};
+ghost use Rattle.course.specs.declared.Plant.{Plant};
 use checked::Reckoned;
 use checked::Row;
+use course::Course;
+use course::Plant;
+use course::Run;
 use envelope::ActionKind;
 use envelope::BrakeKind;
-use rollout::Course;
-use rollout::Plant;
-use rollout::Run;
 use workspace::Workspace;
 
 // How the arm takes a row, how it brakes, the control period, and the greatest acceleration and jerk.
@@ -219,7 +219,7 @@ fn follow(
     requires { ⌜ (shaped c (length (now rows)) ≡ true) × (run .done + leftOf c .0 ≤ length (now slack)) ⌝ }
     ensures { λ r. ⌜ (r .done ≤ run .done + leftOf c .0) × ((react : ℕ) (s : Plant) (l : List Float) → Under binary64 (taskOf arm react w c s (now (rows .entry))) g wait → Along binary64 (taskOf arm react w c s (now (rows .entry))) l 1 run (now (slack .entry)) → Along binary64 (taskOf arm react w c s (now (rows .entry))) l (suc (leftOf c .0)) r (now (slack .exit))) ⌝ }
 {
-    let left = rollout::rows_left(c.commit, c.from).0 as usize;
+    let left = course::rows_left(c.commit, c.from).0 as usize;
     let mut r = run;
     let mut i = 0;
     while i < left {
@@ -275,7 +275,7 @@ fn reaction(react: u16, dt: f64) -> Reckoned
 fn roomy(c: Course, len: usize, room: usize) -> bool
     ensures { λ r. ⌜ r ≡ roomy c len room ⌝ }
 {
-    let left = rollout::rows_left(c.commit, c.from).0 as usize;
+    let left = course::rows_left(c.commit, c.from).0 as usize;
     let shape = (c.horizon as usize) * (c.dim as usize);
     (c.live <= 8) & (c.live <= c.dim as usize) & (1 <= c.horizon) & (len == shape) & (left < room)
 }

@@ -4,14 +4,14 @@ use mathlib.Core.Bool.{true}
 use borrow.Author.Needs.{needs}
 use denote.Ref.{now}
 use lib.Ieee.{binary64}
-use Rattle.rollout.specs.declared.Run.{Run}
-use Rattle.rollout.specs.Plant.{State}
-use Rattle.rollout.specs.Forecast.{fine}
-use Rattle.rollout.specs.Of.{stateOf, runOf}
+use Rattle.course.specs.declared.Run.{Run}
+use Rattle.course.specs.Plant.{State}
+use Rattle.course.specs.Forecast.{fine}
+use Rattle.course.specs.Of.{stateOf, runOf}
 use Rattle.checked.specs.Of.{reckonedFrom}
 use Rattle.stopping.specs.Rule.{Task, reaction, stand, stopDistance, forecast}
 use Rattle.stopping.specs.Of.{taskOf}
-use Rattle.rollout.proofs.Reach.{reach-whole}
+use Rattle.course.proofs.Reach.{reach-whole}
 use Rattle.brake.proofs.Outcome.{done-few}
 use Rattle.brake.proofs.closed.Statement.{statement}
 use Rattle.brake.proofs.closed.Tie as tie

@@ -3,7 +3,7 @@ use mathlib.Core.Path.{ap, _∙_}
 use borrow.Author.Needs.{needs}
 use denote.Ref.{now}
 use lib.ListN.{length}
-use Rattle.rollout.specs.Forecast.{Forecast, writtenOf}
+use Rattle.course.specs.Forecast.{Forecast, writtenOf}
 use Rattle.brake.specs.Answer.{outcome}
 use Rattle.brake.proofs.ByKind.{second-order-is, closed-is}
 use Rattle.brake.proofs.Room.{second-order-room, closed-room}

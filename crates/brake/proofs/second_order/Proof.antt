@@ -4,13 +4,14 @@ use mathlib.Core.Bool.{true}
 use borrow.Author.Needs.{needs}
 use denote.Ref.{now}
 use lib.Ieee.{binary64}
-use Rattle.rollout.specs.declared.Run.{Run}
-use Rattle.rollout.specs.Plant.{State}
-use Rattle.rollout.specs.Forecast.{fine}
+use Rattle.course.specs.declared.Run.{Run}
+use Rattle.course.specs.Plant.{State}
+use Rattle.course.specs.Forecast.{fine}
 use Rattle.rollout.specs.Rule.{Task, after, stopDistance, forecast}
-use Rattle.rollout.specs.Of.{stateOf, taskOf, runOf}
+use Rattle.course.specs.Of.{stateOf, runOf}
+use Rattle.rollout.specs.Of.{taskOf}
 use Rattle.checked.specs.Of.{reckonedFrom}
-use Rattle.rollout.proofs.Reach.{reach-whole}
+use Rattle.course.proofs.Reach.{reach-whole}
 use Rattle.brake.proofs.Outcome.{done-few}
 use Rattle.brake.proofs.second_order.Statement.{statement}
 use Rattle.brake.proofs.second_order.Tie as tie

@@ -12,11 +12,12 @@ use lib.Ieee.{Float, binary64}
 use Rattle.checked.specs.Each.{at}
 use Rattle.checked.specs.Row.{padded}
 use Rattle.checked.proofs.Copy.{all-padded, padded-at}
-use Rattle.rollout.specs.declared.Plant.{Plant}
-use Rattle.rollout.specs.declared.Run.{Run}
+use Rattle.course.specs.declared.Plant.{Plant}
+use Rattle.course.specs.declared.Run.{Run}
 use Rattle.rollout.specs.Rule.{Task, after, forecast}
 use Rattle.rollout.specs.Of.{gainsOf, Along, Towards, Under}
-use Rattle.rollout.proofs.Along.{towards-next, along-zero, along-sum, along-at, along-rest}
+use Rattle.rollout.proofs.Along.{towards-next}
+use Rattle.course.proofs.Along.{along-zero, along-sum, along-at, along-rest}
 use Rattle.rollout.proofs.Wide.{joined-itself, as-long, running, wide-fails, wide-advances, going}
 use Rattle.rollout.proofs.abreast.Statement.{statement}
 use Rattle.rollout.proofs.abreast.Tie as tie

@@ -8,7 +8,8 @@ use denote.Ref.{now}
 use lib.ListN.{length}
 use lib.Ieee.{binary64}
 use Rattle.rollout.specs.Rule.{after, forecast}
-use Rattle.rollout.proofs.Along.{along-stopped, turn-fails, turn-advances}
+use Rattle.course.proofs.Along.{along-stopped}
+use Rattle.rollout.proofs.Along.{turn-fails, turn-advances}
 use Rattle.rollout.proofs.advance.Statement.{statement}
 use Rattle.rollout.proofs.advance.Tie as tie
 

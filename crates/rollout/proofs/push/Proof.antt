@@ -10,11 +10,12 @@ use lib.ListN.{length}
 use lib.Ieee.{Float, binary64}
 use Rattle.chunk.proofs.Rows.{row-long}
 use Rattle.chunk.proofs.Rows.{row-within}
-use Rattle.rollout.specs.declared.Plant.{Plant}
+use Rattle.course.specs.declared.Plant.{Plant}
 use Rattle.rollout.specs.Rule.{after, forecast}
-use Rattle.rollout.specs.Of.{taskOf, Along, leftOf}
-use Rattle.rollout.proofs.Along.{along-at}
-use Rattle.rollout.proofs.Room.{shape-of}
+use Rattle.rollout.specs.Of.{taskOf, Along}
+use Rattle.course.specs.Of.{leftOf}
+use Rattle.course.proofs.Along.{along-at}
+use Rattle.course.proofs.Room.{shape-of}
 use Rattle.rollout.proofs.Rows.{row-more, aims-row}
 use Rattle.rollout.proofs.push.Statement.{statement}
 use Rattle.rollout.proofs.push.Tie as tie

@@ -11,11 +11,13 @@ use lib.ListN.{length}
 use lib.Ieee.{binary64, ofBits, div}
 use Rattle.workspace.specs.Rule.{inward}
 use Rattle.workspace.specs.Of.{wallsOf}
-use Rattle.rollout.specs.Plant.{State}
+use Rattle.course.specs.Plant.{State}
 use Rattle.rollout.specs.Rule.{Task, pushes, total, after, forecast}
-use Rattle.rollout.specs.Of.{taskOf, Along, Towards, leftOf, shaped, roomy}
-use Rattle.rollout.proofs.Along.{along-start, along-at, stands-at, run-is, written-is}
-use Rattle.rollout.proofs.Room.{shape-of, room-of}
+use Rattle.rollout.specs.Of.{taskOf, Along, Towards, roomy}
+use Rattle.course.specs.Of.{leftOf, shaped}
+use Rattle.course.proofs.Along.{along-start, along-at, stands-at, run-is, written-is}
+use Rattle.course.proofs.Room.{shape-of}
+use Rattle.rollout.proofs.Room.{room-of}
 use Rattle.rollout.proofs.Rows.{aims-setpoint}
 use Rattle.rollout.proofs.rollout.Statement.{statement}
 use Rattle.rollout.proofs.rollout.Tie as tie

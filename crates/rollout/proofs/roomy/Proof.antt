@@ -3,7 +3,8 @@ use native.Mathlib.Omega.{arith}
 use borrow.Author.Needs.{needs}
 use Rattle.checked.specs.Each.{every}
 use Rattle.chunk.proofs.Rows.{place-small}
-use Rattle.rollout.specs.Of.{shaped, roomy}
+use Rattle.course.specs.Of.{shaped}
+use Rattle.rollout.specs.Of.{roomy}
 use Rattle.rollout.proofs.roomy.Statement.{statement}
 use Rattle.rollout.proofs.roomy.Tie as tie
 

@@ -8,7 +8,8 @@ use lib.ListN.{length}
 use lib.Ieee.{Float, binary64}
 use Rattle.rollout.specs.Rule.{Task, after, forecast}
 use Rattle.rollout.specs.Of.{Along, Towards, Under}
-use Rattle.rollout.proofs.Along.{towards-next, along-zero, along-sum, along-at}
+use Rattle.rollout.proofs.Along.{towards-next}
+use Rattle.course.proofs.Along.{along-zero, along-sum, along-at}
 use Rattle.rollout.proofs.stepwise.Statement.{statement}
 use Rattle.rollout.proofs.stepwise.Tie as tie
 

@@ -3,7 +3,7 @@ use mathlib.Core.Path.{_≡_}
 use borrow.Author.Needs.{needs}
 use lib.Ieee.{binary64, ofBits}
 use Rattle.fmath.specs.Norm.{dist}
-use Rattle.rollout.specs.Of.{stateOf}
+use Rattle.course.specs.Of.{stateOf}
 use Rattle.rollout.specs.Rule.{stopDistance}
 use Rattle.rollout.proofs.Told.{stop-tells}
 use Rattle.rollout.proofs.stop_distance.Statement.{statement}

@@ -8,7 +8,8 @@ use lib.ListN.{length, length-set}
 use lib.Ieee.{binary64}
 use Rattle.rollout.specs.Plant.{Motion, substep}
 use Rattle.rollout.specs.declared.Moved.{Moved}
-use Rattle.rollout.specs.Of.{gainsOf, stateOf}
+use Rattle.rollout.specs.Of.{gainsOf}
+use Rattle.course.specs.Of.{stateOf}
 use Rattle.rollout.proofs.Told.{substep-more}
 use Rattle.rollout.proofs.substep.Statement.{statement}
 use Rattle.rollout.proofs.substep.Tie as tie

@@ -8,10 +8,10 @@ use denote.Ref.{now}
 use lib.ListN.{length}
 use lib.Ieee.{Float, binary64}
 use Rattle.chunk.proofs.Rows.{row-long}
-use Rattle.rollout.specs.declared.Plant.{Plant}
-use Rattle.rollout.specs.Of.{leftOf}
-use Rattle.rollout.proofs.Along.{along-at}
-use Rattle.rollout.proofs.Room.{shape-of}
+use Rattle.course.specs.declared.Plant.{Plant}
+use Rattle.course.specs.Of.{leftOf}
+use Rattle.course.proofs.Along.{along-at}
+use Rattle.course.proofs.Room.{shape-of}
 use Rattle.stopping.specs.Rule.{stand, forecast}
 use Rattle.stopping.specs.Of.{taskOf, Along, Under}
 use Rattle.stopping.proofs.follow.Statement.{statement}

@@ -3,7 +3,7 @@ use native.Mathlib.Omega.{arith}
 use borrow.Author.Needs.{needs}
 use Rattle.checked.specs.Each.{every}
 use Rattle.chunk.proofs.Rows.{place-small}
-use Rattle.rollout.specs.Of.{shaped}
+use Rattle.course.specs.Of.{shaped}
 use Rattle.stopping.specs.Of.{roomy}
 use Rattle.stopping.proofs.roomy.Statement.{statement}
 use Rattle.stopping.proofs.roomy.Tie as tie

@@ -6,7 +6,7 @@ use borrow.Author.Tests.{not-true, not-false}
 use denote.Ref.{now}
 use lib.ListN.{length}
 use lib.Ieee.{binary64}
-use Rattle.rollout.proofs.Along.{along-stopped}
+use Rattle.course.proofs.Along.{along-stopped}
 use Rattle.stopping.specs.Rule.{stand, forecast}
 use Rattle.stopping.specs.Of.{taskOf}
 use Rattle.stopping.proofs.Along.{turn-fails, turn-advances}

@@ -5,7 +5,7 @@ use lib.IntN.{pos}
 use lib.Ieee.{binary64, ofInt}
 use Rattle.checked.specs.Checked.{times}
 use Rattle.fmath.specs.Norm.{dist}
-use Rattle.rollout.specs.Of.{stateOf}
+use Rattle.course.specs.Of.{stateOf}
 use Rattle.stopping.specs.Rule.{stopDistance}
 use Rattle.stopping.proofs.Told.{stop-tells}
 use Rattle.stopping.proofs.stop_distance.Statement.{statement}

@@ -8,13 +8,13 @@ use borrow.Author.Tests.{not-true, not-false}
 use denote.Ref.{now}
 use lib.ListN.{length}
 use lib.Ieee.{binary64, ofBits, div}
-use Rattle.rollout.proofs.Along.{run-is, written-is}
+use Rattle.course.proofs.Along.{run-is, written-is}
 use Rattle.checked.specs.declared.Reckoned.{Reckoned}
 use Rattle.stopping.specs.Rule.{Task, stand, reaction, gain, forecast}
 use Rattle.stopping.specs.Of.{taskOf, Along, roomy}
 use Rattle.checked.specs.Of.{reckonedFrom}
-use Rattle.rollout.specs.Of.{leftOf, shaped}
-use Rattle.rollout.proofs.Room.{shape-of}
+use Rattle.course.specs.Of.{leftOf, shaped}
+use Rattle.course.proofs.Room.{shape-of}
 use Rattle.stopping.proofs.Room.{room-of}
 use Rattle.stopping.proofs.stopping.Statement.{statement}
 use Rattle.stopping.proofs.stopping.Tie as tie

@@ -55,7 +55,7 @@ use Rattle.lictor.proofs.lictor_standardise.Reads as lictor-standardise
 use Rattle.lictor.proofs.lictor_aggregate.Reads as lictor-aggregate
 use Rattle.lictor.proofs.lictor_trip.Reads as lictor-trip
 use Rattle.lictor.proofs.lictor_time_bin.Reads as lictor-time-bin
-use Rattle.wall.proofs.OneAnswer.{unique, both, One, OneWithLent}
+use Rattle.promises.proofs.OneAnswer.{unique, both, One, OneWithLent}
 
 -- ---- the records
 

@@ -1,4 +1,2 @@
-pub mod Inputs
-pub mod Wall
 pub mod Beliefs
 pub mod Refused

@@ -7,7 +7,7 @@ use native.Mathlib.Numerals.{add-one}
 use native.Mathlib.Omega.{arith}
 use Rattle.bits.specs.Choice.{if_then_else_}
 use Rattle.checked.specs.Each.{all}
-use Rattle.rollout.specs.Forecast.{reach}
+use Rattle.course.specs.Forecast.{reach}
 
 module _ (ok : ℕ → Bool) where
   pub all-next : (k : ℕ) → all ok (k + 1) ≡ all ok k && ok k

@@ -39,7 +39,7 @@ use Rattle.tier1.specs.declared.Head.{Head}
 use Rattle.tier1.specs.declared.Tier1Rt.{Tier1Rt}
 use Rattle.tier1.specs.Refusals.{none, prevJudged, stateJudged}
 use Rattle.tier1.specs.Of as tier1
-use Rattle.rollout.specs.Forecast.{Forecast, placeOf}
+use Rattle.course.specs.Forecast.{Forecast, placeOf}
 use Rattle.brake.specs.declared.BrakeOut.the-variants as out
 use Rattle.brake.specs.Answer.{plan, lentJudged, rowLent, outcome, answerAt, sentAt, forecastRefusal, forecastAnswer, brakeSent, brakeRefusal, brakeAnswer, holdRefusal, holdAnswer}
 use Rattle.lictor.specs.Answer.{numberOf as numberIn, maskNumber, countNumber, emptinessNumber, verdictNumber, binNumber, checkNumber, forecastNumber, sentNumber}

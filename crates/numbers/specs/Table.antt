@@ -2,7 +2,7 @@
 use Prim.Native.Nat.{ℕ}
 use mathlib.Core.Bool.{true, false}
 use mathlib.Core.List.{List, [], _∷_}
-use Rattle.wall.specs.Inputs.{1!, 2!, card, forecastOf, rootOf, rowOf, windowOf, gateOf}
+use Rattle.numbers.specs.Inputs.{1!, 2!, card, forecastOf, rootOf, rowOf, windowOf, gateOf}
 
 pub record Case : Type 0 where
   pub given : List ℕ

@@ -64,7 +64,7 @@ use Rattle.tier1.proofs.Tier1Rt.new.Reads as tier1-rt-new
 use Rattle.tier1.proofs.Tier1Rt.reset.Reads as tier1-rt-reset
 use Rattle.tier1.proofs.features.Reads as features
 use Rattle.tier1.proofs.tick_with.Reads as tick-with
-use Rattle.rollout.proofs.rows_left.Reads as rows-left
+use Rattle.course.proofs.rows_left.Reads as rows-left
 use Rattle.rollout.proofs.rollout.Reads as rollout
 use Rattle.rollout.proofs.stop_distance.Reads as rollout-stop-distance
 use Rattle.stopping.proofs.stopping.Reads as stopping
@@ -79,7 +79,7 @@ use Rattle.conformal.proofs.standardise.Reads as standardise
 use Rattle.conformal.proofs.aggregate.Reads as aggregate
 use Rattle.conformal.proofs.trip.Reads as trip
 use Rattle.conformal.proofs.time_bin.Reads as time-bin
-use Rattle.conformal.proofs.weight.Reads as weight
+use Rattle.bits.proofs.weight.Reads as weight
 use Rattle.refusal.proofs.Refusal.of.Reads as refusal-of
 use Rattle.refusal.proofs.Refusal.when.Reads as refusal-when
 use Rattle.refusal.proofs.Refusal.earlier.Reads as refusal-earlier

@@ -24,12 +24,12 @@ use Rattle.tier0.specs.declared.Check.the-variants as check
 use Rattle.tier0.proofs.Promises.{no-contact-no-trip, no-contact-no-action-trip}
 use Rattle.tier0.proofs.Within.{chunk-touched, action-touched, trips-raised}
 use Rattle.tier0.proofs.NoContact.{no-contact-chunk-answer, no-contact-chunk-rows, no-contact-action-answer, no-contact-action-row}
-use Rattle.rollout.specs.Forecast.{placeOf}
+use Rattle.course.specs.Forecast.{placeOf}
 use Rattle.brake.specs.declared.BrakeOut.the-variants as forecast
 use Rattle.brake.specs.declared.Sent.the-variants as sent
 use Rattle.brake.specs.Answer.{answerAt as foreseen, plan, lentJudged, forecastRefusal, forecastAnswer, rowLent, sentAt, brakeSent, brakeRefusal, brakeAnswer, holdRefusal, holdAnswer}
 use Rattle.brake.proofs.Promises.{feasible-exactly}
-use Rattle.wall.specs.Beliefs.{EmptyBoxSlowsNothing, OneChannelIs4, OneChannelIsRefused, TouchingTripsNothing, StartIsNotInspected}
+use Rattle.promises.specs.Beliefs.{EmptyBoxSlowsNothing, OneChannelIs4, OneChannelIsRefused, TouchingTripsNothing, StartIsNotInspected}
 
 -- ---- an empty contact box
 

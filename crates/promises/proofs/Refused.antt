@@ -28,11 +28,11 @@ use Rattle.tier1.specs.declared.Head.{Head}
 use Rattle.tier1.specs.declared.Tier1Rt.{Tier1Rt}
 use Rattle.tier1.specs.Refusals.{stateJudged}
 use Rattle.tier1.specs.Of.{Tick, featuredAt, ticked, featuresRefusal, featuresOf, clearedAt, resetOf}
-use Rattle.rollout.specs.Forecast.{Forecast, placeOf, marginOf, feasibleOf, writtenOf}
+use Rattle.course.specs.Forecast.{Forecast, placeOf, marginOf, feasibleOf, writtenOf}
 use Rattle.brake.specs.declared.BrakeOut.the-variants as out
 use Rattle.brake.specs.Answer.{outcome, answerAt, slacksAt, plan, forecastRefusal, forecastAnswer, forecastSlacks, sentAt, rowAt, brakeSent, brakeRefusal, brakeAnswer, brakeOutput, holdRefusal, holdAnswer, holdOutput}
 use Rattle.lictor.specs.Answer.{checkNumber, forecastNumber, sentNumber}
-use Rattle.wall.specs.Refused.{Refuses, RefusalChangesNothing}
+use Rattle.promises.specs.Refused.{Refuses, RefusalChangesNothing}
 
 -- ---- chosen by a test of the number
 

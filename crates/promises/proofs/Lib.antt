@@ -1,4 +1,3 @@
-pub mod Wall
 pub mod OneAnswer
 pub mod Exported
 pub mod Counts

@@ -1,0 +1,4 @@
+pub mod Reach
+pub mod Along
+pub mod Room
+pub mod Entries

@@ -1,0 +1,4 @@
+pub mod Plant
+pub mod Rows
+pub mod Forecast
+pub mod Of
