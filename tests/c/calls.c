@@ -200,30 +200,36 @@ static void widths(void) {
 #undef DUE
 }
 
+/* the place of a count in a header */
+#define IN(count) (offsetof(struct lictor_chunk_header, count) / sizeof(uint64_t))
+
 /* The same for what is held: a header, the counts of tier 1's state, and the bits of scores. */
 static void held_widths(void) {
     static struct lictor_tier1 t;
     const uint64_t most = UINT64_MAX, bits = UINT64_C(1) << 32;
-    const uint64_t chunk[6] = {7, 9, 2, 2, 1, 1};
+    const struct lictor_chunk_header good = {.seq = 7, .t_emit = 9, .horizon = 2, .dim = 2, .exec_steps = 1, .filled = 1};
     const struct {
         uint64_t at, value, due;
     } cases[] = {
-        {0, bits - 1, 0}, {0, bits, 255}, {0, most, 255}, {1, bits - 1, 0}, {1, bits, 255}, {1, most, 255},
-        {2, 0, 5}, {2, 64, 0}, {2, 65, 6}, {2, 65535, 6}, {2, 65536, 6}, {2, 65537, 6}, {2, bits + 2, 6}, {2, most, 6},
-        {3, 0, 5}, {3, 8, 0}, {3, 9, 7}, {3, 65535, 7}, {3, 65536, 7}, {3, 65537, 7}, {3, bits + 2, 7}, {3, most, 7},
-        {4, 2, 0}, {4, 3, 8}, {4, 65535, 8}, {4, 65536, 8}, {4, 65537, 8}, {4, bits, 8}, {4, most, 8},
-        {5, 2, 255}, {5, bits, 255}, {5, bits + 1, 255},
+        {IN(seq), bits - 1, 0}, {IN(seq), bits, 255}, {IN(seq), most, 255},
+        {IN(t_emit), bits - 1, 0}, {IN(t_emit), bits, 255}, {IN(t_emit), most, 255},
+        {IN(horizon), 0, 5}, {IN(horizon), 64, 0}, {IN(horizon), 65, 6}, {IN(horizon), 65535, 6},
+        {IN(horizon), 65536, 6}, {IN(horizon), 65537, 6}, {IN(horizon), bits + 2, 6}, {IN(horizon), most, 6},
+        {IN(dim), 0, 5}, {IN(dim), 8, 0}, {IN(dim), 9, 7}, {IN(dim), 65535, 7}, {IN(dim), 65536, 7},
+        {IN(dim), 65537, 7}, {IN(dim), bits + 2, 7}, {IN(dim), most, 7},
+        {IN(exec_steps), 2, 0}, {IN(exec_steps), 3, 8}, {IN(exec_steps), 65535, 8}, {IN(exec_steps), 65536, 8},
+        {IN(exec_steps), 65537, 8}, {IN(exec_steps), bits, 8}, {IN(exec_steps), most, 8},
+        {IN(filled), 2, 255}, {IN(filled), bits, 255}, {IN(filled), bits + 1, 255},
     };
     for (size_t i = 0; i < sizeof cases / sizeof *cases; i++) {
         uint64_t *h = (uint64_t *)&t.header;
         lictor_tier1_new(LICTOR_TIER1_PARTS(&t));
-        for (int k = 0; k < 6; k++) h[k] = chunk[k];
-        h[cases[i].at] = cases[i].value;
+        t.header = good, h[cases[i].at] = cases[i].value;
         EXPECT(lictor_tier1_reset(LICTOR_TIER1_PARTS(&t)) == cases[i].due || shown(cases[i].at, cases[i].value));
         /* a header that holds no chunk is not judged, and stays */
-        if (cases[i].at == 5) continue;
-        h[5] = 0;
-        EXPECT(lictor_tier1_reset(LICTOR_TIER1_PARTS(&t)) == LICTOR_ACCEPTED && h[cases[i].at] == cases[i].value && h[5] == 0);
+        if (cases[i].at == IN(filled)) continue;
+        t.header.filled = 0;
+        EXPECT(lictor_tier1_reset(LICTOR_TIER1_PARTS(&t)) == LICTOR_ACCEPTED && h[cases[i].at] == cases[i].value && t.header.filled == 0);
     }
     for (int k = 0; k < 2; k++) {
         lictor_tier1_new(LICTOR_TIER1_PARTS(&t));
