@@ -1,4 +1,4 @@
--- What the contracts of `replay` cite: what the answers of reads decide, and how the sample is cut into records.
+-- What the contracts of `replay` cite: what the answers of reads decide.
 use mathlib.Core.Path.{_≡_}
 use mathlib.Core.Bool.{Bool, true, false, _&&_}
 use mathlib.Core.List.{List}
@@ -6,11 +6,7 @@ use Prim.Native.Nat.{ℕ, _+_, _≤_}
 use lib.Dec.{ltb}
 use lib.IntN.{ℤ, pos, negsuc}
 use lib.ListN.{length, take}
-use Rattle.sample.specs.declared.Entry.{Entry}
-use Rattle.sample.specs.declared.Entry.the-variants.{Sqrt, Norm, Dist, TimeBin, Gate, Derive, CheckChunk, CheckAction, Forecast, Rows, Features}
 use Rattle.replay.specs.declared.Filled.{Filled}
-
--- ---- reads
 
 -- a read's answer is -1 where it failed, else how many bytes it gave, 0 at the end of the input
 unfoldable pub failed : ℤ → Bool
@@ -36,17 +32,3 @@ pub record Read (n : ℕ) (old new : List ℕ) (f : Filled) : Type 0 where
 -- the next read is made while there is room and the last one gave something
 unfoldable pub readsOn : Filled → ℕ → Bool
 readsOn f room = ltb (f .n) room && ltb 0 (f .more)
-
--- how many words a record has, by tests/oracle-sample/README.md
-unfoldable pub wordsOf : Entry → ℕ
-wordsOf Sqrt = 2
-wordsOf Norm = 13
-wordsOf Dist = 24
-wordsOf TimeBin = 3
-wordsOf Gate = 64
-wordsOf Derive = 86
-wordsOf CheckChunk = 144
-wordsOf CheckAction = 102
-wordsOf Forecast = 146
-wordsOf Rows = 91
-wordsOf Features = 358
