@@ -1,11 +1,7 @@
 // Replays the sample of the Rust's answers from standard input, and says for each entry how many records the port agrees with.
 //
 // It is a test: what it says is seen in its runs (tools/test-replay), and only that it ends and stays in bounds is proved.
-ghost use mathlib.Core.Bool.{false};
-ghost use mathlib.Core.Path.{_≡_};
-ghost use Prim.Native.Nat.{_+_, _^_, _≤_, _<_};
-ghost use lib.ListN.{length};
-ghost use Rattle.replay.specs.Input.{given, after, Read, readsOn};
+ghost use Prim.Native.Nat.{_≤_};
 use crate::arithmetic::dist_agrees;
 use crate::arithmetic::norm_agrees;
 use crate::arithmetic::sqrt_agrees;
@@ -20,7 +16,6 @@ use crate::record::record_of;
 use crate::stops::forecast_agrees;
 use crate::stops::rows_agree;
 use libc::STDERR_FILENO;
-use libc::STDIN_FILENO;
 use libc::STDOUT_FILENO;
 use std::num::wrapping_add_u64;
 
@@ -47,13 +42,6 @@ enum Entry {
     Features,
 }
 
-// How many bytes a buffer holds, how many of them the last read gave, and whether it failed.
-struct Filled {
-    n: usize,
-    more: usize,
-    failed: bool,
-}
-
 // A record; whether all of it was there, and whether a read failed.
 struct Next {
     record: Record,
@@ -70,57 +58,6 @@ struct Tally {
     ended: bool,
     failed: bool,
     wrote: bool,
-}
-
-// How many bytes a read gave.
-fn given(got: isize) -> usize
-    ensures { λ r. ⌜ r ≡ given got ⌝ }
-{
-    if 0 < got { got as usize } else { 0 }
-}
-
-// A buffer that held n bytes, after a read with this answer: -1 where it failed, else how many bytes it gave.
-fn after(n: usize, got: isize) -> Filled
-    requires { ⌜ n + given got < 2 ^ 64 ⌝ }
-    ensures { λ r. ⌜ r ≡ after n got ⌝ }
-{
-    let more = given(got);
-    Filled {
-        n: n + more,
-        more,
-        failed: got < 0,
-    }
-}
-
-// Reads once, behind the n bytes that the buffer holds.
-fn read(buf: &mut [u8], n: usize) -> Filled
-    requires { ⌜ n ≤ length (now buf) ⌝ }
-    ensures { λ r. ⌜ Read n (now (buf .entry)) (now (buf .exit)) r ⌝ }
-{
-    let got = libc::read(STDIN_FILENO, &mut buf[n..]);
-    after(n, got)
-}
-
-// Whether to read on: there is room, and the last read gave something. A read that gives less than asked is not the end.
-fn reads_on(f: Filled, room: usize) -> bool
-    ensures { λ r. ⌜ r ≡ readsOn f room ⌝ }
-{
-    (f.n < room) & (0 < f.more)
-}
-
-// Reads until the buffer is full, the input ends or a read fails.
-fn fill(buf: &mut [u8]) -> Filled
-    ensures { λ r. ⌜ (r .n ≤ length (now (buf .exit))) × (readsOn r (length (now (buf .exit))) ≡ false) ⌝ }
-{
-    let mut f = Filled {
-        n: 0,
-        more: 1,
-        failed: false,
-    };
-    while reads_on(f, buf.len()) {
-        f = read(buf, f.n);
-    }
-    f
 }
 
 // How many words a record has.
@@ -199,7 +136,7 @@ fn next_record(n: usize) -> Next
 {
     let size = 8 * n;
     let mut space = io::buffer();
-    let f = fill(&mut space[..size]);
+    let f = input::fill(&mut space[..size]);
     let record = record_of(&space);
     Next {
         record,

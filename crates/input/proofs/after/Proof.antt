@@ -1,9 +1,9 @@
--- `forecast::after` meets its contract: field by field, the last by the sign of the answer.
+-- `input::after` meets its contract: field by field, the last by the sign of the answer.
 use mir.Facts.{toZ-ofZ}
 use borrow.Author.Needs.{needs}
-use Rattle.forecast.proofs.Answers.{negative-failed, read-is}
-use Rattle.forecast.proofs.after.Statement.{statement}
-use Rattle.forecast.proofs.after.Tie as tie
+use Rattle.input.proofs.Answers.{negative-failed, read-is}
+use Rattle.input.proofs.after.Statement.{statement}
+use Rattle.input.proofs.after.Tie as tie
 
 given-requires : tie.Need-given-requires
 given-requires c κs = search needs

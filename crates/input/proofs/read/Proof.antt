@@ -1,4 +1,4 @@
--- `forecast::read` meets its contract: the part behind what the block holds is lent, so a read gives no more than there is room for and changes nothing before it.
+-- `input::read` meets its contract: the part behind what the block holds is lent, so a read gives no more than there is room for and changes nothing before it.
 use Prim.Native.Nat.{_-_}
 use native.Mathlib.Omega.{arith}
 use lib.ListN.{length}
@@ -6,9 +6,9 @@ use mir.Facts.{toZ-ofZ}
 use borrow.Author.Needs.{needs, sfits-of}
 use denote.Ref.{now}
 use borrow.Rule.Slice.PartMut.{take-put}
-use Rattle.forecast.proofs.Answers.{behind, fills}
-use Rattle.forecast.proofs.read.Statement.{statement}
-use Rattle.forecast.proofs.read.Tie as tie
+use Rattle.input.proofs.Answers.{behind, fills}
+use Rattle.input.proofs.read.Statement.{statement}
+use Rattle.input.proofs.read.Tie as tie
 
 sub-read : tie.Need-sub-read
 sub-read c = search needs

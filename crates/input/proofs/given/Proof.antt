@@ -1,8 +1,8 @@
--- `forecast::given` meets its contract: by the sign of the answer.
+-- `input::given` meets its contract: by the sign of the answer.
 use mir.Facts.{toZ-ofZ}
-use Rattle.forecast.proofs.Answers.{positive-fits, positive-given, none-given}
-use Rattle.forecast.proofs.given.Statement.{statement}
-use Rattle.forecast.proofs.given.Tie as tie
+use Rattle.input.proofs.Answers.{positive-fits, positive-given, none-given}
+use Rattle.input.proofs.given.Statement.{statement}
+use Rattle.input.proofs.given.Tie as tie
 
 cast-result : tie.Need-cast-result
 cast-result c = let e = toZ-ofZ (c .before .fits .got) in rw e (positive-fits (c .before .args .got) (c .before .fits .got) (rw e at (c .if1 .taken)))

@@ -1,8 +1,8 @@
--- A read's answer: what it gives, as the code tells it by the sign, and how much further a buffer may be filled after it.
+-- A read's answer: what it gives, as the code tells it by the sign, and how much further a block may be filled after it.
 use mathlib.Core.Path.{_≡_, refl}
 use mathlib.Core.Bool.{Bool, true, false, cond, _&&_}
-use mathlib.Core.List.{List}
-use Prim.Native.Nat.{ℕ, _+_, _-_, _≤_, _<_}
+use mathlib.Core.List.{List, [], _∷_}
+use Prim.Native.Nat.{ℕ, _+_, _-_, _%_, _≤_, _<_}
 use native.Mathlib.Nat.{le-refl}
 use native.Mathlib.Omega.{arith}
 use borrow.Author.Tests.{le-ltb, ltb-true, ltb-false}
@@ -14,8 +14,8 @@ use lib.Signed.{ltZ, nonNeg}
 use mir.Syntax.{w64}
 use mir.Val.{Fits, SFits}
 use Rattle.libc.specs.Io.{Moved}
-use Rattle.replay.specs.declared.Filled.{Filled}
-use Rattle.replay.specs.Input.{failed, given, after, readsOn}
+use Rattle.input.specs.declared.Filled.{Filled}
+use Rattle.input.specs.Reads.{failed, given, after, readsOn, afterAll, Told, answered}
 
 -- ---- by the sign
 
@@ -61,7 +61,7 @@ fills n room got e h = rw e h
 abbrev pub left : Filled → ℕ → ℕ
 left f room = room - f .n + cond (ltb 0 (f .more)) 1 0
 
-both : (a b : Bool) → (a && b) ≡ true → (a ≡ true) × (b ≡ true)
+pub both : (a b : Bool) → (a && b) ≡ true → (a ≡ true) × (b ≡ true)
 both true b h = (refl, h)
 both false b h = let z : _≡_ {A = ℕ} 0 1 = cc in absurd (omega arith)
 
@@ -80,3 +80,23 @@ falls f g room got e k h =
     let p = has-room f room h in
     let k′ : f .n + given got ≤ room = rw e at k in
     rw (e, p .1) (nearer (ltb 0 (given got)) (f .n) (given got) room refl (p .0) k′)
+
+-- ---- by the answers so far
+
+pub none-yet : Told (record { n = 0; more = 1; failed = false })
+unfolding afterAll
+none-yet = record { answers = []; is = refl }
+
+pub one-more : (got : ℤ) {f g : Filled} → Told f → g ≡ after (f .n) got → Told g
+unfolding afterAll
+one-more got t e = record { answers = got ∷ t .answers; is = rw (t .is) at e }
+
+-- ---- by what is answered
+
+most : (b : Bool) (n r : ℕ) → cond b (n - r) n ≤ n
+most true n r = omega arith
+most false n r = omega arith
+
+pub answered-most : (f : Filled) (size : ℕ) → answered f size ≤ f .n
+unfolding answered
+answered-most f size = most (f .failed && ltb 0 size) (f .n) (f .n % size)

@@ -1,20 +1,21 @@
--- `replay::fill` meets its contract: what is read so far never passes the buffer, and with each read fewer are left.
+-- `input::fill` meets its contract: what is read so far never passes the buffer and is what the answers say, and with each read fewer are left.
 use mathlib.Core.Path.{_≡_, sym, _∙_}
 use Prim.Native.Nat.{_≤_}
 use lib.ListN.{length}
 use borrow.Author.Needs.{needs}
-use Rattle.replay.proofs.Answers.{left, falls}
-use Rattle.replay.proofs.fill.Statement.{statement}
-use Rattle.replay.proofs.fill.Tie as tie
+use Rattle.input.specs.Reads.{Told}
+use Rattle.input.proofs.Answers.{none-yet, one-more, left, falls}
+use Rattle.input.proofs.fill.Statement.{statement}
+use Rattle.input.proofs.fill.Tie as tie
 
 abbrev Inv-loop : tie.InvT-loop
-Inv-loop buf₀ f₀ buf f = (f .n ≤ length buf) × (length buf ≡ length buf₀)
+Inv-loop buf₀ f₀ buf f = (f .n ≤ length buf) × ((length buf ≡ length buf₀) × Told f)
 
 abbrev μ-loop : tie.MeasureT-loop
 μ-loop buf₀ f₀ buf f = left f (length buf)
 
 loop-holds : tie.Need-loop-holds Inv-loop μ-loop
-loop-holds c = search needs
+loop-holds c = (search needs, (search needs, none-yet))
 
 reads-on-requires : tie.Need-reads-on-requires Inv-loop μ-loop
 reads-on-requires c κs = search needs
@@ -29,13 +30,15 @@ loop-less c =
     rw (r .same) (falls (l .before .loop .f) (c .before .before .read .result) _ (r .got) (r .is) (rw (r .same) at (r .fits)) (sym (l .reads-on .ensures) ∙ c .before .before .before .before .if1 .taken))
 
 loop-again : tie.Need-loop-again Inv-loop μ-loop
-loop-again c = search needs
+loop-again c =
+    let r = c .before .before .read .ensures in
+    (search needs, (search needs, one-more (r .got) (c .before .before .before .before .before .before .loop .inv .1 .1) (r .is)))
 
 same-length : tie.Need-same-length Inv-loop μ-loop
 same-length c = search needs
 
 returns : tie.Need-returns Inv-loop μ-loop
-returns c = (search needs, sym (c .before .reads-on .ensures) ∙ c .if1 .left)
+returns c = record { told = c .before .before .loop .inv .1 .1; fits = search needs; ends = sym (c .before .reads-on .ensures) ∙ c .if1 .left }
 
 pub fill-spec : {M : Type 1} → statement M
 fill-spec =
