@@ -1,30 +1,18 @@
 // A record's configuration, and the records of `derive`.
-ghost use Prim.Native.Nat.{_<_};
 use crate::record::Numbers;
 use crate::record::Words;
 use crate::record::part;
 use envelope::FuseConfig;
+use fmath::put;
 use sample::agrees;
 
-// The word of number i of a flat configuration.
-fn place(i: usize) -> usize
-    requires { ⌜ i < 43 ⌝ }
-    ensures { λ r. ⌜ r < 57 ⌝ }
-{
-    if i < 11 {
-        return 14 + i;
-    }
-    if i < 27 { 30 + i } else { i - 2 }
-}
-
-// The numbers of a flat configuration; tau, the last, is not in the record and stays 0.
+// The numbers of a flat configuration: limits, brake and contact, then the norm, then the box; tau, the last, is not in the record and stays 0.
 fn numbers(x: &Numbers) -> [f64; 44] {
     let mut n = [0.0; 44];
-    let mut i = 0usize;
-    while i < 43 {
-        n[i] = x[place(i)];
-        i += 1;
-    }
+    let all: &mut [f64] = &mut n;
+    put(part(x, 14, 11), 11, all);
+    put(part(x, 41, 16), 16, &mut all[11..]);
+    put(part(x, 25, 16), 16, &mut all[27..]);
     n
 }
 

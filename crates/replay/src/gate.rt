@@ -56,20 +56,8 @@ fn calibration(w: &Words, x: &Numbers) -> Calibration {
 }
 
 fn scores(w: &Words, x: &Numbers) -> Scores {
-    let f = [
-        x[36],
-        x[37],
-        x[38],
-        x[39],
-        x[40],
-        x[41],
-        x[42],
-        x[43],
-        x[44],
-        x[45],
-        x[46],
-        x[47],
-    ];
+    let mut f = [0.0; 12];
+    fmath::put(part(x, 36, 12), 12, &mut f);
     Scores {
         f,
         z: [0.0; 12],
