@@ -171,7 +171,7 @@ fn replay_entry(entry: Entry) -> Tally {
     replay(entry, first.words[0])
 }
 
-// One entry more, whose line was written or not. No record is named: each entry numbers its own.
+// One entry more, whose line was written or not. No record is named: each entry numbers its own. A sum wraps past 2^64 records, more than can be read.
 fn joined(a: Tally, b: Tally, wrote: bool) -> Tally {
     Tally {
         seen: wrapping_add_u64(a.seen, b.seen),
