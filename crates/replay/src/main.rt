@@ -11,7 +11,9 @@ use crate::checks::check_chunk_agrees;
 use crate::config::derive_agrees;
 use crate::features::features_agree;
 use crate::gate::gate_agrees;
+use crate::record::Numbers;
 use crate::record::Record;
+use crate::record::Words;
 use crate::record::record_of;
 use crate::stops::forecast_agrees;
 use crate::stops::rows_agree;
@@ -80,21 +82,19 @@ fn words_of(entry: Entry) -> usize
 }
 
 // Whether the port answers what a record of an entry has as the Rust's answer.
-fn agrees(entry: Entry, r: Record) -> bool {
-    let w = r.words;
-    let x = r.numbers;
+fn agrees(entry: Entry, w: &Words, x: &Numbers) -> bool {
     match entry {
-        Entry::Sqrt => sqrt_agrees(&x),
-        Entry::Norm => norm_agrees(&w, &x),
-        Entry::Dist => dist_agrees(&w, &x),
-        Entry::TimeBin => time_bin_agrees(&w),
-        Entry::Gate => gate_agrees(&w, &x),
-        Entry::Derive => derive_agrees(&w, &x),
-        Entry::CheckChunk => check_chunk_agrees(&w, &x),
-        Entry::CheckAction => check_action_agrees(&w, &x),
-        Entry::Forecast => forecast_agrees(&w, &x),
-        Entry::Rows => rows_agree(&w, &x),
-        Entry::Features => features_agree(&w, &x),
+        Entry::Sqrt => sqrt_agrees(x),
+        Entry::Norm => norm_agrees(w, x),
+        Entry::Dist => dist_agrees(w, x),
+        Entry::TimeBin => time_bin_agrees(w),
+        Entry::Gate => gate_agrees(w, x),
+        Entry::Derive => derive_agrees(w, x),
+        Entry::CheckChunk => check_chunk_agrees(w, x),
+        Entry::CheckAction => check_action_agrees(w, x),
+        Entry::Forecast => forecast_agrees(w, x),
+        Entry::Rows => rows_agree(w, x),
+        Entry::Features => features_agree(w, x),
     }
 }
 
@@ -120,6 +120,13 @@ fn told(t: Tally, ok: bool) -> Tally {
         u.first = u.seen;
     }
     u
+}
+
+// The same, with the record judged.
+fn judged(entry: Entry, r: Record, t: Tally) -> Tally {
+    let w = r.words;
+    let x = r.numbers;
+    told(t, agrees(entry, &w, &x))
 }
 
 // The tally where a record is not there: the last read failed, or the input ended.
@@ -155,7 +162,7 @@ fn replay(entry: Entry, count: u64) -> Tally {
         if !next.whole {
             return cut(t, next.failed);
         }
-        t = told(t, agrees(entry, next.record));
+        t = judged(entry, next.record, t);
         k += 1;
     }
     t
@@ -230,18 +237,24 @@ fn add(name: &[u8], entry: Entry, all: Tally) -> Tally {
 }
 
 // The entries, in the order that tests/oracle-sample/README.md gives.
-fn replay_all() -> Tally {
-    let mut t = add(b"sqrt", Entry::Sqrt, start());
-    t = add(b"norm", Entry::Norm, t);
-    t = add(b"dist", Entry::Dist, t);
-    t = add(b"time_bin", Entry::TimeBin, t);
-    t = add(b"standardise, aggregate, trip", Entry::Gate, t);
-    t = add(b"derive", Entry::Derive, t);
-    t = add(b"check_chunk", Entry::CheckChunk, t);
-    t = add(b"check_action", Entry::CheckAction, t);
-    t = add(b"brake_feasible", Entry::Forecast, t);
-    t = add(b"brake_action, hold_action", Entry::Rows, t);
-    add(b"features", Entry::Features, t)
+fn add_helpers(all: Tally) -> Tally {
+    let a = add(b"sqrt", Entry::Sqrt, all);
+    let b = add(b"norm", Entry::Norm, a);
+    let c = add(b"dist", Entry::Dist, b);
+    add(b"time_bin", Entry::TimeBin, c)
+}
+
+fn add_checks(all: Tally) -> Tally {
+    let a = add(b"standardise, aggregate, trip", Entry::Gate, all);
+    let b = add(b"derive", Entry::Derive, a);
+    let c = add(b"check_chunk", Entry::CheckChunk, b);
+    add(b"check_action", Entry::CheckAction, c)
+}
+
+fn add_stops(all: Tally) -> Tally {
+    let a = add(b"brake_feasible", Entry::Forecast, all);
+    let b = add(b"brake_action, hold_action", Entry::Rows, a);
+    add(b"features", Entry::Features, b)
 }
 
 fn complain(text: &[u8]) {
@@ -250,7 +263,7 @@ fn complain(text: &[u8]) {
 
 // What broke the replay off is said on standard error, in one line.
 fn main() {
-    let all = replay_all();
+    let all = add_stops(add_checks(add_helpers(start())));
     let wrote = say(b"in all", all);
     if !(all.wrote & wrote) {
         complain(b"replay: a write failed\n");

@@ -28,11 +28,8 @@ cut-requires c κs = search needs
 returns : tie.Need-returns Inv-loop μ-loop
 returns c = search needs
 
-agrees-requires : tie.Need-agrees-requires Inv-loop μ-loop
-agrees-requires c κs = search needs
-
-told-requires : tie.Need-told-requires Inv-loop μ-loop
-told-requires c κs = search needs
+judged-requires : tie.Need-judged-requires Inv-loop μ-loop
+judged-requires c κs = search needs
 
 add-k : tie.Need-add-k Inv-loop μ-loop
 add-k c = search needs
@@ -58,8 +55,7 @@ replay-spec =
     next-record-requires
     cut-requires
     returns
-    agrees-requires
-    told-requires
+    judged-requires
     add-k
     loop-less
     loop-again
