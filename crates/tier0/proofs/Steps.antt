@@ -3,14 +3,15 @@ use Prim.Native.Nat.{ℕ, _+_}
 use mathlib.Core.Path.{_≡_, refl, sym, ap, _∙_}
 use mathlib.Core.Bool.{Bool, true, false, _&&_, _||_, and-true}
 use mathlib.Core.List.{List, [], _∷_}
-use lib.Ieee.{Float, Format, mul, div, lt, le}
+use lib.Ieee.{Float, Format, mul, lt, le}
 use Rattle.checked.specs.Each.{at}
 use Rattle.checked.specs.Finite.{finite, +0}
 use Rattle.checked.specs.Row.{padded}
-use Rattle.checked.specs.Checked.{Checked, pure, each}
+use Rattle.checked.specs.Checked.{pure}
 use Rattle.fmath.specs.Norm.{dist}
 use Rattle.checked.proofs.Absorbing.{fine-mul-left}
-use Rattle.fmath.proofs.Lengths.{dist-tells}
+use Rattle.fmath.proofs.Lengths.{dist-tells, dist-sound}
+use Rattle.pull.specs.Rule.{pulled}
 use Rattle.workspace.specs.Of.{wallsOf}
 use Rattle.workspace.specs.Rule.{outside, inward}
 use Rattle.envelope.specs.declared.ClampMode.{ClampMode}
@@ -23,16 +24,9 @@ use Rattle.checked.specs.declared.Row.{Row}
 use Rattle.tier0.specs.declared.Test.{Test}
 use Rattle.tier0.specs.declared.Clamped.{Clamped}
 use Rattle.tier0.specs.declared.Verdict.{Verdict}
-use Rattle.tier0.specs.Rule.{Slow, WORKSPACE, SPEED, ACCEL, JERK, REACH, CONTACT, arms, shared, clear, seen, inZone, zoneIn, slowZone, outOfBox, outOfReach, bit, tripBits, shrink, towards, shortened, pulled, leash, boxed, leashed, reached, moves, moved, project, projection, checkAction}
+use Rattle.tier0.specs.Rule.{Slow, WORKSPACE, SPEED, ACCEL, JERK, REACH, CONTACT, arms, shared, clear, seen, inZone, zoneIn, slowZone, outOfBox, outOfReach, bit, tripBits, leash, boxed, leashed, reached, moves, moved, project, projection, checkAction}
 use Rattle.tier0.specs.Of.{slowOf, zoneFrom, testFrom, clampedFrom, verdictFrom}
 use Rattle.checked.specs.Of.{rowFrom}
-
-pub a-row : (x : Checked (List Float)) {r : List Float} {k : Bool} → r ≡ x .value → k ≡ x .sound → _≡_ {A = Row} (record { at = r; sound = k }) (rowFrom x)
-a-row x e h = rw (e, h)
-
--- the test of a distance is that of each number on its way
-pub dist-sound : (f : Format) (a b : List Float) (n : ℕ) {d : Float} {k : Bool} → d ≡ dist f a b n .value → k ≡ finite d → k ≡ dist f a b n .sound
-dist-sound f a b n e h = h ∙ ap finite e ∙ sym (dist-tells f a b n)
 
 -- ---- the workspace
 
@@ -104,25 +98,7 @@ module _ (f : Format) (s : Checks) (p a : List Float) {k : Bool} (e : k ≡ arms
   unfolding reached
   reached-on h q u = rw (sym e ∙ h) (rw q at u)
 
--- ---- the pull
-
-module _ (f : Format) (most : Float) (q : List Float) (n : ℕ) (a : List Float) where
-  pub shortened-is : (far : Float) {k l : Bool} {r : Row}
-      → k ≡ finite (mul f most (shrink f))
-      → l ≡ finite (div f (mul f most (shrink f)) far)
-      → r ≡ rowFrom (each (towards f (div f (mul f most (shrink f)) far) q a) a n)
-      → _≡_ {A = Row} (record { at = r .at; sound = k && (l && r .sound) }) (rowFrom (shortened f most far q n a))
-  unfolding shortened
-  shortened-is far e h g = rw (e, h, g)
-
-  module _ {far : Float} {k : Bool} (e : far ≡ dist f a q n .value) (h : k ≡ finite far) where
-    pub pulled-near : lt most far ≡ false → _≡_ {A = Row} (record { at = a; sound = k }) (rowFrom (pulled f most q n a))
-    unfolding pulled
-    pulled-near t = rw (dist-sound f a q n e h, ap (λ (x : Float). lt most x) (sym e) ∙ t, and-true)
-
-    pub pulled-far : lt most far ≡ true → {r : Row} → r ≡ rowFrom (shortened f most far q n a) → _≡_ {A = Row} (record { at = r .at; sound = k && r .sound }) (rowFrom (pulled f most q n a))
-    unfolding pulled
-    pulled-far t g = rw (dist-sound f a q n e h, ap (λ (x : Float). lt most x) (sym e) ∙ t, g, e)
+-- ---- the leash
 
 module _ (f : Format) (s : Checks) (z : Slow) (prev a : List Float) {k : Bool} (e : k ≡ arms s SPEED) where
   pub leashed-off : (k || z .inside) ≡ false → _≡_ {A = Row} (record { at = a; sound = true }) (rowFrom (leashed f s z prev a))

@@ -3,17 +3,17 @@ use Prim.Native.Nat.{ℕ, _+_, _/_, _%_, min}
 use mathlib.Core.Bool.{Bool, true, false, _&&_, _||_}
 use mathlib.Core.List.{List, [], _∷_}
 use lib.Dec.{ltb, leb, eqb}
-use lib.IntN.{negsuc}
 use lib.ListN.{length}
-use lib.Ieee.{Float, Format, binary32, binary64, fin, lt, le, ne}
+use lib.Ieee.{Float, Format, lt, le, ne}
 use Rattle.bits.specs.Choice.{if_then_else_}
 use Rattle.checked.specs.Each.{at}
 use Rattle.checked.specs.Finite.{+0}
 use Rattle.checked.specs.Row.{padded}
-use Rattle.checked.specs.Checked.{Checked, _>>=_, pure, plus, minus, times, divided, each}
+use Rattle.checked.specs.Checked.{Checked, _>>=_, pure, times}
 use Rattle.checked.specs.Least.{lesser}
 use Rattle.fmath.specs.Norm.{dist}
 use Rattle.bits.specs.Bits.{bitsWhere}
+use Rattle.pull.specs.Rule.{pulled}
 use Rattle.workspace.specs.Of.{wallsOf}
 use Rattle.workspace.specs.Rule.{outside, inward}
 use Rattle.envelope.specs.declared.ClampMode.{ClampMode}
@@ -97,34 +97,6 @@ tripBits box speed accel jerk reach contact =
     bit box WORKSPACE + bit speed SPEED + bit accel ACCEL + bit jerk JERK + bit reach REACH + bit contact CONTACT
 
 -- ---- projection
-
--- 1 - 2^-36, and 1 - 2^-13 at the smaller width
-abbrev pub shrink : Format → Float
-shrink binary32 = fin false 0x1fff (negsuc 12)
-shrink binary64 = fin false 0xf_ffff_ffff (negsuc 35)
-
--- from q, the part s of the way to x
-unfoldable pub toward : Format → Float → Float → Float → Checked Float
-toward f s q x = do
-  d ← minus f x q
-  m ← times f d s
-  plus f q m
-
-abbrev pub towards : Format → Float → List Float → List Float → ℕ → Checked Float
-towards f s q a j = toward f s (at q j) (at a j)
-
--- a, pulled on its first n coordinates towards q, from which it is so far: the factor is most x shrink / far
-unfoldable pub shortened : Format → Float → Float → List Float → ℕ → List Float → Checked (List Float)
-shortened f most far q n a = do
-  short ← times f most (shrink f)
-  s ← divided f short far
-  each (towards f s q a) a n
-
--- .. where it is further than `most`
-unfoldable pub pulled : Format → Float → List Float → ℕ → List Float → Checked (List Float)
-pulled f most q n a = do
-  far ← dist f a q n
-  if lt most far then shortened f most far q n a else pure a
 
 -- the least armed leash
 abbrev pub leash : Bool → Float → Slow → Float

@@ -164,7 +164,7 @@ fn found(trips: u32, clamped_dims: u32, peak_speed: f64) -> Check
 
 // Trips on the action as it came, its speed, and its projection.
 fn judge_action(s: Checks, pos: &[f64], aux: &[f64], prev: &[f64], a: &[f64]) -> Verdict
-    requires { ⌜ (s .dim ≤ 8) × (s .dim ≤ length (now a)) × (s .dim ≤ length (now prev)) × (s .«pos_dim» ≤ length (now pos)) ⌝ }
+    requires { ⌜ (s .dim ≤ 8) × (s .dim ≤ length (now a)) ⌝ }
     ensures { λ r. ⌜ r ≡ verdictFrom (checkAction binary64 s (now (pos .entry)) (now (aux .entry)) (now (prev .entry)) (now (a .entry))) ⌝ }
 {
     let z = slow_zone(s, pos, aux);

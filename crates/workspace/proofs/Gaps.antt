@@ -9,7 +9,7 @@ use native.Mathlib.Omega.{arith}
 use borrow.Author.Count.{below-more}
 use lib.ListN.{length, set, length-set, List·getD-eq-default}
 use lib.Seq.{getD-set-same, getD-set-other}
-use lib.Ieee.{Float, Format, nan, inf, fin, lt, add, sub}
+use lib.Ieee.{Float, Format, nan, lt, add, sub}
 use Rattle.checked.specs.Each.{at, some, all, over}
 use Rattle.checked.specs.Finite.{finite}
 use Rattle.checked.specs.Least.{lesser, least}
@@ -18,6 +18,7 @@ use Rattle.checked.specs.Checked.{Checked, leastOf}
 use Rattle.checked.proofs.Each.{_&&≡_, some-cut, over-cut, all-fails, all-more, all-from, and-left, and-right}
 use Rattle.checked.proofs.Extremes.{least-missing, least-more}
 use Rattle.checked.proofs.Absorbing.{sub-nan, nan-sub, fine-sub-left, fine-add-left, fine-add-right}
+use Rattle.checked.proofs.Ordered.{below-nan, nan-below}
 use Rattle.checked.proofs.Told.{implied}
 use Rattle.workspace.specs.Rule.{Walls, beyond, outside, inward, between, betweenWithin, gap, gapWithin, slack, slackWithin}
 
@@ -25,16 +26,6 @@ use Rattle.workspace.specs.Rule.{Walls, beyond, outside, inward, between
 
 past : (l : List Float) (j : ℕ) → length l ≤ j → at l j ≡ nan
 past l j h = List·getD-eq-default l nan h
-
-nan-below : (x : Float) → lt nan x ≡ false
-unfolding lt
-nan-below x = refl
-
-below-nan : (x : Float) → lt x nan ≡ false
-unfolding lt
-below-nan nan = refl
-below-nan (inf s) = refl
-below-nan (fin s m e) = refl
 
 -- a coordinate, or its walls, that are not there: it is not beyond them
 none-beyond : (w : Walls) (a : List Float) (j : ℕ) → length (w .lo) ≡ 8 → length (w .hi) ≡ 8 → min (length a) 8 ≤ j → beyond w a j ≡ false

@@ -41,7 +41,7 @@ trip-bits-requires : tie.Need-trip-bits-requires
 trip-bits-requires c κs = search needs
 
 projected-rows-requires : tie.Need-projected-rows-requires
-projected-rows-requires c κs = let w = c .before .before .before .before .before .before .before .before .before .before .before .before .before .before .before .before .before .before .before .before .before .pre in (w .0, w .1, w .3, w .4, w .5)
+projected-rows-requires c κs = let w = c .before .before .before .before .before .before .before .before .before .before .before .before .before .before .before .before .before .before .before .before .before .pre in (w .0, w .3, w .4, w .5)
 
 same-length : tie.Need-same-length
 same-length c = search needs
