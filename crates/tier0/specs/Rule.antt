@@ -81,8 +81,8 @@ slowZone f s p aux = if arms s CONTACT then zoneIn f (s .dt) (s .contact) p aux 
 -- ---- trips: strictly exceeded, on the row as it came
 
 -- WORKSPACE: a shared coordinate lies beyond its walls
-unfoldable pub outOfBox : Checks → List Float → Bool
-outOfBox s a = arms s WORKSPACE && outside (wallsOf (s .walls)) a (shared s)
+unfoldable pub outOfBox : Format → Checks → List Float → Checked Bool
+outOfBox f s a = if arms s WORKSPACE then outside f (wallsOf (s .walls)) a (shared s) else pure false
 
 -- REACH: the distance to the position, on the shared coordinates
 unfoldable pub outOfReach : Format → Checks → List Float → List Float → Checked Bool
@@ -103,8 +103,8 @@ abbrev pub leash : Bool → Float → Slow → Float
 leash speed stepMax z = if speed then (if z .inside then lesser stepMax (z .step) else stepMax) else z .step
 
 -- first move: inside the box on the shared coordinates
-unfoldable pub boxed : Checks → List Float → List Float
-boxed s a = if arms s WORKSPACE then inward (wallsOf (s .walls)) a (shared s) else a
+unfoldable pub boxed : Format → Checks → List Float → Checked (List Float)
+boxed f s a = if arms s WORKSPACE then inward f (wallsOf (s .walls)) a (shared s) else pure a
 
 -- second move: the leash towards the row before
 unfoldable pub leashed : Format → Checks → Slow → List Float → List Float → Checked (List Float)
@@ -117,7 +117,8 @@ reached f s p a = if arms s REACH then pulled f (s .«reach_max») p (shared s) 
 -- the three moves in order; the third is the first row's
 unfoldable pub moves : Format → Checks → Slow → List Float → Bool → List Float → List Float → Checked (List Float)
 moves f s z p isFirst prev a = do
-  l ← leashed f s z prev (boxed s a)
+  b ← boxed f s a
+  l ← leashed f s z prev b
   if isFirst then reached f s p l else pure l
 
 -- a bit for each coordinate that differs, as numbers
@@ -151,8 +152,9 @@ checkAction f s p aux prev a = do
   z ← slowZone f s p aux
   n ← dist f a prev (s .dim)
   v ← times f n (s .«inv_dt»)
+  out ← outOfBox f s a
   far ← outOfReach f s p a
   after ← projection f s (s .clamp) z p prev (padded a (s .dim))
   let fast = arms s SPEED && lt (s .«step_max») n
   let close = z .inside && lt (z .step) n
-  pure (record { trips = tripBits (outOfBox s a) fast false false far close; peak = v; after = after })
+  pure (record { trips = tripBits out fast false false far close; peak = v; after = after })

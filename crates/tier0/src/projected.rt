@@ -19,11 +19,11 @@ use envelope::ClampMode;
 use envelope::TripMask;
 
 // The row inside the box, where WORKSPACE is armed.
-fn boxed(s: Checks, a: [f64; 8]) -> [f64; 8]
-    ensures { λ r. ⌜ r ≡ boxed s a ⌝ }
+fn boxed(s: Checks, a: [f64; 8]) -> Row
+    ensures { λ r. ⌜ r ≡ rowFrom (boxed binary64 s a) ⌝ }
 {
     if !armed(s, TripMask::WORKSPACE) {
-        return a;
+        return Row { at: a, sound: true };
     }
     let walls = s.walls;
     let n = shared(s);
@@ -71,7 +71,8 @@ fn reached(s: Checks, pos: &[f64], a: [f64; 8]) -> Row
 fn moves(s: Checks, z: SlowZone, pos: &[f64], first: bool, prev: &[f64], a: [f64; 8]) -> Row
     ensures { λ r. ⌜ r ≡ rowFrom (moves binary64 s (slowOf z) (now (pos .entry)) first (now (prev .entry)) a) ⌝ }
 {
-    let inside = boxed(s, a);
+    let b = boxed(s, a);
+    let inside = b.at;
     let l = leashed(s, z, prev, inside);
     let near = l.at;
     if first {
@@ -79,12 +80,12 @@ fn moves(s: Checks, z: SlowZone, pos: &[f64], first: bool, prev: &[f64], a: [f64
         let at = r.at;
         return Row {
             at,
-            sound: l.sound & r.sound,
+            sound: b.sound & (l.sound & r.sound),
         };
     }
     Row {
         at: near,
-        sound: l.sound,
+        sound: b.sound & l.sound,
     }
 }
 
