@@ -9,6 +9,8 @@ use Rattle.refusal.specs.Order.{computed, numberOf}
 use Rattle.bits.specs.Choice.{if_then_else_}
 use Rattle.checked.specs.Constants.{1! }
 use Rattle.checked.specs.Finite.{+0}
+use Rattle.conformal.specs.Of.{tables}
+use Rattle.conformal.specs.Rule.{Tables}
 use Rattle.conformal.specs.declared.Calibration.{Calibration}
 use Rattle.envelope.specs.declared.ActionKind.the-variants.{EePosition}
 use Rattle.envelope.specs.declared.ClampMode.the-variants.{Off}
@@ -33,12 +35,13 @@ num b = ofBits binary64 b
 
 unfoldable pub calibrationOf : Calibration
 calibrationOf = record {
-  center = replicate 192 1!;
-  scale = replicate 192 1!;
   mask = 0;
   gate = record { «n_terms» = 0; terms = replicate 8 0 };
   tau = 1!;
 }
+
+abbrev pub tablesOf : Tables
+tablesOf = tables (replicate 192 1!) (replicate 192 1!)
 
 unfoldable pub limitsOf : Limits
 limitsOf = record { dt = 1!; «v_max» = 1!; «a_max» = 1!; «j_max» = 1!; «reach_max» = 1!; margin = +0 }
@@ -83,10 +86,10 @@ abbrev pub rowsOf : Card → List Float
 rowsOf c = num (c .row0) ∷ num (c .row1) ∷ num (c .row2) ∷ num (c .row3) ∷ []
 
 unfoldable pub outcomeOf : Card → ℕ → BrakeOut
-outcomeOf c room = forecastAnswer (configOf c) (num (c .p) ∷ []) (num (c .v) ∷ []) (rowsOf c) 4 1 1 (c .from) room
+outcomeOf c room = forecastAnswer binary64 (configOf c) tablesOf (num (c .p) ∷ []) (num (c .v) ∷ []) (rowsOf c) 4 1 1 (c .from) room
 
 unfoldable pub slacksOf : Card → List Float → List Float
-slacksOf c l = forecastSlacks (configOf c) (num (c .p) ∷ []) (num (c .v) ∷ []) (rowsOf c) 4 1 1 (c .from) l
+slacksOf c l = forecastSlacks binary64 (configOf c) tablesOf (num (c .p) ∷ []) (num (c .v) ∷ []) (rowsOf c) 4 1 1 (c .from) l
 
 -- ---- the answer
 

@@ -33,22 +33,12 @@ pub struct Answer {
 
 // ---- the configuration
 
-fn table() -> [f64; 192]
-    ensures { λ r. ⌜ r ≡ replicate 192 1! ⌝ }
-{
-    [1.0; 192]
-}
-
-// A calibration that the clear flag beside it leaves unread.
+// A calibration that the clear flag beside it leaves unread, as it does the tables.
 fn calibration() -> Calibration
     ensures { λ r. ⌜ r ≡ calibrationOf ⌝ }
 {
-    let center = table();
-    let scale = table();
     let gate = GateSpec::DISARMED;
     Calibration {
-        center,
-        scale,
         mask: 0,
         gate,
         tau: 1.0,
@@ -134,11 +124,19 @@ pub fn configure(c: Card) -> FuseConfig
 
 // ---- the forecast
 
+// Either table of the calibration.
+fn table() -> [f64; 192]
+    ensures { λ r. ⌜ r ≡ replicate 192 1! ⌝ }
+{
+    [1.0; 192]
+}
+
 // The forecast of a card: four rows of one number, one of them to be executed.
 pub fn run(c: Card, slack: &mut [f64]) -> BrakeOut
     ensures { λ r. ⌜ (r ≡ outcomeOf c (length (now (slack .entry)))) × (now (slack .exit) ≡ slacksOf c (now (slack .entry))) ⌝ }
 {
     let config = configure(c);
+    let table = table();
     let p = [number(c.p)];
     let v = [number(c.v)];
     let r0 = number(c.row0);
@@ -146,7 +144,8 @@ pub fn run(c: Card, slack: &mut [f64]) -> BrakeOut
     let r2 = number(c.row2);
     let r3 = number(c.row3);
     let rows = [r0, r1, r2, r3];
-    brake::brake_feasible(config, &p, &v, &rows, 4, 1, 1, c.from as usize, slack)
+    let from = c.from as usize;
+    brake::brake_feasible(config, &table, &table, &p, &v, &rows, 4, 1, 1, from, slack)
 }
 
 // ---- the answer

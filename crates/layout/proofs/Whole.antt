@@ -5,6 +5,7 @@ use Prim.Native.Nat.{ℕ}
 use lib.Dec.{eqb}
 use lib.Ieee.{Float}
 use Rattle.checked.specs.Each.{at}
+use Rattle.conformal.specs.declared.Calibration.{Calibration}
 use Rattle.conformal.specs.declared.GateSpec.{GateSpec}
 use Rattle.envelope.specs.declared.ActionKind.{ActionKind}
 use Rattle.envelope.specs.declared.ClampMode.{ClampMode}
@@ -14,9 +15,9 @@ use Rattle.envelope.specs.declared.Limits.{Limits}
 use Rattle.envelope.specs.declared.Norm.{Norm}
 use Rattle.envelope.specs.declared.Box.{Box}
 use Rattle.envelope.specs.declared.BrakeModel.{BrakeModel}
-use Rattle.envelope.specs.declared.Settings.{Settings}
+use Rattle.envelope.specs.declared.FuseConfig.{FuseConfig}
 use Rattle.layout.specs.Places.{count, in8, in16, in32}
-use Rattle.layout.specs.Config.{kindOf, clampOf, brakeKindOf, limitsOf, brakeOf, zoneOf, normOf, wallsOf, gateOf, settingsOf}
+use Rattle.layout.specs.Config.{kindOf, clampOf, brakeKindOf, limitsOf, brakeOf, zoneOf, normOf, wallsOf, gateOf, calibrationOf, configOf}
 
 pub whole-brake : (n : List Float) (c : List ℕ) {kind : BrakeKind} {per rows steps ticks : ℕ}
     → kind ≡ brakeKindOf (count c 4) (at n 6) (at n 7) (at n 8)
@@ -44,7 +45,7 @@ pub whole-gate : (c : List ℕ) {k t0 t1 t2 t3 t4 t5 t6 t7 : ℕ}
 unfolding gateOf
 whole-gate c e e0 e1 e2 e3 e4 e5 e6 e7 = rw (e, e0, e1, e2, e3, e4, e5, e6, e7)
 
-pub whole-settings : (n : List Float) (c : List ℕ) {kind : ActionKind} {limits : Limits} {norm : Norm} {walls : Box} {contact : Contact} {brake : BrakeModel} {clamp : ClampMode} {gate : GateSpec} {armed mask ticks : ℕ}
+pub whole-config : (n : List Float) (c : List ℕ) {kind : ActionKind} {limits : Limits} {norm : Norm} {walls : Box} {contact : Contact} {brake : BrakeModel} {clamp : ClampMode} {calib : Calibration} {armed ticks : ℕ}
     → kind ≡ kindOf (count c 2)
     → limits ≡ limitsOf n
     → norm ≡ normOf n
@@ -53,10 +54,9 @@ pub whole-settings : (n : List Float) (c : List ℕ) {kind : ActionKind} {limits
     → brake ≡ brakeOf n c
     → clamp ≡ clampOf (count c 3)
     → armed ≡ in32 (count c 20)
-    → mask ≡ in32 (count c 23)
-    → gate ≡ gateOf c
+    → calib ≡ calibrationOf n c
     → ticks ≡ in32 (count c 25)
-    → _≡_ {A = Settings}
+    → _≡_ {A = FuseConfig}
     (record {
       kind = kind;
       dim = count c 0;
@@ -70,11 +70,9 @@ pub whole-settings : (n : List Float) (c : List ℕ) {kind : ActionKind} {limits
       armed = armed;
       «aux_count» = count c 21;
       calibrated = eqb (count c 22) 1;
-      mask = mask;
-      gate = gate;
-      tau = at n 43;
+      calib = calib;
       «horizon_ticks» = ticks;
     })
-    (settingsOf n c)
-unfolding settingsOf
-whole-settings n c e1 e2 e3 e4 e5 e6 e7 e8 e9 e10 e11 = rw (e1, e2, e3, e4, e5, e6, e7, e8, e9, e10, e11)
+    (configOf n c)
+unfolding configOf
+whole-config n c e1 e2 e3 e4 e5 e6 e7 e8 e9 e10 = rw (e1, e2, e3, e4, e5, e6, e7, e8, e9, e10)

@@ -1,4 +1,4 @@
--- The configuration in flat arrays: 44 numbers, 26 counts and codes, and the calibration's two tables of 192.
+-- The configuration in flat arrays: 44 numbers and 26 counts and codes. The calibration's two tables of 192 are lent as they are.
 use Prim.Native.Nat.{ℕ, zero, suc}
 use mathlib.Core.Bool.{Bool, _&&_, _||_}
 use Rattle.bits.specs.Choice.{if_then_else_}
@@ -6,6 +6,7 @@ use mathlib.Core.List.{List, [], _∷_, _++_}
 use lib.Dec.{leb, eqb}
 use lib.Ieee.{Float}
 use Rattle.checked.specs.Each.{at, every}
+use Rattle.conformal.specs.declared.Calibration.{Calibration}
 use Rattle.conformal.specs.declared.GateSpec.{GateSpec}
 use Rattle.envelope.specs.declared.ActionKind.{ActionKind}
 use Rattle.envelope.specs.declared.ActionKind.the-variants as K
@@ -20,9 +21,7 @@ use Rattle.envelope.specs.declared.Norm.{Norm}
 use Rattle.envelope.specs.declared.Box.{Box}
 use Rattle.envelope.specs.declared.BrakeModel.{BrakeModel}
 use Rattle.envelope.specs.declared.Derived.{Derived}
-use Rattle.envelope.specs.declared.Settings.{Settings}
 use Rattle.envelope.specs.declared.FuseConfig.{FuseConfig}
-use Rattle.envelope.specs.Whole.{whole}
 use Rattle.layout.specs.Places.{count, part, in8, in16, in32, short, long}
 
 -- ---- codes
@@ -90,11 +89,14 @@ gateOf c = record {
       ∷ in32 (count c 16) ∷ in32 (count c 17) ∷ in32 (count c 18) ∷ in32 (count c 19) ∷ [];
 }
 
+-- number 43, counts 12 to 19, 23 and 24
+unfoldable pub calibrationOf : List Float → List ℕ → Calibration
+calibrationOf n c = record { mask = in32 (count c 23); gate = gateOf c; tau = at n 43 }
+
 -- ---- all of it
 
--- the mask of the calibration is count 23, its tau number 43
-unfoldable pub settingsOf : List Float → List ℕ → Settings
-settingsOf n c = record {
+unfoldable pub configOf : List Float → List ℕ → FuseConfig
+configOf n c = record {
   kind = kindOf (count c 2);
   dim = count c 0;
   «pos_dim» = count c 1;
@@ -107,15 +109,9 @@ settingsOf n c = record {
   armed = in32 (count c 20);
   «aux_count» = count c 21;
   calibrated = eqb (count c 22) 1;
-  mask = in32 (count c 23);
-  gate = gateOf c;
-  tau = at n 43;
+  calib = calibrationOf n c;
   «horizon_ticks» = in32 (count c 25);
 }
-
--- .. with the tables of centers and scales
-abbrev pub configOf : List Float → List ℕ → List Float → List Float → FuseConfig
-configOf n c center scale = whole (settingsOf n c) center scale
 
 -- ---- what fits, field by field of document 01's table
 -- Fields as wide as the array: dim, pos_dim and aux_count (counts 0, 1 and 21).

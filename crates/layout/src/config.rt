@@ -1,9 +1,8 @@
-// The configuration: 44 numbers, 26 counts and codes, and the calibration's two tables of 192.
+// The configuration: 44 numbers and 26 counts and codes. The calibration's two tables of 192 are lent as they are.
 ghost use mathlib.Core.Path.{_≡_};
 ghost use Prim.Native.Nat.{_+_, _≤_};
-ghost use Rattle.envelope.specs.Whole.{whole};
 ghost use Rattle.layout.specs.Places.{part};
-ghost use Rattle.layout.specs.Config.{kindOf, clampOf, brakeKindOf, contactOf, channelOf, limitsOf, brakeOf, zoneOf, normOf, wallsOf, gateOf, settingsOf, configOf, zoneFits, codesFit, fieldsFit, countsFit, derivedFlat};
+ghost use Rattle.layout.specs.Config.{kindOf, clampOf, brakeKindOf, contactOf, channelOf, limitsOf, brakeOf, zoneOf, normOf, wallsOf, gateOf, calibrationOf, configOf, zoneFits, codesFit, fieldsFit, countsFit, derivedFlat};
 use crate::places::to_u8;
 use crate::places::to_u16;
 use crate::places::to_u32;
@@ -20,7 +19,6 @@ use envelope::Derived;
 use envelope::FuseConfig;
 use envelope::Limits;
 use envelope::Norm;
-use envelope::Settings;
 use envelope::Substeps;
 
 // ---- codes: one that is none gives the last kind
@@ -168,11 +166,23 @@ fn gate_of(c: &[u64; 26]) -> GateSpec
     GateSpec { n_terms, terms }
 }
 
+fn calibration_of(n: &[f64; 44], c: &[u64; 26]) -> Calibration
+    ensures { λ r. ⌜ r ≡ calibrationOf (now (n .entry)) (now (c .entry)) ⌝ }
+{
+    let mask = to_u32(c[23]);
+    let gate = gate_of(c);
+    Calibration {
+        mask,
+        gate,
+        tau: n[43],
+    }
+}
+
 // ---- all of it
 
-// The settings that the arrays stand for.
-pub fn settings_of(n: &[f64; 44], c: &[u64; 26]) -> Settings
-    ensures { λ r. ⌜ r ≡ settingsOf (now (n .entry)) (now (c .entry)) ⌝ }
+// The configuration that the arrays stand for.
+pub fn config_of(n: &[f64; 44], c: &[u64; 26]) -> FuseConfig
+    ensures { λ r. ⌜ r ≡ configOf (now (n .entry)) (now (c .entry)) ⌝ }
 {
     let kind = kind_of(c[2]);
     let limits = limits_of(n);
@@ -182,10 +192,9 @@ pub fn settings_of(n: &[f64; 44], c: &[u64; 26]) -> Settings
     let brake = brake_of(n, c);
     let clamp = clamp_of(c[3]);
     let armed = to_u32(c[20]);
-    let mask = to_u32(c[23]);
-    let gate = gate_of(c);
+    let calib = calibration_of(n, c);
     let horizon_ticks = to_u32(c[25]);
-    Settings {
+    FuseConfig {
         kind,
         dim: c[0] as usize,
         pos_dim: c[1] as usize,
@@ -198,60 +207,8 @@ pub fn settings_of(n: &[f64; 44], c: &[u64; 26]) -> Settings
         armed,
         aux_count: c[21] as usize,
         calibrated: c[22] == 1,
-        mask,
-        gate,
-        tau: n[43],
-        horizon_ticks,
-    }
-}
-
-// The calibration of settings, its tables copied.
-fn calibration_of(s: Settings, center: &[f64; 192], scale: &[f64; 192]) -> Calibration
-    ensures { λ r. ⌜ r ≡ whole s (now (center .entry)) (now (scale .entry)) .calib ⌝ }
-{
-    let gate = s.gate;
-    Calibration {
-        center: *center,
-        scale: *scale,
-        mask: s.mask,
-        gate,
-        tau: s.tau,
-    }
-}
-
-// The configuration that the arrays stand for, its tables copied.
-pub fn config_of(
-    n: &[f64; 44],
-    c: &[u64; 26],
-    center: &[f64; 192],
-    scale: &[f64; 192],
-) -> FuseConfig
-    ensures { λ r. ⌜ r ≡ configOf (now (n .entry)) (now (c .entry)) (now (center .entry)) (now (scale .entry)) ⌝ }
-{
-    let s = settings_of(n, c);
-    let kind = s.kind;
-    let limits = s.limits;
-    let norm = s.norm;
-    let walls = s.walls;
-    let contact = s.contact;
-    let brake = s.brake;
-    let clamp = s.clamp;
-    let calib = calibration_of(s, center, scale);
-    FuseConfig {
-        kind,
-        dim: s.dim,
-        pos_dim: s.pos_dim,
-        limits,
-        norm,
-        walls,
-        contact,
-        brake,
-        clamp,
-        armed: s.armed,
-        aux_count: s.aux_count,
-        calibrated: s.calibrated,
         calib,
-        horizon_ticks: s.horizon_ticks,
+        horizon_ticks,
     }
 }
 

@@ -8,6 +8,9 @@ use Rattle.card.proofs.desk.run.Tie as tie
 configure-requires : tie.Need-configure-requires
 configure-requires c κs = search needs
 
+table-requires : tie.Need-table-requires
+table-requires c κs = search needs
+
 number-requires : tie.Need-number-requires
 number-requires c κs = search needs
 
@@ -26,6 +29,9 @@ number-requires-5 c κs = search needs
 number-requires-6 : tie.Need-number-requires-6
 number-requires-6 c κs = search needs
 
+cast-from : tie.Need-cast-from
+cast-from c = search needs
+
 slice-aggregate-brake-feasible : tie.Need-slice-aggregate-brake-feasible
 slice-aggregate-brake-feasible c = search needs
 
@@ -35,9 +41,6 @@ slice-aggregate-brake-feasible-2 c = search needs
 slice-aggregate-brake-feasible-3 : tie.Need-slice-aggregate-brake-feasible-3
 slice-aggregate-brake-feasible-3 c = search needs
 
-cast-brake-feasible : tie.Need-cast-brake-feasible
-cast-brake-feasible c = search needs
-
 brake-feasible-requires : tie.Need-brake-feasible-requires
 brake-feasible-requires c κs = search needs
 
@@ -45,23 +48,28 @@ same-length : tie.Need-same-length
 same-length c = search needs
 
 returns : tie.Need-returns
-returns c = ran (c .before .before .before .before .before .before .before .before .before .before .before .before .before .before .before .before .args .c) (now (c .before .before .before .before .before .before .before .before .before .before .before .before .before .before .before .before .args .slack)) (c .before .before .before .before .before .before .before .before .before .before .before .before .before .before .configure .ensures) (c .before .before .before .before .before .before .before .before .before .before .before .before .before .number .ensures) (c .before .before .before .before .before .before .before .before .before .before .before .before .number2 .ensures) (c .before .before .before .before .before .before .before .before .before .before .before .number3 .ensures) (c .before .before .before .before .before .before .before .before .before .before .number4 .ensures) (c .before .before .before .before .before .before .before .before .before .number5 .ensures) (c .before .before .before .before .before .before .before .before .number6 .ensures) (c .before .before .brake-feasible .ensures)
+returns c =
+    let n = c .before .before .before .before .before .before .before .before .before .before in
+    let t = n .before .before .before .before .before .before in
+    let g = t .before .before .before .args in
+    ran (g .c) (now (g .slack)) (t .before .configure .ensures) (t .table .ensures) (n .before .before .before .before .before .number .ensures) (n .before .before .before .before .number2 .ensures) (n .before .before .before .number3 .ensures) (n .before .before .number4 .ensures) (n .before .number5 .ensures) (n .number6 .ensures) (c .before .before .brake-feasible .ensures)
 
 pub run-spec : {M : Type 1} → statement M
 run-spec =
     tie.close
     (tie.spec
     configure-requires
+    table-requires
     number-requires
     number-requires-2
     number-requires-3
     number-requires-4
     number-requires-5
     number-requires-6
+    cast-from
     slice-aggregate-brake-feasible
     slice-aggregate-brake-feasible-2
     slice-aggregate-brake-feasible-3
-    cast-brake-feasible
     brake-feasible-requires
     same-length
     returns)

@@ -1,20 +1,92 @@
--- `layout::config::config_of` meets its contract: the settings with copies of the tables.
-use mathlib.Core.Path.{ap}
+-- `layout::config::config_of` meets its contract: by the law of its parts.
 use denote.Ref.{now}
-use Rattle.envelope.specs.declared.Settings.{Settings}
-use Rattle.envelope.specs.Whole.{whole}
+use Rattle.layout.proofs.Whole.{whole-config}
 use borrow.Author.Needs.{needs}
 use Rattle.layout.proofs.config.config_of.Statement.{statement}
 use Rattle.layout.proofs.config.config_of.Tie as tie
 
-settings-of-requires : tie.Need-settings-of-requires
-settings-of-requires c κs = search needs
+element-copy-out-kind-of : tie.Need-element-copy-out-kind-of
+element-copy-out-kind-of c = search needs
+
+kind-of-requires : tie.Need-kind-of-requires
+kind-of-requires c κs = search needs
+
+limits-of-requires : tie.Need-limits-of-requires
+limits-of-requires c κs = search needs
+
+norm-of-requires : tie.Need-norm-of-requires
+norm-of-requires c κs = search needs
+
+walls-of-requires : tie.Need-walls-of-requires
+walls-of-requires c κs = search needs
+
+zone-of-requires : tie.Need-zone-of-requires
+zone-of-requires c κs = search needs
+
+brake-of-requires : tie.Need-brake-of-requires
+brake-of-requires c κs = search needs
+
+element-copy-out-clamp-of : tie.Need-element-copy-out-clamp-of
+element-copy-out-clamp-of c = search needs
+
+clamp-of-requires : tie.Need-clamp-of-requires
+clamp-of-requires c κs = search needs
+
+element-copy-out-to-u32 : tie.Need-element-copy-out-to-u32
+element-copy-out-to-u32 c = search needs
+
+to-u32-requires : tie.Need-to-u32-requires
+to-u32-requires c κs = search needs
 
 calibration-of-requires : tie.Need-calibration-of-requires
 calibration-of-requires c κs = search needs
 
+element-copy-out-to-u32-2 : tie.Need-element-copy-out-to-u32-2
+element-copy-out-to-u32-2 c = search needs
+
+to-u32-requires-2 : tie.Need-to-u32-requires-2
+to-u32-requires-2 c κs = search needs
+
+element-copy-out-t15 : tie.Need-element-copy-out-t15
+element-copy-out-t15 c = search needs
+
+element-copy-out-t27 : tie.Need-element-copy-out-t27
+element-copy-out-t27 c = search needs
+
+element-copy-out-t31 : tie.Need-element-copy-out-t31
+element-copy-out-t31 c = search needs
+
+element-copy-out-t35 : tie.Need-element-copy-out-t35
+element-copy-out-t35 c = search needs
+
 returns : tie.Need-returns
-returns c = let g = c .before .before .before .before .before .before .args in rw (c .calibration-of .ensures) (ap (λ (s : Settings). whole s (now (g .center)) (now (g .scale))) (c .before .before .before .before .before .settings-of .ensures))
+returns c =
+    let l = c .before .before .before .before .before .before in
+    let b = l .before .before .before .before .before in
+    let k = b .before .before .before .before .before in
+    let s = k .before .before .args in
+    whole-config (now (s .n)) (now (s .c)) (k .kind-of .ensures) (b .before .before .before .before .limits-of .ensures) (b .before .before .before .norm-of .ensures) (b .before .before .walls-of .ensures) (b .before .zone-of .ensures) (b .brake-of .ensures) (l .before .before .before .clamp-of .ensures) (l .before .to-u32 .ensures) (l .calibration-of .ensures) (c .before .before .before .before .to-u322 .ensures)
 
 pub config-of-spec : {M : Type 1} → statement M
-config-of-spec = tie.close (tie.spec settings-of-requires calibration-of-requires returns)
+config-of-spec =
+    tie.close
+    (tie.spec
+    element-copy-out-kind-of
+    kind-of-requires
+    limits-of-requires
+    norm-of-requires
+    walls-of-requires
+    zone-of-requires
+    brake-of-requires
+    element-copy-out-clamp-of
+    clamp-of-requires
+    element-copy-out-to-u32
+    to-u32-requires
+    calibration-of-requires
+    element-copy-out-to-u32-2
+    to-u32-requires-2
+    element-copy-out-t15
+    element-copy-out-t27
+    element-copy-out-t31
+    element-copy-out-t35
+    returns)
