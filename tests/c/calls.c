@@ -113,7 +113,10 @@ static int shown(uint64_t at, uint64_t value) {
     return 0;
 }
 
-/* Both sides of the edge of each count that the table or its field bounds, by the count's place. */
+/* the place of a count among the configuration's 26 */
+#define AT(count) (offsetof(struct lictor_counts, count) / sizeof(uint64_t))
+
+/* Both sides of the edge of each count that the table or its field bounds. */
 static void widths(void) {
     struct lictor_numbers n = {0};
     struct lictor_derived d;
@@ -125,22 +128,34 @@ static void widths(void) {
     const struct {
         uint64_t at, value, due;
     } cases[] = {
-        {0, 8, 0}, {0, 9, 1}, {0, bits + 1, 1}, {0, most, 1},
-        {1, 8, 0}, {1, 9, 1}, {1, bits + 1, 1}, {1, most, 1},
-        {2, 4, 0}, {2, 5, 255}, {2, bits, 255}, {3, 1, 0}, {3, 2, 255}, {3, bits, 255}, {4, 4, 0}, {4, 5, 255}, {4, bits, 255},
-        {5, 0, 0}, {5, 1, 0}, {5, 2, 255}, {5, bits + 1, 255},
-        {6, 1, 4}, {6, 2, 4}, {6, 255, 4}, {6, 256, 4}, {6, most, 4}, {7, 0, 4}, {7, 2, 4}, {7, 255, 4}, {7, 256, 4}, {7, most, 4},
-        {8, 0, 3}, {8, 64, 0}, {8, 65, 3}, {8, 65535, 3}, {8, 65536, 3}, {8, 65537, 3}, {8, bits + 1, 3}, {8, most, 3},
-        {9, 64, 0}, {9, 65, 3}, {9, 65535, 3}, {9, 65536, 3}, {9, bits, 3}, {9, most, 3},
-        {10, 4096, 0}, {10, 4097, 3}, {10, 65535, 3}, {10, 65536, 3}, {10, bits, 3}, {10, most, 3},
-        {11, 65535, 0}, {11, 65536, 255}, {11, most, 255},
-        {12, 4095, 0}, {12, 4096, 1}, {12, bits - 1, 1}, {12, bits, 1}, {12, bits + 1, 1}, {12, most, 1},
-        {13, 4096, 0}, {13, bits, 0}, {13, most, 0}, {19, 4096, 0}, {19, bits, 0}, {19, most, 0},
-        {20, bits - 1, 0}, {20, bits, 255}, {20, most, 255}, {21, 1, 4}, {21, bits, 0}, {21, most, 0},
-        {22, 2, 255}, {22, bits, 255},
-        {23, 4095, 0}, {23, 4096, 1}, {23, bits - 1, 1}, {23, bits, 1}, {23, most, 1},
-        {24, 8, 0}, {24, 9, 1}, {24, 255, 1}, {24, 256, 1}, {24, 257, 1}, {24, bits + 1, 1}, {24, most, 1},
-        {25, 0, 3}, {25, bits - 1, 0}, {25, bits, 255}, {25, most, 255},
+        {AT(dim), 8, 0}, {AT(dim), 9, 1}, {AT(dim), bits + 1, 1}, {AT(dim), most, 1},
+        {AT(pos_dim), 8, 0}, {AT(pos_dim), 9, 1}, {AT(pos_dim), bits + 1, 1}, {AT(pos_dim), most, 1},
+        {AT(kind), 4, 0}, {AT(kind), 5, 255}, {AT(kind), bits, 255},
+        {AT(clamp), 1, 0}, {AT(clamp), 2, 255}, {AT(clamp), bits, 255},
+        {AT(brake), 4, 0}, {AT(brake), 5, 255}, {AT(brake), bits, 255},
+        {AT(contact), 0, 0}, {AT(contact), 1, 0}, {AT(contact), 2, 255}, {AT(contact), bits + 1, 255},
+        {AT(contact_a0), 1, 4}, {AT(contact_a0), 2, 4}, {AT(contact_a0), 255, 4}, {AT(contact_a0), 256, 4},
+        {AT(contact_a0), most, 4},
+        {AT(contact_a1), 0, 4}, {AT(contact_a1), 2, 4}, {AT(contact_a1), 255, 4}, {AT(contact_a1), 256, 4},
+        {AT(contact_a1), most, 4},
+        {AT(substeps), 0, 3}, {AT(substeps), 64, 0}, {AT(substeps), 65, 3}, {AT(substeps), 65535, 3},
+        {AT(substeps), 65536, 3}, {AT(substeps), 65537, 3}, {AT(substeps), bits + 1, 3}, {AT(substeps), most, 3},
+        {AT(commit), 64, 0}, {AT(commit), 65, 3}, {AT(commit), 65535, 3}, {AT(commit), 65536, 3}, {AT(commit), bits, 3},
+        {AT(commit), most, 3},
+        {AT(brake_steps), 4096, 0}, {AT(brake_steps), 4097, 3}, {AT(brake_steps), 65535, 3},
+        {AT(brake_steps), 65536, 3}, {AT(brake_steps), bits, 3}, {AT(brake_steps), most, 3},
+        {AT(react_ticks), 65535, 0}, {AT(react_ticks), 65536, 255}, {AT(react_ticks), most, 255},
+        {AT(terms[0]), 4095, 0}, {AT(terms[0]), 4096, 1}, {AT(terms[0]), bits - 1, 1}, {AT(terms[0]), bits, 1},
+        {AT(terms[0]), bits + 1, 1}, {AT(terms[0]), most, 1}, {AT(terms[1]), 4096, 0}, {AT(terms[1]), bits, 0},
+        {AT(terms[1]), most, 0}, {AT(terms[7]), 4096, 0}, {AT(terms[7]), bits, 0}, {AT(terms[7]), most, 0},
+        {AT(armed), bits - 1, 0}, {AT(armed), bits, 255}, {AT(armed), most, 255},
+        {AT(aux_count), 1, 4}, {AT(aux_count), bits, 0}, {AT(aux_count), most, 0},
+        {AT(calibrated), 2, 255}, {AT(calibrated), bits, 255},
+        {AT(mask), 4095, 0}, {AT(mask), 4096, 1}, {AT(mask), bits - 1, 1}, {AT(mask), bits, 1}, {AT(mask), most, 1},
+        {AT(n_terms), 8, 0}, {AT(n_terms), 9, 1}, {AT(n_terms), 255, 1}, {AT(n_terms), 256, 1}, {AT(n_terms), 257, 1},
+        {AT(n_terms), bits + 1, 1}, {AT(n_terms), most, 1},
+        {AT(horizon_ticks), 0, 3}, {AT(horizon_ticks), bits - 1, 0}, {AT(horizon_ticks), bits, 255},
+        {AT(horizon_ticks), most, 255},
     };
     const struct {
         uint64_t a0, a1, aux, due;
@@ -159,15 +174,15 @@ static void widths(void) {
         c = good, ((uint64_t *)&c)[cases[i].at] = cases[i].value;
         EXPECT(lictor_derive(&n, &c, center, scale, &d) == cases[i].due || shown(cases[i].at, cases[i].value));
         /* without a calibration nothing of it is judged, and without a contact no channel */
-        if ((cases[i].at >= 12 && cases[i].at < 20) || cases[i].at > 22) {
+        if ((cases[i].at >= AT(terms) && cases[i].at < AT(armed)) || cases[i].at > AT(calibrated)) {
             c.calibrated = 0;
             DUE(0);
         }
-        if (cases[i].at == 6 || cases[i].at == 7) {
+        if (cases[i].at == AT(contact_a0) || cases[i].at == AT(contact_a1)) {
             c.contact = 0;
             DUE(0);
         }
-        /* 255 comes before all other numbers, and of those the lowest */
+        /* 255 comes before all other numbers, and of those the first in the order of judging */
         c = good, ((uint64_t *)&c)[cases[i].at] = cases[i].value, n.dt = 0.0;
         DUE(cases[i].due == 255 || cases[i].due == 1 ? cases[i].due : 2);
         n.dt = 1.0;
@@ -185,30 +200,36 @@ static void widths(void) {
 #undef DUE
 }
 
+/* the place of a count in a header */
+#define IN(count) (offsetof(struct lictor_chunk_header, count) / sizeof(uint64_t))
+
 /* The same for what is held: a header, the counts of tier 1's state, and the bits of scores. */
 static void held_widths(void) {
     static struct lictor_tier1 t;
     const uint64_t most = UINT64_MAX, bits = UINT64_C(1) << 32;
-    const uint64_t chunk[6] = {7, 9, 2, 2, 1, 1};
+    const struct lictor_chunk_header good = {.seq = 7, .t_emit = 9, .horizon = 2, .dim = 2, .exec_steps = 1, .filled = 1};
     const struct {
         uint64_t at, value, due;
     } cases[] = {
-        {0, bits - 1, 0}, {0, bits, 255}, {0, most, 255}, {1, bits - 1, 0}, {1, bits, 255}, {1, most, 255},
-        {2, 0, 5}, {2, 64, 0}, {2, 65, 6}, {2, 65535, 6}, {2, 65536, 6}, {2, 65537, 6}, {2, bits + 2, 6}, {2, most, 6},
-        {3, 0, 5}, {3, 8, 0}, {3, 9, 7}, {3, 65535, 7}, {3, 65536, 7}, {3, 65537, 7}, {3, bits + 2, 7}, {3, most, 7},
-        {4, 2, 0}, {4, 3, 8}, {4, 65535, 8}, {4, 65536, 8}, {4, 65537, 8}, {4, bits, 8}, {4, most, 8},
-        {5, 2, 255}, {5, bits, 255}, {5, bits + 1, 255},
+        {IN(seq), bits - 1, 0}, {IN(seq), bits, 255}, {IN(seq), most, 255},
+        {IN(t_emit), bits - 1, 0}, {IN(t_emit), bits, 255}, {IN(t_emit), most, 255},
+        {IN(horizon), 0, 5}, {IN(horizon), 64, 0}, {IN(horizon), 65, 6}, {IN(horizon), 65535, 6},
+        {IN(horizon), 65536, 6}, {IN(horizon), 65537, 6}, {IN(horizon), bits + 2, 6}, {IN(horizon), most, 6},
+        {IN(dim), 0, 5}, {IN(dim), 8, 0}, {IN(dim), 9, 7}, {IN(dim), 65535, 7}, {IN(dim), 65536, 7},
+        {IN(dim), 65537, 7}, {IN(dim), bits + 2, 7}, {IN(dim), most, 7},
+        {IN(exec_steps), 2, 0}, {IN(exec_steps), 3, 8}, {IN(exec_steps), 65535, 8}, {IN(exec_steps), 65536, 8},
+        {IN(exec_steps), 65537, 8}, {IN(exec_steps), bits, 8}, {IN(exec_steps), most, 8},
+        {IN(filled), 2, 255}, {IN(filled), bits, 255}, {IN(filled), bits + 1, 255},
     };
     for (size_t i = 0; i < sizeof cases / sizeof *cases; i++) {
         uint64_t *h = (uint64_t *)&t.header;
         lictor_tier1_new(LICTOR_TIER1_PARTS(&t));
-        for (int k = 0; k < 6; k++) h[k] = chunk[k];
-        h[cases[i].at] = cases[i].value;
+        t.header = good, h[cases[i].at] = cases[i].value;
         EXPECT(lictor_tier1_reset(LICTOR_TIER1_PARTS(&t)) == cases[i].due || shown(cases[i].at, cases[i].value));
         /* a header that holds no chunk is not judged, and stays */
-        if (cases[i].at == 5) continue;
-        h[5] = 0;
-        EXPECT(lictor_tier1_reset(LICTOR_TIER1_PARTS(&t)) == LICTOR_ACCEPTED && h[cases[i].at] == cases[i].value && h[5] == 0);
+        if (cases[i].at == IN(filled)) continue;
+        t.header.filled = 0;
+        EXPECT(lictor_tier1_reset(LICTOR_TIER1_PARTS(&t)) == LICTOR_ACCEPTED && h[cases[i].at] == cases[i].value && t.header.filled == 0);
     }
     for (int k = 0; k < 2; k++) {
         lictor_tier1_new(LICTOR_TIER1_PARTS(&t));

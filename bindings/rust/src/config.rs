@@ -90,59 +90,75 @@ pub struct FuseConfig {
 /// A configuration laid out as the library takes it: make it once and lend it to every call.
 #[derive(Clone, Debug)]
 pub struct Config {
-    pub(crate) numbers: [f64; 44],
-    pub(crate) counts: [u64; 26],
+    pub(crate) numbers: raw::Numbers,
+    pub(crate) counts: raw::Counts,
     pub(crate) center: [f64; 192],
     pub(crate) scale: [f64; 192],
 }
 
+/// What is laid out where there is no calibration: nothing of it is read.
+const NO_CALIBRATION: Calibration =
+    Calibration { center: [0.0; 192], scale: [0.0; 192], mask: 0, n_terms: 0, terms: [0; 8], tau: 0.0 };
+
 impl Config {
     pub fn new(c: &FuseConfig) -> Self {
-        let (mut numbers, mut counts) = ([0.0; 44], [0; 26]);
+        let cal = c.calibration.as_ref().unwrap_or(&NO_CALIBRATION);
+        let zone = c.contact.unwrap_or(Contact { radius: 0.0, v_max: 0.0, a0: 0, a1: 0 });
         let b = &c.brake;
-        numbers[..6].copy_from_slice(&[c.dt, c.v_max, c.a_max, c.j_max, c.reach_max, c.margin]);
-        numbers[6..9].copy_from_slice(&[b.k_p, b.k_v, b.dt]);
-        numbers[11..19].copy_from_slice(&c.norm_center);
-        numbers[19..27].copy_from_slice(&c.norm_scale);
-        numbers[27..35].copy_from_slice(&c.box_lo);
-        numbers[35..43].copy_from_slice(&c.box_hi);
-        counts[..5].copy_from_slice(&[c.dim as u64, c.pos_dim as u64, c.kind as u64, c.clamp as u64, b.kind as u64]);
-        counts[8..12].copy_from_slice(&[b.substeps, b.commit, b.brake_steps, b.react_ticks].map(u64::from));
-        (counts[20], counts[21]) = (c.armed.into(), c.aux_count as u64);
-        counts[25] = c.horizon_ticks.into();
-        let mut config = Self { numbers, counts, center: [0.0; 192], scale: [0.0; 192] };
-        config.put_contact(c.contact.as_ref());
-        config.put_calibration(c.calibration.as_ref());
-        config
-    }
-
-    fn put_contact(&mut self, contact: Option<&Contact>) {
-        if let Some(z) = contact {
-            (self.numbers[9], self.numbers[10]) = (z.radius, z.v_max);
-            self.counts[5..8].copy_from_slice(&[1, z.a0.into(), z.a1.into()]);
-        }
-    }
-
-    fn put_calibration(&mut self, calibration: Option<&Calibration>) {
-        if let Some(cal) = calibration {
-            self.numbers[43] = cal.tau;
-            self.counts[12..20].copy_from_slice(&cal.terms.map(u64::from));
-            self.counts[22..25].copy_from_slice(&[1, cal.mask.into(), cal.n_terms.into()]);
-            (self.center, self.scale) = (cal.center, cal.scale);
-        }
+        let numbers = raw::Numbers {
+            dt: c.dt,
+            v_max: c.v_max,
+            a_max: c.a_max,
+            j_max: c.j_max,
+            reach_max: c.reach_max,
+            margin: c.margin,
+            brake_k_p: b.k_p,
+            brake_k_v: b.k_v,
+            brake_dt: b.dt,
+            contact_radius: zone.radius,
+            contact_v_max: zone.v_max,
+            norm_center: c.norm_center,
+            norm_scale: c.norm_scale,
+            box_lo: c.box_lo,
+            box_hi: c.box_hi,
+            tau: cal.tau,
+        };
+        let counts = raw::Counts {
+            dim: c.dim as u64,
+            pos_dim: c.pos_dim as u64,
+            kind: c.kind as u64,
+            clamp: c.clamp as u64,
+            brake: b.kind as u64,
+            contact: c.contact.is_some().into(),
+            contact_a0: zone.a0.into(),
+            contact_a1: zone.a1.into(),
+            substeps: b.substeps.into(),
+            commit: b.commit.into(),
+            brake_steps: b.brake_steps.into(),
+            react_ticks: b.react_ticks.into(),
+            terms: cal.terms.map(u64::from),
+            armed: c.armed.into(),
+            aux_count: c.aux_count as u64,
+            calibrated: c.calibration.is_some().into(),
+            mask: cal.mask.into(),
+            n_terms: cal.n_terms.into(),
+            horizon_ticks: c.horizon_ticks.into(),
+        };
+        Self { numbers, counts, center: cal.center, scale: cal.scale }
     }
 
     /// Judges the configuration, and gives what is derived from it.
     pub fn derive(&self) -> Answer<Derived> {
-        let mut d = [0.0; 29];
-        // SAFETY: the arrays are live, and the place is ours alone.
+        let mut d = Derived::default();
+        // SAFETY: the structs are live and laid out as C's, and the place is ours alone.
         let number = unsafe { raw::lictor_derive(&self.numbers, &self.counts, &self.center, &self.scale, &mut d) };
-        given(number, Derived::of(&d))
+        given(number, d)
     }
 }
 
 /// What is derived: the box moved inward, inverse scales and inverse powers of dt, 0 past the counted entries.
-#[derive(Clone, Copy, Debug, PartialEq)]
+#[repr(C)]
+#[derive(Clone, Copy, Debug, Default, PartialEq)]
 pub struct Derived {
     pub inv_dt: f64,
     pub inv_dt2: f64,
@@ -152,20 +168,4 @@ pub struct Derived {
     pub box_lo: [f64; 8],
     pub box_hi: [f64; 8],
     pub inv_norm_scale: [f64; 8],
-}
-
-impl Derived {
-    fn of(d: &[f64; 29]) -> Self {
-        let eight = |from: usize| -> [f64; 8] { std::array::from_fn(|i| d[from + i]) };
-        Self {
-            inv_dt: d[0],
-            inv_dt2: d[1],
-            inv_dt3: d[2],
-            step_max: d[3],
-            norm_scale_iso: d[4],
-            box_lo: eight(5),
-            box_hi: eight(13),
-            inv_norm_scale: eight(21),
-        }
-    }
 }

@@ -1,4 +1,52 @@
-//! The functions of include/lictor.h. A slice goes as its pointer and its length.
+//! The functions of include/lictor.h, and its structs that a configuration is laid out in, field by field. A slice goes as
+//! its pointer and its length.
+
+use crate::config::Derived;
+
+#[repr(C)]
+#[derive(Clone, Copy, Debug)]
+pub struct Numbers {
+    pub dt: f64,
+    pub v_max: f64,
+    pub a_max: f64,
+    pub j_max: f64,
+    pub reach_max: f64,
+    pub margin: f64,
+    pub brake_k_p: f64,
+    pub brake_k_v: f64,
+    pub brake_dt: f64,
+    pub contact_radius: f64,
+    pub contact_v_max: f64,
+    pub norm_center: [f64; 8],
+    pub norm_scale: [f64; 8],
+    pub box_lo: [f64; 8],
+    pub box_hi: [f64; 8],
+    pub tau: f64,
+}
+
+#[repr(C)]
+#[derive(Clone, Copy, Debug)]
+pub struct Counts {
+    pub dim: u64,
+    pub pos_dim: u64,
+    pub kind: u64,
+    pub clamp: u64,
+    pub brake: u64,
+    pub contact: u64,
+    pub contact_a0: u64,
+    pub contact_a1: u64,
+    pub substeps: u64,
+    pub commit: u64,
+    pub brake_steps: u64,
+    pub react_ticks: u64,
+    pub terms: [u64; 8],
+    pub armed: u64,
+    pub aux_count: u64,
+    pub calibrated: u64,
+    pub mask: u64,
+    pub n_terms: u64,
+    pub horizon_ticks: u64,
+}
 
 extern "C" {
     pub fn lictor_environment(one: f64, least: f64) -> u64;
@@ -54,15 +102,15 @@ extern "C" {
     pub fn lictor_trail_len(numbers: &[f64; 256], marks: &[u64; 2], len: &mut u64) -> u64;
     pub fn lictor_trail_is_empty(numbers: &[f64; 256], marks: &[u64; 2], empty: &mut u64) -> u64;
     pub fn lictor_derive(
-        numbers: &[f64; 44],
-        counts: &[u64; 26],
+        numbers: &Numbers,
+        counts: &Counts,
         center: &[f64; 192],
         scale: &[f64; 192],
-        derived: &mut [f64; 29],
+        derived: &mut Derived,
     ) -> u64;
     pub fn lictor_check_chunk(
-        numbers: &[f64; 44],
-        counts: &[u64; 26],
+        numbers: &Numbers,
+        counts: &Counts,
         center: &[f64; 192],
         scale: &[f64; 192],
         pos: *const f64,
@@ -80,8 +128,8 @@ extern "C" {
         peak_speed: &mut f64,
     ) -> u64;
     pub fn lictor_check_action(
-        numbers: &[f64; 44],
-        counts: &[u64; 26],
+        numbers: &Numbers,
+        counts: &Counts,
         center: &[f64; 192],
         scale: &[f64; 192],
         pos: *const f64,
@@ -114,8 +162,8 @@ extern "C" {
         kept: &mut [u64; 2],
     ) -> u64;
     pub fn lictor_features(
-        numbers: &[f64; 44],
-        counts: &[u64; 26],
+        numbers: &Numbers,
+        counts: &Counts,
         center: &[f64; 192],
         scale: &[f64; 192],
         before: &mut [f64; 512],
@@ -140,8 +188,8 @@ extern "C" {
         marks: &mut [u64; 2],
     ) -> u64;
     pub fn lictor_brake_feasible(
-        numbers: &[f64; 44],
-        counts: &[u64; 26],
+        numbers: &Numbers,
+        counts: &Counts,
         center: &[f64; 192],
         scale: &[f64; 192],
         pos: *const f64,
@@ -161,8 +209,8 @@ extern "C" {
         place: &mut u64,
     ) -> u64;
     pub fn lictor_brake_action(
-        numbers: &[f64; 44],
-        counts: &[u64; 26],
+        numbers: &Numbers,
+        counts: &Counts,
         center: &[f64; 192],
         scale: &[f64; 192],
         pos: *const f64,
@@ -173,8 +221,8 @@ extern "C" {
         out_len: usize,
     ) -> u64;
     pub fn lictor_hold_action(
-        numbers: &[f64; 44],
-        counts: &[u64; 26],
+        numbers: &Numbers,
+        counts: &Counts,
         center: &[f64; 192],
         scale: &[f64; 192],
         pos: *const f64,

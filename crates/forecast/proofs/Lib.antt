@@ -1,4 +1,3 @@
 -- Laws that the proofs of several functions cite.
-pub mod Answers
 pub mod Numbers
 pub mod Promises

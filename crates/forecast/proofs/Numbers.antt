@@ -10,26 +10,19 @@ use lib.ListN.{length, take}
 use lib.Seq.{length-take-le}
 use Rattle.card.specs.declared.block.Answered.{Answered}
 use Rattle.card.proofs.Room.{numbered}
-use Rattle.forecast.specs.declared.Filled.{Filled}
+use Rattle.input.specs.declared.Filled.{Filled}
+use Rattle.input.specs.Reads.{answered}
 use Rattle.forecast.specs.declared.Block.{Block}
-use Rattle.forecast.specs.Run.{answered, Turned, goesOn}
-
-most : (b : Bool) (n : ℕ) → cond b (n - n % 96) n ≤ n
-most true n = omega arith
-most false n = omega arith
-
-pub answered-most : (f : Filled) → answered f ≤ f .n
-unfolding answered
-answered-most f = most (f .failed) (f .n)
+use Rattle.forecast.specs.Run.{Turned, goesOn}
 
 all : (b : Bool) (n : ℕ) → n ≡ 65472 → cond b (n - n % 96) n ≡ 65472
 all true n h = omega arith
 all false n h = h
 
 -- a full block has whole records
-pub full : (f : Filled) → f .n ≡ 65472 → answered f ≡ 65472
+pub full : (f : Filled) → f .n ≡ 65472 → answered f 96 ≡ 65472
 unfolding answered
-full f h = all (f .failed) (f .n) h
+full f h = all (f .failed && true) (f .n) h
 
 three : (a b c : Bool) → (a && b && c) ≡ true → (b ≡ true) × (c ≡ true)
 three true true c h = (refl, h)
@@ -50,10 +43,10 @@ module _ (t u : Block) (block old new : List ℕ) (e : length block ≡ 65472) (
   later : goesOn u 65472 ≡ true → 18446744073709551615 - u .answer .next < 18446744073709551615 - t .answer .next
   later g =
       let p = goes u 65472 g in
-      let n : answered (u .filled) ≡ 65472 = full (u .filled) (p .0) in
-      let a : length (take (answered (u .filled)) block) ≡ 65472 = length-take-le (answered (u .filled)) block (omega arith) ∙ n in
+      let n : answered (u .filled) 96 ≡ 65472 = full (u .filled) (p .0) in
+      let a : length (take (answered (u .filled) 96) block) ≡ 65472 = length-take-le (answered (u .filled) 96) block (omega arith) ∙ n in
       let x : u .answer .next ≡ _ = ap (λ (r : Answered). r .next) (w .answer) in
-      let q = numbered (t .answer .next) (take (answered (u .filled)) block) (length old) (λ z. p .1 (x ∙ z)) in
+      let q = numbered (t .answer .next) (take (answered (u .filled) 96) block) (length old) (λ z. p .1 (x ∙ z)) in
       omega (arith, q .0, q .1, x, a)
 
   next : (b : Bool) → goesOn u 65472 ≡ b → cond b (suc (18446744073709551615 - u .answer .next)) 0 < suc (18446744073709551615 - t .answer .next)

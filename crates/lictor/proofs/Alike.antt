@@ -5,7 +5,6 @@ use mathlib.Core.Bool.{Bool, true, false, _&&_}
 use mathlib.Core.List.{List}
 use lib.ListN.{length}
 use lib.Ieee.{Float, binary64}
-use Rattle.refusal.specs.Order.{refusal}
 use Rattle.fmath.specs.declared.Number.{Number}
 use Rattle.chunk.specs.declared.Filled.{Filled}
 use Rattle.window.specs.declared.Masked.{Masked}
@@ -20,13 +19,12 @@ use Rattle.conformal.specs.declared.Verdict.{Verdict}
 use Rattle.conformal.specs.declared.TimeBin.{TimeBin}
 use Rattle.conformal.specs.declared.Scores.{Scores}
 use Rattle.conformal.specs.declared.Calibration.{Calibration}
+use Rattle.conformal.specs.Rule.{Tables}
 use Rattle.conformal.specs.Answer.{standardised, aggregated, tripped}
 use Rattle.envelope.specs.declared.Derived.{Derived}
 use Rattle.envelope.specs.declared.FuseConfig.{FuseConfig}
-use Rattle.envelope.specs.declared.Settings.{Settings}
-use Rattle.envelope.specs.Whole.{whole}
-use Rattle.envelope.specs.Derive.{derived}
-use Rattle.envelope.specs.Refusals.{configJudged}
+use Rattle.envelope.specs.declared.Compiled.{Compiled}
+use Rattle.envelope.specs.Refusals.{compiled}
 use Rattle.tier0.specs.declared.Check.{Check}
 use Rattle.tier0.specs.Of.{actionAnswer, actionOut, chunkAnswer, chunkOut}
 use Rattle.tier1.specs.declared.Head.{Head}
@@ -59,12 +57,12 @@ emptiness-alike e g = rw e at g
 pub derived-alike : {m n : ℕ} {d e : Derived} {r : ℕ} {old new : List Float} → m ≡ n → d ≡ e → DerivedGiven m d r old new → DerivedGiven n e r old new
 derived-alike p q g = rw (p, q) at g
 
--- the features of a tick, of settings, a state and scores that are taken apart
-pub featured-alike : (t u p ext : List Float) (there : Bool) (k : Head) (rows : List Float) {e f g i j l : Bool} {c y : Settings} {rt st : Tier1Rt} {sc tc : Scores} {r : ℕ} {d₀ d : List Float} {h₀ h : List ℕ} {f₀ f₁ : List Float} {c₀ c₁ : List ℕ} {s₀ s : List Float} {m₀ m : List ℕ}
+-- the features of a tick, of a configuration, a state and scores that are taken apart
+pub featured-alike : (t : Tables) (p ext : List Float) (there : Bool) (k : Head) (rows : List Float) {e f g i j l : Bool} {c y : FuseConfig} {rt st : Tier1Rt} {sc tc : Scores} {r : ℕ} {d₀ d : List Float} {h₀ h : List ℕ} {f₀ f₁ : List Float} {c₀ c₁ : List ℕ} {s₀ s : List Float} {m₀ m : List ℕ}
     → e ≡ i → f ≡ j → g ≡ l → c ≡ y → rt ≡ st → sc ≡ tc
-    → FeaturedGiven (e && f && g) there (featuresOf (whole c t u) p ext there k rows rt sc) r d₀ d h₀ h f₀ f₁ c₀ c₁ s₀ s m₀ m
-    → FeaturedGiven (i && j && l) there (featuresOf (whole y t u) p ext there k rows st tc) r d₀ d h₀ h f₀ f₁ c₀ c₁ s₀ s m₀ m
-featured-alike t u p ext there k rows e1 e2 e3 e4 e5 e6 g = rw (e1, e2, e3, e4, e5, e6) at g
+    → FeaturedGiven (e && f && g) there (featuresOf binary64 c t p ext there k rows rt sc) r d₀ d h₀ h f₀ f₁ c₀ c₁ s₀ s m₀ m
+    → FeaturedGiven (i && j && l) there (featuresOf binary64 y t p ext there k rows st tc) r d₀ d h₀ h f₀ f₁ c₀ c₁ s₀ s m₀ m
+featured-alike t p ext there k rows e1 e2 e3 e4 e5 e6 g = rw (e1, e2, e3, e4, e5, e6) at g
 
 pub cleared-alike : {f g : Bool} {a b : Cleared} {r : ℕ} {d₀ d : List Float} {h₀ h : List ℕ} {p₀ p : List Float} {t₀ t : List ℕ} {f₀ f₁ : List Float} {c₀ c : List ℕ}
     → f ≡ g → a ≡ b → ClearedGiven f a r d₀ d h₀ h p₀ p t₀ t f₀ f₁ c₀ c → ClearedGiven g b r d₀ d h₀ h p₀ p t₀ t f₀ f₁ c₀ c
@@ -106,20 +104,20 @@ sent-fits e y q g = let z = sym y ∙ e in record { number = rw (z, ← q .0) g;
 
 -- ---- an entry's answer on equal arguments
 
-pub standardised-alike : (bin : ℕ) {a : Scored} {cal k : Calibration} {sc t : Scores} → a ≡ standardised binary64 cal bin sc → cal ≡ k → sc ≡ t → a ≡ standardised binary64 k bin t
-standardised-alike bin e p q = rw (p, q) at e
+pub standardised-alike : (u : Tables) (bin : ℕ) {a : Scored} {cal k : Calibration} {sc t : Scores} → a ≡ standardised binary64 cal u bin sc → cal ≡ k → sc ≡ t → a ≡ standardised binary64 k u bin t
+standardised-alike u bin e p q = rw (p, q) at e
 
-pub aggregated-alike : {a : Scored} {cal k : Calibration} {sc t : Scores} → a ≡ aggregated cal sc → cal ≡ k → sc ≡ t → a ≡ aggregated k t
-aggregated-alike e p q = rw (p, q) at e
+pub aggregated-alike : (u : Tables) {a : Scored} {cal k : Calibration} {sc t : Scores} → a ≡ aggregated cal u sc → cal ≡ k → sc ≡ t → a ≡ aggregated k u t
+aggregated-alike u e p q = rw (p, q) at e
 
-pub tripped-alike : {a : Verdict} {cal k : Calibration} {sc t : Scores} → a ≡ tripped cal sc → cal ≡ k → sc ≡ t → a ≡ tripped k t
-tripped-alike e p q = rw (p, q) at e
+pub tripped-alike : (u : Tables) {a : Verdict} {cal k : Calibration} {sc t : Scores} → a ≡ tripped cal u sc → cal ≡ k → sc ≡ t → a ≡ tripped k u t
+tripped-alike u e p q = rw (p, q) at e
 
-pub refused-alike : {n : ℕ} (m : ℕ) (fits b : Bool) {c k : FuseConfig} → n ≡ fitting fits m → fits ≡ b → m ≡ refusal (configJudged c) → c ≡ k → n ≡ fitting b (refusal (configJudged k))
-refused-alike m fits b e p q s = e ∙ ap (λ (x : Bool). fitting x m) p ∙ ap (fitting b) (q ∙ ap (λ (x : FuseConfig). refusal (configJudged x)) s)
+pub fitting-alike : {n m k : ℕ} {f g : Bool} → n ≡ fitting f m → f ≡ g → m ≡ k → n ≡ fitting g k
+fitting-alike e p q = rw (p, q) at e
 
-pub derive-alike : {d : Derived} {c k : FuseConfig} → d ≡ derived binary64 c → c ≡ k → d ≡ derived binary64 k
-derive-alike e p = e ∙ ap (derived binary64) p
+pub compile-alike : (t : Tables) {a : Compiled} {c k : FuseConfig} → a ≡ compiled binary64 c t → c ≡ k → a ≡ compiled binary64 k t
+compile-alike t e p = e ∙ ap (λ (x : FuseConfig). compiled binary64 x t) p
 
 pub push-alike : (p : List Float) (d : ℕ) {a : Recorded} {t u : Trail} → a ≡ pushOf t p d → t ≡ u → a ≡ pushOf u p d
 push-alike p d e q = rw q at e
@@ -139,20 +137,20 @@ len-alike p q = p ∙ ap countOf q
 pub is-empty-alike : {a : Emptiness} {t u : Trail} → a ≡ emptinessOf t → t ≡ u → a ≡ emptinessOf u
 is-empty-alike p q = p ∙ ap emptinessOf q
 
-pub chunk-alike : (t u p aux rows : List Float) (h d e : ℕ) (l : List Float) {a : Check} {o : List Float} {c k : Settings} → (a ≡ chunkAnswer (whole c t u) p aux rows h d e (length l)) × (o ≡ chunkOut (whole c t u) p aux rows h d e l) → c ≡ k → (a ≡ chunkAnswer (whole k t u) p aux rows h d e (length l)) × (o ≡ chunkOut (whole k t u) p aux rows h d e l)
-chunk-alike t u p aux rows h d e l g q = rw q at g
+pub chunk-alike : (t : Tables) (p aux rows : List Float) (h d e : ℕ) (l : List Float) {a : Check} {o : List Float} {c k : FuseConfig} → (a ≡ chunkAnswer binary64 c t p aux rows h d e (length l)) × (o ≡ chunkOut binary64 c t p aux rows h d e l) → c ≡ k → (a ≡ chunkAnswer binary64 k t p aux rows h d e (length l)) × (o ≡ chunkOut binary64 k t p aux rows h d e l)
+chunk-alike t p aux rows h d e l g q = rw q at g
 
-pub action-alike : (t u p aux prev b l : List Float) {a : Check} {o : List Float} {c k : Settings} → (a ≡ actionAnswer (whole c t u) p aux prev b (length l)) × (o ≡ actionOut (whole c t u) p aux prev b l) → c ≡ k → (a ≡ actionAnswer (whole k t u) p aux prev b (length l)) × (o ≡ actionOut (whole k t u) p aux prev b l)
-action-alike t u p aux prev b l g q = rw q at g
+pub action-alike : (t : Tables) (p aux prev b l : List Float) {a : Check} {o : List Float} {c k : FuseConfig} → (a ≡ actionAnswer binary64 c t p aux prev b (length l)) × (o ≡ actionOut binary64 c t p aux prev b l) → c ≡ k → (a ≡ actionAnswer binary64 k t p aux prev b (length l)) × (o ≡ actionOut binary64 k t p aux prev b l)
+action-alike t p aux prev b l g q = rw q at g
 
 pub reset-alike : {a : Cleared} {x y : Tier1Rt} → a ≡ resetOf x → x ≡ y → a ≡ resetOf y
 reset-alike e q = rw q at e
 
-pub forecast-alike : (p v rows : List Float) (h d e from : ℕ) (l : List Float) {a : BrakeOut} {m : List Float} {c k : FuseConfig} → (a ≡ forecastAnswer c p v rows h d e from (length l)) × (m ≡ forecastSlacks c p v rows h d e from l) → c ≡ k → (a ≡ forecastAnswer k p v rows h d e from (length l)) × (m ≡ forecastSlacks k p v rows h d e from l)
-forecast-alike p v rows h d e from l q y = (rw y at (q .0), rw y at (q .1))
+pub forecast-alike : (t : Tables) (p v rows : List Float) (h d e from : ℕ) (l : List Float) {a : BrakeOut} {m : List Float} {c k : FuseConfig} → (a ≡ forecastAnswer binary64 c t p v rows h d e from (length l)) × (m ≡ forecastSlacks binary64 c t p v rows h d e from l) → c ≡ k → (a ≡ forecastAnswer binary64 k t p v rows h d e from (length l)) × (m ≡ forecastSlacks binary64 k t p v rows h d e from l)
+forecast-alike t p v rows h d e from l q y = (rw y at (q .0), rw y at (q .1))
 
-pub brake-alike : (p v l : List Float) {a : Sent} {m : List Float} {c k : FuseConfig} → (a ≡ brakeAnswer c p v (length l)) × (m ≡ brakeOutput c p v l) → c ≡ k → (a ≡ brakeAnswer k p v (length l)) × (m ≡ brakeOutput k p v l)
-brake-alike p v l q y = (rw y at (q .0), rw y at (q .1))
+pub brake-alike : (t : Tables) (p v l : List Float) {a : Sent} {m : List Float} {c k : FuseConfig} → (a ≡ brakeAnswer binary64 c t p v (length l)) × (m ≡ brakeOutput binary64 c t p v l) → c ≡ k → (a ≡ brakeAnswer binary64 k t p v (length l)) × (m ≡ brakeOutput binary64 k t p v l)
+brake-alike t p v l q y = (rw y at (q .0), rw y at (q .1))
 
-pub hold-alike : (p l : List Float) {a : Sent} {m : List Float} {c k : FuseConfig} → (a ≡ holdAnswer c p (length l)) × (m ≡ holdOutput c p l) → c ≡ k → (a ≡ holdAnswer k p (length l)) × (m ≡ holdOutput k p l)
-hold-alike p l q y = (rw y at (q .0), rw y at (q .1))
+pub hold-alike : (t : Tables) (p l : List Float) {a : Sent} {m : List Float} {c k : FuseConfig} → (a ≡ holdAnswer binary64 c t p (length l)) × (m ≡ holdOutput binary64 c t p l) → c ≡ k → (a ≡ holdAnswer binary64 k t p (length l)) × (m ≡ holdOutput binary64 k t p l)
+hold-alike t p l q y = (rw y at (q .0), rw y at (q .1))

@@ -6,11 +6,12 @@ use mathlib.Core.List.{List}
 use native.Mathlib.Omega.{arith}
 use borrow.Author.Tests.{eq-eqb, ne-eqb, le-leb}
 use lib.ListN.{length}
-use lib.Ieee.{Float}
+use lib.Ieee.{Float, Format}
 use Rattle.bits.specs.Choice.{if_then_else_}
 use Rattle.checked.specs.Each.{at, over}
 use Rattle.checked.proofs.Copy.{all-pasted}
 use Rattle.chunk.specs.Of.{heldOf}
+use Rattle.conformal.specs.Rule.{Tables}
 use Rattle.conformal.specs.declared.Scores.{Scores}
 use Rattle.envelope.specs.declared.FuseConfig.{FuseConfig}
 use Rattle.tier1.specs.declared.Head.{Head}
@@ -43,12 +44,12 @@ fitted : (g : Bool) (n : ℕ) → fitting g n ≡ 0 → n ≡ 0
 fitted true n e = e
 fitted false n e = absurd (omega arith)
 
-module _ (c : FuseConfig) (p ext : List Float) (k : Head) (rows : List Float) (rt : Tier1Rt) (sc : Scores) where
-  pub refused-places : (there : Bool) {g : Bool} {a : TickOut} {n : ℕ} {d : List Float} {h : List ℕ} {f : List Float} {m : List ℕ} {s : List Float} {q : List ℕ}
-      → a ≡ outOf (featuresOf c p ext there k rows rt sc) → n ≡ fitting g (a .refusal .number) → (n ≡ 0 → ⊥)
-      → FeaturedGiven g there (featuresOf c p ext there k rows rt sc) n d d h h f f m m s s q q
+module _ (f : Format) (c : FuseConfig) (tabs : Tables) (p ext : List Float) (k : Head) (rows : List Float) (rt : Tier1Rt) (sc : Scores) where
+  pub refused-places : (there : Bool) {g : Bool} {a : TickOut} {n : ℕ} {d : List Float} {h : List ℕ} {v : List Float} {m : List ℕ} {s : List Float} {q : List ℕ}
+      → a ≡ outOf (featuresOf f c tabs p ext there k rows rt sc) → n ≡ fitting g (a .refusal .number) → (n ≡ 0 → ⊥)
+      → FeaturedGiven g there (featuresOf f c tabs p ext there k rows rt sc) n d d h h v v m m s s q q
   refused-places there {g} ea en z =
-      let w : _ ≡ fitting g (featuresOf c p ext there k rows rt sc .refusal .number) = rw ea at en in
+      let w : _ ≡ fitting g (featuresOf f c tabs p ext there k rows rt sc .refusal .number) = rw ea at en in
       let v = ne-eqb _ _ (λ y. z (w ∙ y)) in
       record { number = w; rows = rw v; header = rw v; held = rw v; kept = rw v; scores = rw v; marks = rw v }
 
@@ -60,21 +61,21 @@ module _ (c : FuseConfig) (p ext : List Float) (k : Head) (rows : List Float) (r
   header-at true h = refl
   header-at false h = refl
 
-  pub passed-places : (there : Bool) {g : Bool} {a : TickOut} {n : ℕ} {d₀ d : List Float} {h₀ h : List ℕ} {f₀ f : List Float} {m₀ m : List ℕ} {s₀ s : List Float} {q₀ q : List ℕ}
-      → a ≡ outOf (featuresOf c p ext there k rows rt sc) → n ≡ fitting g (a .refusal .number) → n ≡ 0
+  pub passed-places : (there : Bool) {g : Bool} {a : TickOut} {n : ℕ} {d₀ d : List Float} {h₀ h : List ℕ} {v₀ v : List Float} {m₀ m : List ℕ} {s₀ s : List Float} {q₀ q : List ℕ}
+      → a ≡ outOf (featuresOf f c tabs p ext there k rows rt sc) → n ≡ fitting g (a .refusal .number) → n ≡ 0
       → rt .prev .«data» ≡ d₀
       → (d ≡ (if there then rowsOver d₀ rows else d₀)) × (h ≡ (if there then headerSaid k true else h₀))
-      → (f ≡ a .held) × (m ≡ heldMarks (there || rt .«have_prev») (a .«held_valid»))
+      → (v ≡ a .held) × (m ≡ heldMarks (there || rt .«have_prev») (a .«held_valid»))
       → (s ≡ scoresFlat (scoresNext a sc)) × (q ≡ marksFlat (scoresNext a sc))
-      → FeaturedGiven g there (featuresOf c p ext there k rows rt sc) n d₀ d h₀ h f₀ f m₀ m s₀ s q₀ q
+      → FeaturedGiven g there (featuresOf f c tabs p ext there k rows rt sc) n d₀ d h₀ h v₀ v m₀ m s₀ s q₀ q
   passed-places there {g} {a} {n} {d₀} {d} {h₀} ea en ez ed eb eh es =
-      let w : n ≡ fitting g (featuresOf c p ext there k rows rt sc .refusal .number) = rw ea at en in
-      let y = fitted g (featuresOf c p ext there k rows rt sc .refusal .number) (sym w ∙ ez) in
+      let w : n ≡ fitting g (featuresOf f c tabs p ext there k rows rt sc .refusal .number) = rw ea at en in
+      let y = fitted g (featuresOf f c tabs p ext there k rows rt sc .refusal .number) (sym w ∙ ez) in
       let v = eq-eqb _ _ (sym w ∙ ez) in
-      let x = passed-whole c p ext there k rows rt sc y in
+      let x = passed-whole f c tabs p ext there k rows rt sc y in
       record {
         number = w;
-        rows = rw v (eb .0 ∙ rows-at there (rows-fit c p ext there k rows rt sc y) ed ∙ sym (ap (λ (z : Featured). z .rt .prev .«data») x));
+        rows = rw v (eb .0 ∙ rows-at there (rows-fit f c tabs p ext there k rows rt sc y) ed ∙ sym (ap (λ (z : Featured). z .rt .prev .«data») x));
         header = rw v (eb .1 ∙ header-at there h₀ ∙ sym (ap (λ (z : Featured). if there then headerFlat (z .rt .prev) else h₀) x));
         held = rw v (eh .0 ∙ ap (λ (z : TickOut). z .held) ea);
         kept = rw v (eh .1 ∙ ap (λ (z : TickOut). heldMarks (there || rt .«have_prev») (z .«held_valid»)) ea ∙ sym (ap (λ (z : Featured). heldMarks (z .rt .«have_prev») (z .rt .«held_valid»)) x));

@@ -16,10 +16,9 @@ use Rattle.layout.specs.Chunk.{headerFrom}
 abbrev pub bare : List Float → ChunkBuf
 bare d = record { «data» = d; seq = 0; «t_emit» = 0; horizon = 0; dim = 0; «exec_steps» = 0; filled = false }
 
--- the calibration that two tables, tau, mask and gate make
-abbrev pub calibrationAsked : List Float → List Float → Float → ℕ → ℕ → List ℕ → Calibration
-calibrationAsked center scale tau mask n terms =
-    record { center = center; scale = scale; mask = mask; gate = record { «n_terms» = n; terms = terms }; tau = tau }
+-- the calibration that tau, mask and gate make
+abbrev pub calibrationAsked : Float → ℕ → ℕ → List ℕ → Calibration
+calibrationAsked tau mask n terms = record { mask = mask; gate = record { «n_terms» = n; terms = terms }; tau = tau }
 
 -- what is said of a new chunk besides its rows
 abbrev pub headAsked : ℕ → ℕ → ℕ → ℕ → ℕ → Head

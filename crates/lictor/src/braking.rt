@@ -1,5 +1,7 @@
 // Module 7 for C: the stopping forecast, and the rows that brake and hold.
 ghost use lib.ListN.{length};
+ghost use lib.Ieee.{binary64};
+ghost use Rattle.conformal.specs.Of.{tables};
 ghost use Rattle.layout.specs.Config.{configOf, countsFit};
 ghost use Rattle.brake.specs.Answer.{forecastAnswer, forecastSlacks, brakeAnswer, brakeOutput, holdAnswer, holdOutput};
 ghost use Rattle.lictor.specs.Answer.{ForecastGiven, SentGiven};
@@ -22,14 +24,26 @@ pub extern "C" fn lictor_brake_feasible(
     reach: &mut [f64; 2],
     place: &mut u64,
 ) -> u64
-    ensures { λ r. ⌜ ForecastGiven (countsFit (now (counts .entry))) (forecastAnswer (configOf (now (numbers .entry)) (now (counts .entry)) (now (center .entry)) (now (scale .entry))) (now (pos .entry)) (now (vel .entry)) (now (rows .entry)) horizon dim «exec_steps» from (length (now (slack .entry)))) (forecastSlacks (configOf (now (numbers .entry)) (now (counts .entry)) (now (center .entry)) (now (scale .entry))) (now (pos .entry)) (now (vel .entry)) (now (rows .entry)) horizon dim «exec_steps» from (now (slack .entry))) r (now (marks .entry)) (now (marks .exit)) (now (reach .entry)) (now (reach .exit)) (now (place .entry)) (now (place .exit)) (now (slack .entry)) (now (slack .exit)) ⌝ }
+    ensures { λ r. ⌜ ForecastGiven (countsFit (now (counts .entry))) (forecastAnswer binary64 (configOf (now (numbers .entry)) (now (counts .entry))) (tables (now (center .entry)) (now (scale .entry))) (now (pos .entry)) (now (vel .entry)) (now (rows .entry)) horizon dim «exec_steps» from (length (now (slack .entry)))) (forecastSlacks binary64 (configOf (now (numbers .entry)) (now (counts .entry))) (tables (now (center .entry)) (now (scale .entry))) (now (pos .entry)) (now (vel .entry)) (now (rows .entry)) horizon dim «exec_steps» from (now (slack .entry))) r (now (marks .entry)) (now (marks .exit)) (now (reach .entry)) (now (reach .exit)) (now (place .entry)) (now (place .exit)) (now (slack .entry)) (now (slack .exit)) ⌝ }
 {
     let fits = layout::config::counts_fit(counts);
     if !fits {
         return 255;
     }
-    let c = layout::config::config_of(numbers, counts, center, scale);
-    let a = brake::brake_feasible(c, pos, vel, rows, horizon, dim, exec_steps, from, slack);
+    let c = layout::config::config_of(numbers, counts);
+    let a = brake::brake_feasible(
+        c,
+        center,
+        scale,
+        pos,
+        vel,
+        rows,
+        horizon,
+        dim,
+        exec_steps,
+        from,
+        slack,
+    );
     crate::answer::put_forecast(a, marks, reach, place)
 }
 
@@ -43,14 +57,14 @@ pub extern "C" fn lictor_brake_action(
     vel: &[f64],
     out: &mut [f64],
 ) -> u64
-    ensures { λ r. ⌜ SentGiven (countsFit (now (counts .entry))) (brakeAnswer (configOf (now (numbers .entry)) (now (counts .entry)) (now (center .entry)) (now (scale .entry))) (now (pos .entry)) (now (vel .entry)) (length (now (out .entry)))) (brakeOutput (configOf (now (numbers .entry)) (now (counts .entry)) (now (center .entry)) (now (scale .entry))) (now (pos .entry)) (now (vel .entry)) (now (out .entry))) r (now (out .entry)) (now (out .exit)) ⌝ }
+    ensures { λ r. ⌜ SentGiven (countsFit (now (counts .entry))) (brakeAnswer binary64 (configOf (now (numbers .entry)) (now (counts .entry))) (tables (now (center .entry)) (now (scale .entry))) (now (pos .entry)) (now (vel .entry)) (length (now (out .entry)))) (brakeOutput binary64 (configOf (now (numbers .entry)) (now (counts .entry))) (tables (now (center .entry)) (now (scale .entry))) (now (pos .entry)) (now (vel .entry)) (now (out .entry))) r (now (out .entry)) (now (out .exit)) ⌝ }
 {
     let fits = layout::config::counts_fit(counts);
     if !fits {
         return 255;
     }
-    let c = layout::config::config_of(numbers, counts, center, scale);
-    let a = brake::brake_action(c, pos, vel, out);
+    let c = layout::config::config_of(numbers, counts);
+    let a = brake::brake_action(c, center, scale, pos, vel, out);
     crate::answer::sent(a)
 }
 
@@ -63,13 +77,13 @@ pub extern "C" fn lictor_hold_action(
     pos: &[f64],
     out: &mut [f64],
 ) -> u64
-    ensures { λ r. ⌜ SentGiven (countsFit (now (counts .entry))) (holdAnswer (configOf (now (numbers .entry)) (now (counts .entry)) (now (center .entry)) (now (scale .entry))) (now (pos .entry)) (length (now (out .entry)))) (holdOutput (configOf (now (numbers .entry)) (now (counts .entry)) (now (center .entry)) (now (scale .entry))) (now (pos .entry)) (now (out .entry))) r (now (out .entry)) (now (out .exit)) ⌝ }
+    ensures { λ r. ⌜ SentGiven (countsFit (now (counts .entry))) (holdAnswer binary64 (configOf (now (numbers .entry)) (now (counts .entry))) (tables (now (center .entry)) (now (scale .entry))) (now (pos .entry)) (length (now (out .entry)))) (holdOutput binary64 (configOf (now (numbers .entry)) (now (counts .entry))) (tables (now (center .entry)) (now (scale .entry))) (now (pos .entry)) (now (out .entry))) r (now (out .entry)) (now (out .exit)) ⌝ }
 {
     let fits = layout::config::counts_fit(counts);
     if !fits {
         return 255;
     }
-    let arm = layout::config::config_of(numbers, counts, center, scale);
-    let held = brake::hold_action(arm, pos, out);
+    let arm = layout::config::config_of(numbers, counts);
+    let held = brake::hold_action(arm, center, scale, pos, out);
     crate::answer::sent(held)
 }

@@ -15,6 +15,7 @@ ghost use Rattle.window.specs.Answer.{maskOf, netOf, pathOf, countOf, emptiness
 ghost use Rattle.window.specs.Of.{pushOf, clearOf};
 ghost use Rattle.envelope.specs.Derive.{derived};
 ghost use Rattle.envelope.specs.Refusals.{configJudged};
+ghost use Rattle.conformal.specs.Of.{tables};
 ghost use Rattle.conformal.specs.Answer.{standardised, aggregated, tripped, timeBinOf};
 ghost use Rattle.layout.specs.Trail.{trailOf};
 ghost use Rattle.layout.specs.Scores.{marksFit, scoresOf};
@@ -263,38 +264,25 @@ pub extern "C" fn lictor_derive(
     scale: &[f64; 192],
     out: &mut [f64; 29],
 ) -> u64
-    ensures { λ r. ⌜ DerivedGiven (fitting (countsFit (now (counts .entry))) (refusal (configJudged (configOf (now (numbers .entry)) (now (counts .entry)) (now (center .entry)) (now (scale .entry)))))) (derived binary64 (configOf (now (numbers .entry)) (now (counts .entry)) (now (center .entry)) (now (scale .entry)))) r (now (out .entry)) (now (out .exit)) ⌝ }
+    ensures { λ r. ⌜ DerivedGiven (fitting (countsFit (now (counts .entry))) (refusal (configJudged binary64 (configOf (now (numbers .entry)) (now (counts .entry))) (tables (now (center .entry)) (now (scale .entry)))))) (derived binary64 (configOf (now (numbers .entry)) (now (counts .entry)))) r (now (out .entry)) (now (out .exit)) ⌝ }
 {
     let fits = layout::config::counts_fit(counts);
-    let c = layout::config::config_of(numbers, counts, center, scale);
-    let number = answer::fitting(fits, envelope::config_refusal(c));
-    let d = envelope::derive(c);
-    answer::put_derived(number, d, out)
+    let c = layout::config::config_of(numbers, counts);
+    let compiled = envelope::compile(c, center, scale);
+    let number = answer::fitting(fits, compiled.number);
+    answer::put_derived(number, compiled.derived, out)
 }
 
 // ---- module 8
 
-fn calibration(
-    center: &[f64; 192],
-    scale: &[f64; 192],
-    tau: f64,
-    mask: u32,
-    n_terms: u8,
-    terms: &[u32; 8],
-) -> Calibration
-    ensures { λ r. ⌜ r ≡ calibrationAsked (now (center .entry)) (now (scale .entry)) tau mask «n_terms» (now (terms .entry)) ⌝ }
+fn calibration(tau: f64, mask: u32, n_terms: u8, terms: &[u32; 8]) -> Calibration
+    ensures { λ r. ⌜ r ≡ calibrationAsked tau mask «n_terms» (now (terms .entry)) ⌝ }
 {
     let gate = GateSpec {
         n_terms,
         terms: *terms,
     };
-    Calibration {
-        center: *center,
-        scale: *scale,
-        mask,
-        gate,
-        tau,
-    }
+    Calibration { mask, gate, tau }
 }
 
 #[no_mangle]
@@ -309,12 +297,12 @@ pub extern "C" fn lictor_standardise(
     scores: &mut [f64; 25],
     marks: &mut [u64; 2],
 ) -> u64
-    ensures { λ r. ⌜ ScoredGiven (marksFit (now (marks .entry))) (standardised binary64 (calibrationAsked (now (center .entry)) (now (scale .entry)) tau mask «n_terms» (now (terms .entry))) bin (scoresOf (now (scores .entry)) (now (marks .entry)))) r (now (scores .entry)) (now (scores .exit)) (now (marks .entry)) (now (marks .exit)) ⌝ }
+    ensures { λ r. ⌜ ScoredGiven (marksFit (now (marks .entry))) (standardised binary64 (calibrationAsked tau mask «n_terms» (now (terms .entry))) (tables (now (center .entry)) (now (scale .entry))) bin (scoresOf (now (scores .entry)) (now (marks .entry)))) r (now (scores .entry)) (now (scores .exit)) (now (marks .entry)) (now (marks .exit)) ⌝ }
 {
-    let cal = calibration(center, scale, tau, mask, n_terms, terms);
+    let cal = calibration(tau, mask, n_terms, terms);
     let fits = layout::scores::marks_fit(marks);
     let sc = layout::scores::scores_of(scores, marks);
-    let standardised = conformal::standardise(cal, bin, sc);
+    let standardised = conformal::standardise(cal, center, scale, bin, sc);
     answer::put_scored(fits, standardised, scores, marks)
 }
 
@@ -329,12 +317,12 @@ pub extern "C" fn lictor_aggregate(
     scores: &mut [f64; 25],
     marks: &mut [u64; 2],
 ) -> u64
-    ensures { λ r. ⌜ ScoredGiven (marksFit (now (marks .entry))) (aggregated (calibrationAsked (now (center .entry)) (now (scale .entry)) tau mask «n_terms» (now (terms .entry))) (scoresOf (now (scores .entry)) (now (marks .entry)))) r (now (scores .entry)) (now (scores .exit)) (now (marks .entry)) (now (marks .exit)) ⌝ }
+    ensures { λ r. ⌜ ScoredGiven (marksFit (now (marks .entry))) (aggregated (calibrationAsked tau mask «n_terms» (now (terms .entry))) (tables (now (center .entry)) (now (scale .entry))) (scoresOf (now (scores .entry)) (now (marks .entry)))) r (now (scores .entry)) (now (scores .exit)) (now (marks .entry)) (now (marks .exit)) ⌝ }
 {
-    let cal = calibration(center, scale, tau, mask, n_terms, terms);
+    let cal = calibration(tau, mask, n_terms, terms);
     let fits = layout::scores::marks_fit(marks);
     let sc = layout::scores::scores_of(scores, marks);
-    let aggregated = conformal::aggregate(cal, sc);
+    let aggregated = conformal::aggregate(cal, center, scale, sc);
     answer::put_scored(fits, aggregated, scores, marks)
 }
 
@@ -350,12 +338,12 @@ pub extern "C" fn lictor_trip(
     marks: &[u64; 2],
     trips: &mut u64,
 ) -> u64
-    ensures { λ r. ⌜ VerdictGiven (marksFit (now (marks .entry))) (tripped (calibrationAsked (now (center .entry)) (now (scale .entry)) tau mask «n_terms» (now (terms .entry))) (scoresOf (now (scores .entry)) (now (marks .entry)))) r (now (trips .entry)) (now (trips .exit)) ⌝ }
+    ensures { λ r. ⌜ VerdictGiven (marksFit (now (marks .entry))) (tripped (calibrationAsked tau mask «n_terms» (now (terms .entry))) (tables (now (center .entry)) (now (scale .entry))) (scoresOf (now (scores .entry)) (now (marks .entry)))) r (now (trips .entry)) (now (trips .exit)) ⌝ }
 {
-    let cal = calibration(center, scale, tau, mask, n_terms, terms);
+    let cal = calibration(tau, mask, n_terms, terms);
     let fits = layout::scores::marks_fit(marks);
     let sc = layout::scores::scores_of(scores, marks);
-    let verdict = conformal::trip(cal, sc);
+    let verdict = conformal::trip(cal, center, scale, sc);
     answer::put_verdict(fits, verdict, trips)
 }
 

@@ -2,6 +2,8 @@
 ghost use mathlib.Core.Path.{_≡_};
 ghost use mathlib.Core.Bool.{true, not, _&&_};
 ghost use lib.Dec.{eqb};
+ghost use lib.Ieee.{binary64};
+ghost use Rattle.conformal.specs.Of.{tables};
 ghost use Rattle.bits.specs.Choice.{if_then_else_};
 ghost use Rattle.layout.specs.Config.{configOf, countsFit};
 ghost use Rattle.layout.specs.Scores.{marksFit, scoresOf};
@@ -41,11 +43,11 @@ fn put_before(came: bool, k: Head, rows: &[f64], before: &mut [f64; 512], header
 }
 
 #[no_mangle]
-pub extern "C" fn lictor_features<'a>(
+pub extern "C" fn lictor_features(
     numbers: &[f64; 44],
     counts: &[u64; 26],
-    center: &'a [f64; 192],
-    scale: &'a [f64; 192],
+    center: &[f64; 192],
+    scale: &[f64; 192],
     before: &mut [f64; 512],
     header: &mut [u64; 6],
     trail: &[f64; 256],
@@ -64,12 +66,12 @@ pub extern "C" fn lictor_features<'a>(
     scores: &mut [f64; 25],
     marks: &mut [u64; 2],
 ) -> u64
-    ensures { λ r. ⌜ FeaturedGiven (countsFit (now (counts .entry)) && stateFits (now (header .entry)) (now (kept .entry)) && marksFit (now (marks .entry))) (not (eqb there 0)) (featuresOf (configOf (now (numbers .entry)) (now (counts .entry)) (now (center .entry)) (now (scale .entry))) (now (pos .entry)) (now (ext .entry)) (not (eqb there 0)) (headAsked seq «t_emit» horizon dim «exec_steps») (now (rows .entry)) (stateOf (now (before .entry)) (now (header .entry)) (now (trail .entry)) (now (samples .entry)) (now (held .entry)) (now (kept .entry))) (scoresOf (now (scores .entry)) (now (marks .entry)))) r (now (before .entry)) (now (before .exit)) (now (header .entry)) (now (header .exit)) (now (held .entry)) (now (held .exit)) (now (kept .entry)) (now (kept .exit)) (now (scores .entry)) (now (scores .exit)) (now (marks .entry)) (now (marks .exit)) ⌝ }
+    ensures { λ r. ⌜ FeaturedGiven (countsFit (now (counts .entry)) && stateFits (now (header .entry)) (now (kept .entry)) && marksFit (now (marks .entry))) (not (eqb there 0)) (featuresOf binary64 (configOf (now (numbers .entry)) (now (counts .entry))) (tables (now (center .entry)) (now (scale .entry))) (now (pos .entry)) (now (ext .entry)) (not (eqb there 0)) (headAsked seq «t_emit» horizon dim «exec_steps») (now (rows .entry)) (stateOf (now (before .entry)) (now (header .entry)) (now (trail .entry)) (now (samples .entry)) (now (held .entry)) (now (kept .entry))) (scoresOf (now (scores .entry)) (now (marks .entry)))) r (now (before .entry)) (now (before .exit)) (now (header .entry)) (now (header .exit)) (now (held .entry)) (now (held .exit)) (now (kept .entry)) (now (kept .exit)) (now (scores .entry)) (now (scores .exit)) (now (marks .entry)) (now (marks .exit)) ⌝ }
 {
     let config_fits = layout::config::counts_fit(counts);
     let state_fits = layout::states::state_fits(header, kept);
     let scores_fit = layout::scores::marks_fit(marks);
-    let c = layout::config::settings_of(numbers, counts);
+    let c = layout::config::config_of(numbers, counts);
     let rt = layout::states::state_of(before, header, trail, samples, held, kept);
     let sc = layout::scores::scores_of(scores, marks);
     let k = Head {
@@ -80,7 +82,7 @@ pub extern "C" fn lictor_features<'a>(
         exec_steps,
     };
     let came = there != 0;
-    let a = tier1::tick_with(c, center, scale, rt, pos, ext, came, k, rows, sc);
+    let a = tier1::one_tick(c, center, scale, rt, pos, ext, came, k, rows, sc);
     let fits = config_fits & state_fits & scores_fit;
     let number = crate::answer::fitting(fits, a.refusal.number);
     if number != 0 {

@@ -18,6 +18,7 @@ abbrev withNumber : ℕ → List Reason → Reason
 withNumber n [] = size
 withNumber n (k ∷ l) = if eqb (numberOf k) n then k else withNumber n l
 
+-- each reason is found in the order by its number; a new reason is a line here
 back : (k : Reason) → withNumber (numberOf k) order ≡ k
 back size = refl
 back number = refl
@@ -38,21 +39,9 @@ back leftover = refl
 pub numbers-differ : (j k : Reason) → numberOf j ≡ numberOf k → j ≡ k
 numbers-differ j k e = sym (back j) ∙ ap (λ (n : ℕ). withNumber n order) e ∙ back k
 
+-- and none has 0: it would be the first reason, which has not
 pub not-zero : (k : Reason) → 0 ≡ numberOf k → ⊥
-not-zero size e = omega arith
-not-zero number e = omega arith
-not-zero steps e = omega arith
-not-zero channels e = omega arith
-not-zero empty e = omega arith
-not-zero tooLong e = omega arith
-not-zero tooWide e = omega arith
-not-zero execExceedsHorizon e = omega arith
-not-zero lenMismatch e = omega arith
-not-zero width e = omega arith
-not-zero short e = omega arith
-not-zero notFinite e = omega arith
-not-zero computed e = omega arith
-not-zero leftover e = omega arith
+not-zero k e = let first : k ≡ size = sym (back k) ∙ ap (λ (n : ℕ). withNumber n order) (sym e) in omega (arith, ap numberOf first, e)
 
 module _ (applies : Reason → Bool) where
   first-given : {l : List Reason} {k : Reason} → First applies l k → firstOf applies l ≡ numberOf k
@@ -92,21 +81,17 @@ module _ (applies : Reason → Bool) where
   each-of [] h = tt
   each-of (k ∷ l) h = (h k, each-of l h)
 
+  -- .. so not the one with a number
+  with-number : (n : ℕ) (l : List Reason) → applies size ≡ false → NoneOf l → applies (withNumber n l) ≡ false
+  with-number n [] z h = z
+  with-number n (j ∷ l) z h = go (eqb (numberOf j) n) (with-number n l z (h .1))
+    where
+      go : (b : Bool) → applies (withNumber n l) ≡ false → applies (if b then j else withNumber n l) ≡ false
+      go true after = h .0
+      go false after = after
+
   judged : NoneOf order → (k : Reason) → applies k ≡ false
-  judged h size = h .0
-  judged h number = h .1 .0
-  judged h steps = h .1 .1 .0
-  judged h channels = h .1 .1 .1 .0
-  judged h empty = h .1 .1 .1 .1 .0
-  judged h tooLong = h .1 .1 .1 .1 .1 .0
-  judged h tooWide = h .1 .1 .1 .1 .1 .1 .0
-  judged h execExceedsHorizon = h .1 .1 .1 .1 .1 .1 .1 .0
-  judged h lenMismatch = h .1 .1 .1 .1 .1 .1 .1 .1 .0
-  judged h width = h .1 .1 .1 .1 .1 .1 .1 .1 .1 .0
-  judged h short = h .1 .1 .1 .1 .1 .1 .1 .1 .1 .1 .0
-  judged h notFinite = h .1 .1 .1 .1 .1 .1 .1 .1 .1 .1 .1 .0
-  judged h computed = h .1 .1 .1 .1 .1 .1 .1 .1 .1 .1 .1 .1 .0
-  judged h leftover = h .1 .1 .1 .1 .1 .1 .1 .1 .1 .1 .1 .1 .1 .0
+  judged h k = subst (λ (j : Reason). applies j ≡ false) (back k) (with-number (numberOf k) order (h .0) h)
 
   -- 0 is given exactly when no reason applies
   pub exactly-none : (((k : Reason) → applies k ≡ false) → given applies ≡ 0) × (given applies ≡ 0 → (k : Reason) → applies k ≡ false)

@@ -1,25 +1,12 @@
--- What the contract of `sample::agrees` cites: when the port answers what a record has as the Rust's answer.
-use mathlib.Core.Bool.{Bool}
+-- What the contract of `sample` cites: when an answer agrees with the one that is kept.
+use mathlib.Core.Bool.{Bool, _&&_}
 use mathlib.Core.List.{List}
 use Prim.Native.Nat.{ℕ}
-use Rattle.sample.specs.declared.Entry.{Entry}
-use Rattle.sample.specs.declared.Entry.the-variants.{Sqrt, Norm, Dist, TimeBin, Gate, Derive, CheckChunk, CheckAction, Forecast, Rows, Features}
-use Rattle.sample.specs.Arithmetic.{sqrtAgrees, normAgrees, distAgrees, timeBinAgrees}
-use Rattle.sample.specs.Gate.{gateAgrees}
-use Rattle.sample.specs.Config.{deriveAgrees}
-use Rattle.sample.specs.Checks.{actionAgrees, chunkAgrees}
-use Rattle.sample.specs.Stops.{forecastAgrees, rowsAgree}
-use Rattle.sample.specs.Features.{featuresAgree}
+use lib.Dec.{eqb}
+use lib.ListN.{length}
+use lib.Ieee.{Float, eq}
+use Rattle.checked.specs.Each.{at, all}
 
-unfoldable pub agrees : Entry → List ℕ → Bool
-agrees Sqrt b = sqrtAgrees b
-agrees Norm b = normAgrees b
-agrees Dist b = distAgrees b
-agrees TimeBin b = timeBinAgrees b
-agrees Gate b = gateAgrees b
-agrees Derive b = deriveAgrees b
-agrees CheckChunk b = chunkAgrees b
-agrees CheckAction b = actionAgrees b
-agrees Forecast b = forecastAgrees b
-agrees Rows b = rowsAgree b
-agrees Features b = featuresAgree b
+-- as many numbers, each equal by the format's equality, in which the two zeros are equal and a NaN equals nothing
+unfoldable pub agrees : List Float → List Float → Bool
+agrees kept got = eqb (length kept) (length got) && all (λ (j : ℕ). eq (at kept j) (at got j)) (length got)

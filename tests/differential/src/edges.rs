@@ -417,8 +417,8 @@ fn clear_flag() -> Vec<Condition> {
     ]
 }
 
-/// Every set of the four numbers at once: document 01 gives the lowest.
-fn lowest() -> Vec<Condition> {
+/// Every set of the four numbers at once: the first in the order of judging is given.
+fn together() -> Vec<Condition> {
     const DUE: [([bool; 4], u8); 16] = [
         ([false, false, false, false], 0),
         ([false, false, false, true], 4),
@@ -442,7 +442,7 @@ fn lowest() -> Vec<Condition> {
         let set = |c: &mut FuseConfig, which: [bool; 4]| {
             changes.iter().zip(which).filter(|(_, is)| *is).for_each(|(change, _)| change(c));
         };
-        at("the lowest number that applies is given", field, set, &DUE)
+        at("the first number that applies is given", field, set, &DUE)
     };
     let plain: Four = [|c| c.dim = 9, |c| c.dt = 0.0, |c| c.brake.substeps = 0, |c| zone(c).a1 = 0];
     let calibrated: Four =
@@ -470,7 +470,7 @@ fn table() -> Vec<Condition> {
         channels(),
         unarmed(),
         clear_flag(),
-        lowest(),
+        together(),
     ];
     parts.concat()
 }

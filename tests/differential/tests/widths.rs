@@ -47,8 +47,8 @@ fn seen(numbers: &[u8], due: &[u8]) {
 fn counts_of_any_width_are_refused_as_the_table_has_them() {
     assert!(lictor::environment_ok());
     let mut numbers = [1.0; 44];
-    numbers[27..35].fill(-9.0);
-    numbers[35..43].fill(9.0);
+    numbers[27..35].fill(-9.0); // box_lo
+    numbers[35..43].fill(9.0); // box_hi
     let good = [1, 1, 0, 1, 0, 1, 0, 1, 1, 1, 1, 1, 1, 1, 1, 1, 1, 1, 1, 1, 63, 2, 1, 4095, 8, 200];
     let mut rng = Rng::new(15);
     let mut given = Vec::new();

@@ -1,7 +1,7 @@
 //! The number for counts as C passes them, in words of 64 bits: the table's, on the counts themselves, or 255 where a code
 //! or a flag is none of its kind or where the table accepts a count that its field cannot hold. 255 comes first.
 
-use crate::refusal::{CHANNELS, EMPTY, EXEC_EXCEEDS_HORIZON, SIZE, STEPS, TOO_LONG, TOO_WIDE};
+use crate::refusal::{first, when, CHANNELS, EMPTY, EXEC_EXCEEDS_HORIZON, SIZE, STEPS, TOO_LONG, TOO_WIDE};
 
 pub const MISFIT: u8 = 255;
 
@@ -9,49 +9,52 @@ const WORD: u64 = u32::MAX as u64;
 const SHORT: u64 = u16::MAX as u64;
 const BYTE: u64 = u8::MAX as u64;
 
-/// The lowest of the numbers whose condition holds, 0 where none does.
-fn first(judged: &[(bool, u8)]) -> u8 {
-    judged.iter().filter(|j| j.0).map(|j| j.1).min().unwrap_or(0)
-}
-
 /// No bit above 11.
 fn named(bits: u64) -> bool {
     bits >> 12 == 0
 }
 
-/// The configuration's 26 counts, all of its numbers being accepted.
+/// The configuration's 26 counts, by their names in include/lictor.h, all of its numbers being accepted.
 pub fn counts(c: &[u64; 26]) -> u8 {
-    let (contact, calibrated) = (c[5] == 1, c[22] == 1);
-    let channels = contact && (c[6] == c[7] || c[6] >= c[21] || c[7] >= c[21]);
-    let code = c[2] > 4 || c[3] > 1 || c[4] > 4 || c[5] > 1 || c[22] > 1;
-    let field = c[11] > SHORT
-        || c[20] > WORD
-        || calibrated && c[25] > WORD
-        || contact && !channels && (c[6] > BYTE || c[7] > BYTE);
+    let &[dim, pos_dim, kind, clamp, brake, contact, contact_a0, contact_a1, ref rest @ ..] = c;
+    let &[substeps, commit, brake_steps, react_ticks, ref rest @ ..] = rest;
+    let &[ref terms @ .., armed, aux_count, calibrated, mask, n_terms, horizon_ticks] = rest;
+    let (zone, gate) = (contact == 1, calibrated == 1);
+    let channels = zone && (contact_a0 == contact_a1 || contact_a0 >= aux_count || contact_a1 >= aux_count);
+    let code = kind > 4 || clamp > 1 || brake > 4 || contact > 1 || calibrated > 1;
+    let field = react_ticks > SHORT
+        || armed > WORD
+        || gate && horizon_ticks > WORD
+        || zone && !channels && (contact_a0 > BYTE || contact_a1 > BYTE);
     if code || field {
         return MISFIT;
     }
     let size = |d: u64| !(1..=8).contains(&d);
-    let terms = (0..8).any(|i| (i as u64) < c[24] && !named(c[12 + i]));
-    let in_all = (c[9] as u128 + c[10] as u128).saturating_mul(c[8] as u128);
-    first(&[
-        (size(c[0]) || size(c[1]) || calibrated && (c[24] > 8 || !named(c[23]) || terms), SIZE),
-        (!(1..=64).contains(&c[8]) || c[9] > 64 || in_all > 4096 || calibrated && c[25] == 0, STEPS),
-        (channels, CHANNELS),
-    ])
+    let counted = (0..).zip(terms).any(|(i, term)| i < n_terms && !named(*term));
+    let in_all = (commit as u128 + brake_steps as u128).saturating_mul(substeps as u128);
+    let steps = !(1..=64).contains(&substeps) || commit > 64 || in_all > 4096 || gate && horizon_ticks == 0;
+    let judged = [
+        when(size(dim) || size(pos_dim) || gate && (n_terms > 8 || !named(mask) || counted), SIZE),
+        when(steps, STEPS),
+        when(channels, CHANNELS),
+    ];
+    first(&judged).unwrap_or(0)
 }
 
 /// Tier 1's counts, all of its numbers being accepted: the chunk's header, the trail's, have_prev and held_valid.
 pub fn state(h: &[u64; 6], t: &[u64; 2], kept: &[u64; 2]) -> u8 {
-    let filled = h[5] == 1;
-    if h[5] > 1 || filled && (h[0] > WORD || h[1] > WORD) || kept[0] > 1 || kept[1] > WORD {
+    let &[seq, t_emit, horizon, dim, exec_steps, filled] = h;
+    let (&[head, len], &[have_prev, held_valid]) = (t, kept);
+    let held = filled == 1;
+    if filled > 1 || held && (seq > WORD || t_emit > WORD) || have_prev > 1 || held_valid > WORD {
         return MISFIT;
     }
-    first(&[
-        (t[0] > 31 || t[1] > 32, SIZE),
-        (filled && (h[2] == 0 || h[3] == 0), EMPTY),
-        (filled && h[2] > 64, TOO_LONG),
-        (filled && h[3] > 8, TOO_WIDE),
-        (filled && h[4] > h[2], EXEC_EXCEEDS_HORIZON),
-    ])
+    let judged = [
+        when(head > 31 || len > 32, SIZE),
+        when(held && (horizon == 0 || dim == 0), EMPTY),
+        when(held && horizon > 64, TOO_LONG),
+        when(held && dim > 8, TOO_WIDE),
+        when(held && exec_steps > horizon, EXEC_EXCEEDS_HORIZON),
+    ];
+    first(&judged).unwrap_or(0)
 }

@@ -5,7 +5,7 @@ use crate::{
     chunk::{self, action},
     envelope::{self, derive},
     fmath::{clamp, max, min},
-    refusal::{lowest, not_finite, shorter, when, COMPUTED, SHORT, WIDTH},
+    refusal::{judged, not_finite, shorter, when, COMPUTED, SHORT, WIDTH},
     ActionKind, BrakeKind, BrakeOut, ChunkView, Derived, FuseConfig, Refusal, MAX_POS,
 };
 
@@ -40,7 +40,7 @@ pub fn brake_feasible(
     from: usize,
     slacks: &mut [f64],
 ) -> Result<BrakeOut, Refusal> {
-    lowest(&[
+    judged(&[
         envelope::judge(cfg),
         chunk::judge_view(&ch),
         when(ch.dim as usize != cfg.dim, WIDTH),
@@ -214,7 +214,7 @@ fn ramp(cfg: &FuseConfig, v: &[f64]) -> Checked {
 }
 
 pub fn brake_action(cfg: &FuseConfig, p: &[f64], v: &[f64], out: &mut [f64]) -> Result<(), Refusal> {
-    lowest(&[envelope::judge(cfg), shorter(out, cfg.dim), not_finite(p), not_finite(v)])?;
+    judged(&[envelope::judge(cfg), shorter(out, cfg.dim), not_finite(p), not_finite(v)])?;
     let derived = derive(cfg)?;
     if position_kind(cfg.kind) {
         inside(cfg, &derived, p, out);
@@ -230,7 +230,7 @@ pub fn brake_action(cfg: &FuseConfig, p: &[f64], v: &[f64], out: &mut [f64]) -> 
 }
 
 pub fn hold_action(cfg: &FuseConfig, p: &[f64], out: &mut [f64]) -> Result<(), Refusal> {
-    lowest(&[envelope::judge(cfg), shorter(out, cfg.dim), not_finite(p)])?;
+    judged(&[envelope::judge(cfg), shorter(out, cfg.dim), not_finite(p)])?;
     let derived = derive(cfg)?;
     if position_kind(cfg.kind) {
         inside(cfg, &derived, p, out);

@@ -3,7 +3,7 @@
 use core::ops::Range;
 
 use crate::{
-    refusal::{lowest, not_finite, when, EMPTY, EXEC_EXCEEDS_HORIZON, LEN_MISMATCH, TOO_LONG, TOO_WIDE},
+    refusal::{judged, not_finite, when, EMPTY, EXEC_EXCEEDS_HORIZON, LEN_MISMATCH, TOO_LONG, TOO_WIDE},
     ChunkBuf, ChunkView, Refusal, MAX_D, MAX_H,
 };
 
@@ -34,7 +34,7 @@ pub fn judge_held(b: &ChunkBuf) -> Option<u8> {
 }
 
 pub fn fill(buf: &mut ChunkBuf, seq: u32, t_emit: u32, h: u16, d: u16, exec: u16, src: &[f64]) -> Result<(), Refusal> {
-    lowest(&[judge(h, d, exec, src.len()), not_finite(src)])?;
+    judged(&[judge(h, d, exec, src.len()), not_finite(src)])?;
     buf.data[..src.len()].copy_from_slice(src);
     *buf = ChunkBuf { data: buf.data, seq, t_emit, horizon: h, dim: d, exec_steps: exec, filled: true };
     Ok(())

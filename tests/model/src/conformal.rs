@@ -4,7 +4,7 @@ use crate::{
     checked::{div, sub},
     envelope::judge_calibration,
     fmath::{max, min},
-    refusal::{lowest, when, STEPS},
+    refusal::{judged, when, STEPS},
     tier1::judge_scores,
     Calibration, Refusal, Scores, BINS, NFEAT,
 };
@@ -15,7 +15,7 @@ fn has(bits: u32, j: usize) -> bool {
 
 /// z of each masked and valid feature, 0.0 of the others; a bin above 15 is 15.
 pub fn standardise(cal: &Calibration, bin: usize, sc: &mut Scores) -> Result<(), Refusal> {
-    lowest(&[judge_calibration(cal), judge_scores(sc)])?;
+    judged(&[judge_calibration(cal), judge_scores(sc)])?;
     let live = cal.mask & sc.valid;
     let row = bin.min(BINS - 1) * NFEAT;
     let mut z = [0.0; NFEAT];
@@ -28,7 +28,7 @@ pub fn standardise(cal: &Calibration, bin: usize, sc: &mut Scores) -> Result<(),
 
 /// s is the greatest over live terms of the least z of the term; fired has the live features with z above tau.
 pub fn aggregate(cal: &Calibration, sc: &mut Scores) -> Result<f64, Refusal> {
-    lowest(&[judge_calibration(cal), judge_scores(sc)])?;
+    judged(&[judge_calibration(cal), judge_scores(sc)])?;
     let live = cal.mask & sc.valid;
     let mut s = f64::NEG_INFINITY;
     for term in &cal.terms[..cal.n_terms as usize] {
@@ -44,12 +44,12 @@ pub fn aggregate(cal: &Calibration, sc: &mut Scores) -> Result<f64, Refusal> {
 }
 
 pub fn trip(cal: &Calibration, sc: &Scores) -> Result<bool, Refusal> {
-    lowest(&[judge_calibration(cal), judge_scores(sc)])?;
+    judged(&[judge_calibration(cal), judge_scores(sc)])?;
     Ok(sc.s > cal.tau)
 }
 
 /// t x 16 / horizon_ticks rounded down, at most 15.
 pub fn time_bin(t: u32, horizon_ticks: u32) -> Result<usize, Refusal> {
-    lowest(&[when(horizon_ticks == 0, STEPS)])?;
+    judged(&[when(horizon_ticks == 0, STEPS)])?;
     Ok((t as u64 * BINS as u64 / horizon_ticks as u64).min(BINS as u64 - 1) as usize)
 }

@@ -2,7 +2,7 @@
 
 use crate::{
     fmath::min,
-    refusal::{lowest, lowest_number, when, CHANNELS, NUMBER, SIZE, STEPS},
+    refusal::{first, judged, when, CHANNELS, NUMBER, SIZE, STEPS},
     Calibration, Derived, FuseConfig, Refusal, MAX_D, MAX_POS, MAX_SUBSTEPS, MAX_TERMS, NFEAT,
 };
 
@@ -54,7 +54,7 @@ fn judge_calibration_numbers(c: &Calibration) -> Option<u8> {
 
 /// The calibration itself, as module 8's entries take it.
 pub fn judge_calibration(c: &Calibration) -> Option<u8> {
-    lowest_number(&[judge_calibration_size(c), judge_calibration_numbers(c)])
+    first(&[judge_calibration_size(c), judge_calibration_numbers(c)])
 }
 
 /// 2 of what is read whatever the sizes are.
@@ -92,18 +92,18 @@ fn judge_channels(c: &FuseConfig) -> Option<u8> {
     when(c.contact.is_some_and(|z| bad(z.a0, z.a1)), CHANNELS)
 }
 
-/// The whole configuration, whether or not an entry reads that part: the lowest of 1 to 4.
+/// The whole configuration, whether or not an entry reads that part: the first of 1 to 4.
 pub fn judge(c: &FuseConfig) -> Option<u8> {
     let sized = (1..=MAX_D).contains(&c.dim) && (1..=MAX_POS).contains(&c.pos_dim);
     if !sized {
         return Some(SIZE);
     }
     let calibration = if c.calibrated { judge_calibration(&c.cal) } else { None };
-    lowest_number(&[calibration, judge_numbers(c), judge_arrays(c), judge_steps(c), judge_channels(c)])
+    first(&[calibration, judge_numbers(c), judge_arrays(c), judge_steps(c), judge_channels(c)])
 }
 
 /// What an accepted configuration derives.
 pub fn derive(c: &FuseConfig) -> Result<Derived, Refusal> {
-    lowest(&[judge(c)])?;
+    judged(&[judge(c)])?;
     Ok(derived(c))
 }

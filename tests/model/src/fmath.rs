@@ -2,7 +2,7 @@
 
 use crate::{
     checked,
-    refusal::{lowest, not_finite, shorter},
+    refusal::{judged, not_finite, shorter},
     Refusal,
 };
 
@@ -11,12 +11,12 @@ pub fn sqrt(x: f64) -> Result<f64, Refusal> {
 }
 
 pub fn norm(v: &[f64], n: usize) -> Result<f64, Refusal> {
-    lowest(&[shorter(v, n), not_finite(v)])?;
+    judged(&[shorter(v, n), not_finite(v)])?;
     Ok(checked::norm(v, n)?)
 }
 
 pub fn dist(a: &[f64], b: &[f64], n: usize) -> Result<f64, Refusal> {
-    lowest(&[shorter(a, n), shorter(b, n), not_finite(a), not_finite(b)])?;
+    judged(&[shorter(a, n), shorter(b, n), not_finite(a), not_finite(b)])?;
     Ok(checked::dist(a, b, n)?)
 }
 

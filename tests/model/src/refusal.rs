@@ -16,6 +16,23 @@ pub const SHORT: u8 = 11;
 pub const NOT_FINITE: u8 = 12;
 pub const COMPUTED: u8 = 13;
 
+/// The order of judging, which is written here apart from the port's and need not be that of the numerals.
+pub const ORDER: [u8; 13] = [
+    SIZE,
+    NUMBER,
+    STEPS,
+    CHANNELS,
+    EMPTY,
+    TOO_LONG,
+    TOO_WIDE,
+    EXEC_EXCEEDS_HORIZON,
+    LEN_MISMATCH,
+    WIDTH,
+    SHORT,
+    NOT_FINITE,
+    COMPUTED,
+];
+
 #[derive(Clone, Copy, Debug, PartialEq, Eq)]
 pub struct Refusal {
     pub number: u8,
@@ -34,17 +51,17 @@ pub fn when(condition: bool, number: u8) -> Option<u8> {
     condition.then_some(number)
 }
 
-/// The lowest of the numbers that apply, or acceptance when none does.
-pub fn lowest(numbers: &[Option<u8>]) -> Result<(), Refusal> {
-    match lowest_number(numbers) {
+/// The first of the numbers that apply, or acceptance when none does.
+pub fn judged(numbers: &[Option<u8>]) -> Result<(), Refusal> {
+    match first(numbers) {
         Some(number) => Err(Refusal { number, place: 0 }),
         None => Ok(()),
     }
 }
 
-/// The lowest of the numbers that apply.
-pub fn lowest_number(numbers: &[Option<u8>]) -> Option<u8> {
-    numbers.iter().flatten().min().copied()
+/// Of the numbers that apply the one that is judged first.
+pub fn first(numbers: &[Option<u8>]) -> Option<u8> {
+    ORDER.into_iter().find(|n| numbers.contains(&Some(*n)))
 }
 
 /// 12 when some number of the slice is not finite, read or not.

@@ -5,7 +5,7 @@ use crate::{
     chunk,
     envelope::{self, derive},
     fmath::{clamp, max, min},
-    refusal::{lowest, not_finite, shorter, when, WIDTH},
+    refusal::{judged, not_finite, shorter, when, WIDTH},
     ChunkView, ClampMode, Derived, FuseConfig, Refusal, Tier0Out, ACCEL, CONTACT, JERK, MAX_D, REACH, SPEED, WORKSPACE,
 };
 
@@ -132,7 +132,7 @@ pub fn check_chunk(
     ch: ChunkView<'_>,
     out: &mut [f64],
 ) -> Result<Tier0Out, Refusal> {
-    lowest(&[
+    judged(&[
         envelope::judge(cfg),
         chunk::judge_view(&ch),
         when(ch.dim as usize != cfg.dim, WIDTH),
@@ -208,7 +208,7 @@ pub fn check_action(
     a: &[f64],
     out: &mut [f64],
 ) -> Result<Tier0Out, Refusal> {
-    lowest(&[
+    judged(&[
         envelope::judge(cfg),
         shorter(pos, cfg.pos_dim),
         shorter(prev, cfg.dim),

@@ -5,7 +5,7 @@ use crate::{
     chunk,
     envelope::{self, derive},
     fmath::{max, min},
-    refusal::{lowest, not_finite, when, NOT_FINITE, WIDTH},
+    refusal::{judged, not_finite, when, NOT_FINITE, WIDTH},
     window::{judge_numbers, judge_size, net_of, path_of},
     ChunkBuf, ChunkView, Derived, FuseConfig, Refusal, Scores, Tier1Rt, ACC, ACM_NEG, EXT0, HELD, MAX_D, MAX_EXT,
     NFEAT, NJR, PATH_INEFF, PE_WINDOW, REACH_FEAT, SPEED_PEAK, STALL, TCE,
@@ -28,7 +28,7 @@ fn judge_state(rt: &Tier1Rt) -> Option<u8> {
 
 /// Forgets the chunk before, the trail's samples and the held features.
 pub fn reset(rt: &mut Tier1Rt) -> Result<(), Refusal> {
-    lowest(&[judge_size(&rt.trail), chunk::judge_held(&rt.prev), judge_state(rt)])?;
+    judged(&[judge_size(&rt.trail), chunk::judge_held(&rt.prev), judge_state(rt)])?;
     rt.prev.filled = false;
     (rt.trail.head, rt.trail.len) = (0, 0);
     *rt = Tier1Rt { prev: rt.prev, trail: rt.trail, ..Tier1Rt::NEW };
@@ -43,7 +43,7 @@ pub fn features(
     new: Option<ChunkView<'_>>,
     sc: &mut Scores,
 ) -> Result<(), Refusal> {
-    lowest(&[
+    judged(&[
         envelope::judge(cfg),
         judge_size(&rt.trail),
         new.and_then(|v| chunk::judge_view(&v)),

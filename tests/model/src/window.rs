@@ -2,13 +2,13 @@
 
 use crate::{
     checked::{add, dist, Checked},
-    refusal::{lowest, not_finite, when, SIZE},
+    refusal::{judged, not_finite, when, SIZE},
     Refusal, Trail, MAX_POS, TRAIL_W,
 };
 
 /// 2^n - 1 for a window length n in 1..63.
 pub fn mask(n: u8) -> Result<u64, Refusal> {
-    lowest(&[when(!(1..=63).contains(&n), SIZE)])?;
+    judged(&[when(!(1..=63).contains(&n), SIZE)])?;
     Ok((1 << n) - 1)
 }
 
@@ -33,7 +33,7 @@ pub fn judge_numbers(t: &Trail) -> Option<u8> {
 
 /// Records the first d numbers of p as the newest sample; d is cut to 8 and to p's length.
 pub fn trail_push(t: &mut Trail, p: &[f64], d: usize) -> Result<(), Refusal> {
-    lowest(&[judge_size(t), judge_numbers(t), not_finite(p)])?;
+    judged(&[judge_size(t), judge_numbers(t), not_finite(p)])?;
     let d = d.min(MAX_POS).min(p.len());
     let start = t.head as usize * MAX_POS;
     t.buf[start..start + d].copy_from_slice(&p[..d]);
@@ -69,24 +69,24 @@ pub fn path_of(t: &Trail, d: usize, w: usize) -> Checked {
 }
 
 pub fn net(t: &Trail, d: usize, w: usize) -> Result<f64, Refusal> {
-    lowest(&[judge_size(t), judge_numbers(t)])?;
+    judged(&[judge_size(t), judge_numbers(t)])?;
     Ok(net_of(t, d, w)?)
 }
 
 pub fn path(t: &Trail, d: usize, w: usize) -> Result<f64, Refusal> {
-    lowest(&[judge_size(t), judge_numbers(t)])?;
+    judged(&[judge_size(t), judge_numbers(t)])?;
     Ok(path_of(t, d, w)?)
 }
 
 /// How many samples are held.
 pub fn trail_len(t: &Trail) -> Result<usize, Refusal> {
-    lowest(&[judge_size(t), judge_numbers(t)])?;
+    judged(&[judge_size(t), judge_numbers(t)])?;
     Ok(t.len as usize)
 }
 
 /// Resets head and length only.
 pub fn trail_clear(t: &mut Trail) -> Result<(), Refusal> {
-    lowest(&[judge_size(t), judge_numbers(t)])?;
+    judged(&[judge_size(t), judge_numbers(t)])?;
     t.head = 0;
     t.len = 0;
     Ok(())

@@ -135,7 +135,7 @@ fn channels() {
 }
 
 #[test]
-fn a_clear_flag_and_the_lowest_number() {
+fn a_clear_flag_and_the_first_number() {
     let bad = Calibration { tau: f64::NAN, mask: u32::MAX, n_terms: 255, scale: [0.0; 192], ..Calibration::DISARMED };
     assert_eq!(judged(|c| (c.calibrated, c.cal, c.horizon_ticks) = (false, bad, 0)), None);
     assert_eq!(judged(|c| (c.cal, c.horizon_ticks) = (bad, 0)), Some(1));

@@ -3,7 +3,7 @@ use mathlib.Core.Path.{sym}
 use native.Mathlib.Omega.{arith}
 use lib.Seq.{length-take-le}
 use borrow.Author.Needs.{needs}
-use Rattle.forecast.proofs.Numbers.{answered-most}
+use Rattle.input.proofs.Answers.{answered-most}
 use Rattle.forecast.proofs.turn.Statement.{statement}
 use Rattle.forecast.proofs.turn.Tie as tie
 
@@ -14,7 +14,7 @@ answered-requires : tie.Need-answered-requires
 answered-requires c κs = search needs
 
 slice-reshare-prefix-answer-block : tie.Need-slice-reshare-prefix-answer-block
-slice-reshare-prefix-answer-block c = let f = c .before .before .before .fill in omega (arith, c .answered .ensures, answered-most (f .result), f .ensures .0)
+slice-reshare-prefix-answer-block c = let f = c .before .before .before .fill in omega (arith, c .answered .ensures, answered-most (f .result) 96, f .ensures .fits)
 
 slice-aggregate-answer-block : tie.Need-slice-aggregate-answer-block
 slice-aggregate-answer-block c = sym (length-take-le _ _ (slice-reshare-prefix-answer-block (c .before)))
@@ -41,7 +41,7 @@ returns : tie.Need-returns
 returns c =
     let a = c .before .before .before .before .answer-block .ensures in
     let n = c .before .before .before .before .before .before .before .answered .ensures in
-    record { filled = c .before .before .before .before .before .before .before .before .before .before .fill .ensures .1; answer = rw n at (a .0); lines = rw n at (a .1) }
+    record { filled = c .before .before .before .before .before .before .before .before .before .before .fill .ensures .ends; answer = rw n at (a .0); lines = rw n at (a .1) }
 
 pub turn-spec : {M : Type 1} → statement M
 turn-spec =

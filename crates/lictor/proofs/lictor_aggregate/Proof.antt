@@ -20,7 +20,7 @@ put-scored-requires : tie.Need-put-scored-requires
 put-scored-requires c κs = search needs
 
 returns : tie.Need-returns
-returns c = scored-alike (c .before .before .before .before .before .before .before .marks-fit .ensures) (aggregated-alike (c .before .before .before .aggregate .ensures) (c .before .before .before .before .before .before .before .before .before .calibration .ensures) (c .before .before .before .before .scores-of .ensures)) (c .put-scored .ensures)
+returns c = scored-alike (c .before .before .before .before .before .before .before .marks-fit .ensures) (aggregated-alike _ (c .before .before .before .aggregate .ensures) (c .before .before .before .before .before .before .before .before .before .calibration .ensures) (c .before .before .before .before .scores-of .ensures)) (c .put-scored .ensures)
 
 pub lictor-aggregate-spec : {M : Type 1} → statement M
 lictor-aggregate-spec =

@@ -1,6 +1,9 @@
 -- `lictor::lictor_derive` meets its contract: it hands on the answer of its entry.
-use Rattle.lictor.proofs.Alike.{derived-alike, refused-alike, derive-alike}
+use Rattle.lictor.proofs.Alike.{derived-alike, fitting-alike, compile-alike}
 use borrow.Author.Needs.{needs}
+use denote.Ref.{now}
+use Rattle.conformal.specs.Of.{tables}
+use Rattle.envelope.proofs.Accepted.{compiled-number, compiled-derived}
 use Rattle.lictor.proofs.lictor_derive.Statement.{statement}
 use Rattle.lictor.proofs.lictor_derive.Tie as tie
 
@@ -10,20 +13,21 @@ counts-fit-requires c κs = search needs
 config-of-requires : tie.Need-config-of-requires
 config-of-requires c κs = search needs
 
-config-refusal-requires : tie.Need-config-refusal-requires
-config-refusal-requires c κs = search needs
+compile-requires : tie.Need-compile-requires
+compile-requires c κs = search needs
 
 fitting-requires : tie.Need-fitting-requires
 fitting-requires c κs = search needs
-
-derive-requires : tie.Need-derive-requires
-derive-requires c κs = search needs
 
 put-derived-requires : tie.Need-put-derived-requires
 put-derived-requires c κs = search needs
 
 returns : tie.Need-returns
-returns c = let e = c .before .before .before .before .before .config-of .ensures in derived-alike (refused-alike _ _ _ (c .before .before .before .fitting .ensures) (c .before .before .before .before .before .before .counts-fit .ensures) (c .before .before .before .before .config-refusal .ensures) e) (derive-alike (c .before .before .derive .ensures) e) (c .put-derived .ensures)
+returns c =
+    let k = c .before .before .before in
+    let s = k .before .before .before .args in
+    let e = compile-alike (tables (now (s .center)) (now (s .scale))) (k .compile .ensures) (k .before .config-of .ensures) in
+    derived-alike (fitting-alike (c .before .before .fitting .ensures) (k .before .before .counts-fit .ensures) (compiled-number e)) (compiled-derived e) (c .put-derived .ensures)
 
 pub lictor-derive-spec : {M : Type 1} → statement M
 lictor-derive-spec =
@@ -31,8 +35,7 @@ lictor-derive-spec =
     (tie.spec
     counts-fit-requires
     config-of-requires
-    config-refusal-requires
+    compile-requires
     fitting-requires
-    derive-requires
     put-derived-requires
     returns)

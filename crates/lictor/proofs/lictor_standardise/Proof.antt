@@ -1,5 +1,7 @@
 -- `lictor::lictor_standardise` meets its contract: it hands on the answer of its entry.
 use Rattle.lictor.proofs.Alike.{scored-alike, standardised-alike}
+use denote.Ref.{now}
+use Rattle.conformal.specs.Of.{tables}
 use borrow.Author.Needs.{needs}
 use Rattle.lictor.proofs.lictor_standardise.Statement.{statement}
 use Rattle.lictor.proofs.lictor_standardise.Tie as tie
@@ -20,7 +22,7 @@ put-scored-requires : tie.Need-put-scored-requires
 put-scored-requires c κs = search needs
 
 returns : tie.Need-returns
-returns c = scored-alike (c .before .before .before .before .before .before .before .marks-fit .ensures) (standardised-alike (c .before .before .before .before .before .before .before .before .before .before .args .bin) (c .before .before .before .standardise .ensures) (c .before .before .before .before .before .before .before .before .before .calibration .ensures) (c .before .before .before .before .scores-of .ensures)) (c .put-scored .ensures)
+returns c = scored-alike (c .before .before .before .before .before .before .before .marks-fit .ensures) (standardised-alike (tables (now (c .before .before .before .before .before .before .before .before .before .before .args .center)) (now (c .before .before .before .before .before .before .before .before .before .before .args .scale))) (c .before .before .before .before .before .before .before .before .before .before .args .bin) (c .before .before .before .standardise .ensures) (c .before .before .before .before .before .before .before .before .before .calibration .ensures) (c .before .before .before .before .scores-of .ensures)) (c .put-scored .ensures)
 
 pub lictor-standardise-spec : {M : Type 1} → statement M
 lictor-standardise-spec =

@@ -20,7 +20,7 @@ put-verdict-requires : tie.Need-put-verdict-requires
 put-verdict-requires c κs = search needs
 
 returns : tie.Need-returns
-returns c = verdict-alike (c .before .before .before .before .marks-fit .ensures) (tripped-alike (c .before .before .trip .ensures) (c .before .before .before .before .before .calibration .ensures) (c .before .before .before .scores-of .ensures)) (c .put-verdict .ensures)
+returns c = verdict-alike (c .before .before .before .before .marks-fit .ensures) (tripped-alike _ (c .before .before .trip .ensures) (c .before .before .before .before .before .calibration .ensures) (c .before .before .before .scores-of .ensures)) (c .put-verdict .ensures)
 
 pub lictor-trip-spec : {M : Type 1} → statement M
 lictor-trip-spec =

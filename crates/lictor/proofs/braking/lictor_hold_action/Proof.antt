@@ -1,6 +1,7 @@
 -- `lictor::braking::lictor_hold_action` meets its contract: it hands on the answer of its entry, where the counts fit.
 use borrow.Author.Tests.{not-true, not-false}
 use denote.Ref.{now}
+use Rattle.conformal.specs.Of.{tables}
 use Rattle.lictor.proofs.Alike.{sent-misfit, sent-fits, hold-alike}
 use borrow.Author.Needs.{needs}
 use Rattle.lictor.proofs.braking.lictor_hold_action.Statement.{statement}
@@ -28,7 +29,7 @@ returns-2 : tie.Need-returns-2
 returns-2 c =
     let s = c .before .before .before .before .before .before .before .before .before .before .args in
     sent-fits (not-false _ (c .before .before .before .before .before .before .if1 .left)) (c .before .before .before .before .before .before .before .counts-fit .ensures)
-    (hold-alike (now (s .pos)) (now (s .out)) (c .before .before .before .hold-action .ensures) (c .before .before .before .before .before .config-of .ensures))
+    (hold-alike (tables (now (s .center)) (now (s .scale))) (now (s .pos)) (now (s .out)) (c .before .before .before .hold-action .ensures) (c .before .before .before .before .before .config-of .ensures))
     (c .sent .ensures)
 
 pub lictor-hold-action-spec : {M : Type 1} → statement M

@@ -1,6 +1,7 @@
 -- `lictor::checks::lictor_check_action` meets its contract: it hands on the answer of its entry, where the counts fit.
 use borrow.Author.Tests.{not-true, not-false}
 use denote.Ref.{now}
+use Rattle.conformal.specs.Of.{tables}
 use Rattle.lictor.proofs.Alike.{check-misfit, check-fits, action-alike}
 use borrow.Author.Needs.{needs}
 use Rattle.lictor.proofs.checks.lictor_check_action.Statement.{statement}
@@ -12,11 +13,11 @@ counts-fit-requires c κs = search needs
 returns : tie.Need-returns
 returns c = check-misfit (not-true _ (c .if1 .taken)) (c .before .counts-fit .ensures)
 
-settings-of-requires : tie.Need-settings-of-requires
-settings-of-requires c κs = search needs
+config-of-requires : tie.Need-config-of-requires
+config-of-requires c κs = search needs
 
-check-action-with-requires : tie.Need-check-action-with-requires
-check-action-with-requires c κs = search needs
+check-action-requires : tie.Need-check-action-requires
+check-action-requires c κs = search needs
 
 put-check-requires : tie.Need-put-check-requires
 put-check-requires c κs = search needs
@@ -25,7 +26,7 @@ same-length : tie.Need-same-length
 same-length c = search needs
 
 returns-2 : tie.Need-returns-2
-returns-2 c = let s = c .before .before .before .before .before .before .before .before .before .before .before .before .before .before .before .args in check-fits (not-false _ (c .before .before .before .before .before .before .before .before .if1 .left)) (c .before .before .before .before .before .before .before .before .before .counts-fit .ensures) (action-alike (now (s .center)) (now (s .scale)) (now (s .pos)) (now (s .aux)) (now (s .prev)) (now (s .action)) (now (s .out)) (c .before .before .before .before .before .check-action-with .ensures) (c .before .before .before .before .before .before .before .settings-of .ensures)) (c .put-check .ensures)
+returns-2 c = let s = c .before .before .before .before .before .before .before .before .before .before .before .before .before .before .before .args in check-fits (not-false _ (c .before .before .before .before .before .before .before .before .if1 .left)) (c .before .before .before .before .before .before .before .before .before .counts-fit .ensures) (action-alike (tables (now (s .center)) (now (s .scale))) (now (s .pos)) (now (s .aux)) (now (s .prev)) (now (s .action)) (now (s .out)) (c .before .before .before .before .before .check-action .ensures) (c .before .before .before .before .before .before .before .config-of .ensures)) (c .put-check .ensures)
 
 pub lictor-check-action-spec : {M : Type 1} → statement M
 lictor-check-action-spec =
@@ -33,8 +34,8 @@ lictor-check-action-spec =
     (tie.spec
     counts-fit-requires
     returns
-    settings-of-requires
-    check-action-with-requires
+    config-of-requires
+    check-action-requires
     put-check-requires
     same-length
     returns-2)

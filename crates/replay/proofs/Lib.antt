@@ -1,3 +1,0 @@
--- Laws that the proofs of several functions cite.
-pub mod Answers
-pub mod Records

@@ -1,0 +1,69 @@
+// A record's configuration, and the records of `derive`.
+use crate::record::Numbers;
+use crate::record::Words;
+use crate::record::part;
+use envelope::FuseConfig;
+use fmath::put;
+use sample::agrees;
+
+// The numbers of a flat configuration: limits, brake and contact, then the norm, then the box; tau, the last, is not in the record and stays 0.
+fn numbers(x: &Numbers) -> [f64; 44] {
+    let mut n = [0.0; 44];
+    let all: &mut [f64] = &mut n;
+    put(part(x, 14, 11), 11, all);
+    put(part(x, 41, 16), 16, &mut all[11..]);
+    put(part(x, 25, 16), 16, &mut all[27..]);
+    n
+}
+
+// Its counts and codes; those of a calibration are 0.
+fn counts(w: &Words) -> [u64; 26] {
+    [
+        w[0],
+        w[1],
+        w[2],
+        w[3],
+        w[9],
+        w[6],
+        w[7],
+        w[8],
+        w[10],
+        w[11],
+        w[12],
+        w[13],
+        0,
+        0,
+        0,
+        0,
+        0,
+        0,
+        0,
+        0,
+        w[4],
+        w[5],
+        0,
+        0,
+        0,
+        0,
+    ]
+}
+
+// The configuration that a record begins with. It has no calibration.
+pub(crate) fn config(w: &Words, x: &Numbers) -> FuseConfig {
+    let n = numbers(x);
+    let c = counts(w);
+    let unread = [0.0; 192];
+    layout::config::config_of(&n, &c, &unread, &unread)
+}
+
+// Whether a configuration is accepted, and these are the numbers kept as derived from it.
+fn is_derived(refusal: u8, derived: &[f64; 29], x: &Numbers) -> bool {
+    (refusal == 0) & agrees(part(x, 57, 29), derived)
+}
+
+pub(crate) fn derive_agrees(w: &Words, x: &Numbers) -> bool {
+    let c = config(w, x);
+    let mut derived = [0.0; 29];
+    layout::config::put_derived(envelope::derive(c), &mut derived);
+    is_derived(envelope::config_refusal(c), &derived, x)
+}

@@ -1,0 +1,98 @@
+// Records of tier 1: the features of a tick with a new chunk.
+use crate::config::config;
+use crate::record::Numbers;
+use crate::record::Words;
+use crate::record::exact;
+use crate::record::part;
+use crate::record::within;
+use chunk::ChunkBuf;
+use chunk::held_rows;
+use conformal::Scores;
+use layout::places::to_u16;
+use layout::places::to_u32;
+use sample::agrees;
+use tier1::Head;
+use tier1::Tier1Rt;
+use window::Trail;
+
+// A new trail after the record's samples.
+fn trail(w: &Words, x: &Numbers) -> Trail {
+    let n = within(w[57], 24) as u16;
+    let mut t = Trail::new();
+    let mut i = 0;
+    while i < n {
+        let pushed = t.push(part(x, 58 + 8 * i, 8), 8);
+        let next = pushed.trail;
+        t = next;
+        i += 1;
+    }
+    t
+}
+
+// The chunk before, where there is one.
+fn kept(w: &Words, x: &Numbers) -> ChunkBuf {
+    let none = ChunkBuf::new();
+    if w[250] == 0 {
+        return none;
+    }
+    let h = to_u16(w[252]);
+    let d = to_u16(w[253]);
+    let filled = none.fill(
+        0,
+        to_u32(w[251]),
+        h,
+        d,
+        0,
+        held_rows(part(x, 254, 32), h, d, true),
+    );
+    filled.buf
+}
+
+// The state: the trail and the chunk before, with no feature held.
+fn state(w: &Words, x: &Numbers) -> Tier1Rt {
+    let prev = kept(w, x);
+    let trail = trail(w, x);
+    Tier1Rt {
+        prev,
+        have_prev: w[250] != 0,
+        trail,
+        held: [0.0; 6],
+        held_valid: 0,
+    }
+}
+
+// Whether scores and state have the features and the held features from word 338 on.
+fn is_featured(sc: Scores, rt: Tier1Rt, w: &Words, x: &Numbers) -> bool {
+    let f = sc.f;
+    let held = rt.held;
+    agrees(part(x, 338, 12), &f)
+        & agrees(part(x, 351, 6), &held)
+        & agrees(
+            &[exact(w[350]), exact(w[357])],
+            &[sc.valid as f64, rt.held_valid as f64],
+        )
+}
+
+pub(crate) fn features_agree(w: &Words, x: &Numbers) -> bool {
+    let c = config(w, x);
+    let rt = state(w, x);
+    let pos = part(x, 287, w[286]);
+    let ext = part(x, 296, w[295]);
+    let head = Head {
+        seq: 0,
+        t_emit: to_u32(w[304]),
+        horizon: to_u16(w[305]),
+        dim: to_u16(w[0]),
+        exec_steps: 0,
+    };
+    let rows = held_rows(part(x, 306, 32), head.horizon, head.dim, true);
+    let none = Scores {
+        f: [0.0; 12],
+        z: [0.0; 12],
+        s: 0.0,
+        valid: 0,
+        fired: 0,
+    };
+    let a = tier1::features(c, rt, pos, ext, true, head, rows, none);
+    (a.refusal.number == 0) & is_featured(a.scores, a.rt, w, x)
+}
