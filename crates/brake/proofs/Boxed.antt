@@ -1,24 +1,19 @@
 -- Each coordinate that a position kind's brake or hold writes lies in its box: the row is the position, which is finite, moved inside walls that an accepted
 -- configuration has finite and in order.
-use Prim.Native.Nat.{ℕ, zero, suc, min, _≤_, _<_}
+use Prim.Native.Nat.{ℕ, zero, suc, _<_}
 use mathlib.Core.Path.{_≡_, refl}
 use mathlib.Core.Bool.{Bool, true, false, not, _||_, false≢true}
 use mathlib.Core.Logic.{inl, inr}
 use mathlib.Core.List.{List, [], _∷_, _++_}
-use native.Mathlib.Nat.{lt-of-not-le}
-use native.Mathlib.Decide.{decLe}
 use native.Mathlib.Omega.{arith}
-use borrow.Author.Tests.{not-false}
 use lib.Dec.{ltb}
-use lib.ListN.{length, replicate, getD-replicate}
-use lib.Ieee.{Float, nan, binary64}
+use lib.ListN.{length}
+use lib.Ieee.{Float, binary64}
 use Rattle.refusal.specs.Order.{short, notFinite, computed, _when_, refusal}
 use Rattle.refusal.specs.Chain.{both-pass, passes-at}
 use Rattle.fmath.specs.Answer.{someNotFinite}
 use Rattle.checked.specs.Each.{at, over}
-use Rattle.checked.specs.Finite.{+0, finite, allFinite}
-use Rattle.checked.specs.Row.{padded}
-use Rattle.checked.proofs.Each.{all-at, neither, over-at, over-keeps}
+use Rattle.checked.proofs.Each.{neither, over-at}
 use Rattle.checked.proofs.Ordered.{finite-real}
 use Rattle.conformal.specs.Rule.{Tables}
 use Rattle.envelope.specs.Refusals.{configJudged}
@@ -26,28 +21,13 @@ use Rattle.envelope.specs.declared.ActionKind.{ActionKind}
 use Rattle.envelope.specs.declared.ActionKind.the-variants.{EePosition, EeDelta, JointPosition, JointVelocity, Other}
 use Rattle.envelope.specs.declared.FuseConfig.{FuseConfig}
 use Rattle.envelope.proofs.Accepted.{accepted, dim-most, low-wall-finite, high-wall-finite, walls-ordered}
-use Rattle.workspace.proofs.Inside.{inward-inside}
+use Rattle.workspace.specs.Rule.{setpoint}
+use Rattle.workspace.proofs.Inside.{setpoint-inside}
 use Rattle.brake.specs.declared.Sent.the-variants.{Done}
-use Rattle.brake.specs.Rule.{eight, wallsAt, setpoint}
-use Rattle.brake.specs.Answer.{rowLent, sentAt, brakeSent, brakeRefusal, brakeAnswer, brakeOutput, holdRefusal, holdAnswer, holdOutput}
+use Rattle.brake.specs.Rule.{wallsAt}
+use Rattle.brake.specs.Answer.{rowLent, sentAt, brakeSent, brakeRefusal, brakeAnswer, brakeOutput, holdSent, holdRefusal, holdAnswer, holdOutput}
 use Rattle.brake.specs.Promises.{InBox, isPosition, BrakesInside, HoldsInside}
-use Rattle.brake.proofs.Eight.{length-eight}
 use Rattle.brake.proofs.Sending.{Position, position-brakes, position-holds, sized}
-
--- ---- the row before it is moved
-
-eight-finite : (p : List Float) (j : ℕ) → j < 8 → someNotFinite p ≡ false → finite (at (eight p 8) j) ≡ true
-unfolding eight padded allFinite finite
-eight-finite p j h fit = go (decLe (length p) j)
-  where
-    go : Dec (length p ≤ j) → finite (at (eight p 8) j) ≡ true
-    go (yes o) = rw (over-keeps (at p) (replicate 8 +0) (min 8 (length p)) j (omega arith)) (rw (getD-replicate 8 j +0 nan h))
-    go (no o) =
-        let n : j < length p = lt-of-not-le o in
-        let k : j < min 8 (length p) = omega arith in
-        rw (over-at (at p) (replicate 8 +0) (min 8 (length p)) j k h) (all-at (λ (i : ℕ). finite (at p i)) (length p) (not-false (allFinite p (length p)) fit) j n)
-
--- ---- .. and after
 
 sent-zero : (k : ℕ) → sentAt k ≡ Done → k ≡ 0
 sent-zero zero e = refl
@@ -67,18 +47,16 @@ module _ (c : FuseConfig) (tabs : Tables) (p l : List Float) (unfit : Bool) (pas
       let a = passes-at short (ltb (length l) (c .dim)) ((notFinite when unfit) ∷ []) w in
       passes-at notFinite unfit [] (a .1) .0
 
-  written-inside : someNotFinite p ≡ false → (j : ℕ) → j < c .dim → InBox c j (at (over (at (setpoint (wallsAt binary64 c) p (c .dim))) l (c .dim)) j)
-  unfolding setpoint
+  written-inside : someNotFinite p ≡ false → (j : ℕ) → j < c .dim → InBox c j (at (over (at (setpoint binary64 (wallsAt binary64 c) p (c .dim) .value)) l (c .dim)) j)
   written-inside real j in-it =
       let fit = accepted binary64 c tabs (both-pass (configJudged binary64 c tabs) (rowLent c unfit (length l)) passed .0) in
       let few = dim-most binary64 c tabs fit in
       let room = sized binary64 c tabs unfit (length l) passed .1 in
       let below : j < 8 = omega arith in
-      let point = finite-real (at (eight p 8) j) (eight-finite p j below real) in
       let low = finite-real (at (wallsAt binary64 c .lo) j) (low-wall-finite binary64 c tabs fit j below) in
       let high = finite-real (at (wallsAt binary64 c .hi) j) (high-wall-finite binary64 c tabs fit j below) in
-      rw (over-at (at (setpoint (wallsAt binary64 c) p (c .dim))) l (c .dim) j in-it (omega arith))
-      (inward-inside (wallsAt binary64 c) (eight p 8) (c .dim) j in-it (omega (arith, length-eight p 8)) point low high (walls-ordered binary64 c tabs fit j below))
+      rw (over-at (at (setpoint binary64 (wallsAt binary64 c) p (c .dim) .value)) l (c .dim) j in-it (omega arith))
+      (setpoint-inside binary64 (wallsAt binary64 c) p (c .dim) j in-it below real low high (walls-ordered binary64 c tabs fit j below))
 
 module _ (c : FuseConfig) (tabs : Tables) (is : isPosition (c .kind) ≡ true) (p l : List Float) where
   pub brake-inside : (v : List Float) → BrakesInside c tabs p v l
@@ -92,8 +70,9 @@ module _ (c : FuseConfig) (tabs : Tables) (is : isPosition (c .kind) ≡ true) (
       (written-inside c tabs p l unfit passed real j in-it)
 
   pub hold-inside : HoldsInside c tabs p l
-  unfolding holdAnswer holdOutput holdRefusal
+  unfolding holdAnswer holdOutput holdRefusal holdSent
   hold-inside done j in-it =
       let z = sent-zero (holdRefusal binary64 c tabs p (length l)) done in
-      rw (z, position-holds (wallsAt binary64 c) p (c .dim) (c .kind) (positions (c .kind) is))
-      (written-inside c tabs p l (someNotFinite p) z (fit-position c tabs p l (someNotFinite p) z) j in-it)
+      let passed = both-pass (configJudged binary64 c tabs ++ rowLent c (someNotFinite p) (length l)) ((computed when not (holdSent binary64 c p .sound)) ∷ []) z .0 in
+      rw (z, position-holds (wallsAt binary64 c) p (c .dim) binary64 (c .kind) (positions (c .kind) is))
+      (written-inside c tabs p l (someNotFinite p) passed (fit-position c tabs p l (someNotFinite p) passed) j in-it)

@@ -1,4 +1,3 @@
-pub mod Eight
 pub mod ByKind
 pub mod Outcome
 pub mod Judged

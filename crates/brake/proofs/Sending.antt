@@ -1,7 +1,7 @@
--- A row's refusal, case by case; a kind that is none of the velocity kinds; and the whole answer.
+-- A row's refusal, case by case; a kind that is none of the velocity kinds; the whole answer, by the row that is sent; and that hold, at a box, never gives 13.
 use Prim.Native.Nat.{ℕ, zero, suc, min, _≤_, _<_}
 use mathlib.Core.Path.{_≡_, refl, sym, ap, _∙_}
-use mathlib.Core.Bool.{Bool, true, false, not, _||_}
+use mathlib.Core.Bool.{Bool, true, false, not, _||_, false≢true}
 use mathlib.Core.Logic.{inl, inr}
 use mathlib.Core.List.{List, [], _∷_, _++_}
 use native.Mathlib.Omega.{arith}
@@ -11,13 +11,14 @@ use borrow.Author.Tests.{lt-ltb, le-ltb, ltb-false}
 use lib.Dec.{ltb}
 use lib.ListN.{length}
 use lib.Ieee.{Float, Format}
-use Rattle.refusal.specs.Order.{Judged, short, notFinite, computed, _when_, refusal, refusedFor}
+use Rattle.refusal.specs.Order.{Reason, Judged, short, notFinite, computed, _when_, among, refusal, refusedFor}
 use Rattle.bits.specs.Choice.{if_then_else_}
+use Rattle.refusal.specs.Exactly.{First, here, later, exactly-first}
 use Rattle.refusal.specs.Chain.{chain, first-refuses, first-passes, both-pass, passes-at}
 use Rattle.refusal.specs.declared.Refusal.{Refusal}
 use Rattle.fmath.specs.Answer.{someNotFinite}
 use Rattle.checked.specs.Each.{at, over}
-use Rattle.checked.specs.Checked.{pure}
+use Rattle.checked.specs.Checked.{Checked}
 use Rattle.checked.proofs.Copy.{all-put}
 use Rattle.conformal.specs.Rule.{Tables}
 use Rattle.envelope.specs.Refusals.{configJudged}
@@ -26,16 +27,17 @@ use Rattle.envelope.specs.declared.ActionKind.the-variants.{EePosition, EeDelta
 use Rattle.envelope.specs.declared.FuseConfig.{FuseConfig}
 use Rattle.envelope.proofs.ActionKind as kind
 use Rattle.envelope.proofs.Accepted.{accepted, dim-most}
-use Rattle.workspace.specs.Rule.{Walls}
+use Rattle.workspace.specs.Rule.{Walls, setpoint}
 use Rattle.workspace.specs.Of.{wallsOf}
 use Rattle.workspace.specs.declared.Workspace.{Workspace}
+use Rattle.workspace.proofs.Inside.{setpoint-sound}
 use Rattle.brake.specs.declared.Sent.{Sent}
 use Rattle.brake.specs.declared.Sent.the-variants as sent
 use Rattle.checked.specs.declared.Row.{Row}
-use Rattle.brake.specs.Rule.{setpoint, brakeRow, holdRow}
+use Rattle.brake.specs.Rule.{wallsAt, brakeRow, holdRow}
 use Rattle.brake.specs.Of.{workspaceFor}
 use Rattle.checked.specs.Of.{rowFrom}
-use Rattle.brake.specs.Answer.{rowLent, sentAt, rowAt, brakeSent, brakeRefusal, brakeAnswer, brakeOutput, holdRefusal, holdAnswer, holdOutput}
+use Rattle.brake.specs.Answer.{rowLent, sentAt, rowAt, brakeSent, brakeRefusal, holdSent, holdRefusal}
 
 -- ---- position kinds
 
@@ -43,7 +45,7 @@ abbrev pub Position : ActionKind → Type 0
 Position k = OneOf (0 ∷ 2 ∷ 4 ∷ []) (tagOf kind.the-type k)
 
 module _ (w : Walls) (p : List Float) (n : ℕ) where
-  pub position-brakes : (f : Format) (a dt : Float) (v : List Float) (k : ActionKind) → Position k → brakeRow f k a dt w p v n ≡ pure (setpoint w p n)
+  pub position-brakes : (f : Format) (a dt : Float) (v : List Float) (k : ActionKind) → Position k → brakeRow f k a dt w p v n ≡ setpoint f w p n
   unfolding brakeRow
   position-brakes f a dt v EePosition h = refl
   position-brakes f a dt v JointPosition h = refl
@@ -55,17 +57,17 @@ module _ (w : Walls) (p : List Float) (n : ℕ) where
   position-brakes f a dt v JointVelocity (inr (inl e)) = absurd (let z : ⊥ = omega arith in z)
   position-brakes f a dt v JointVelocity (inr (inr e)) = absurd (let z : ⊥ = omega arith in z)
 
-  pub position-holds : (k : ActionKind) → Position k → holdRow k w p n ≡ setpoint w p n
+  pub position-holds : (f : Format) (k : ActionKind) → Position k → holdRow f k w p n ≡ setpoint f w p n
   unfolding holdRow
-  position-holds EePosition h = refl
-  position-holds JointPosition h = refl
-  position-holds Other h = refl
-  position-holds EeDelta (inl e) = absurd (let z : ⊥ = omega arith in z)
-  position-holds EeDelta (inr (inl e)) = absurd (let z : ⊥ = omega arith in z)
-  position-holds EeDelta (inr (inr e)) = absurd (let z : ⊥ = omega arith in z)
-  position-holds JointVelocity (inl e) = absurd (let z : ⊥ = omega arith in z)
-  position-holds JointVelocity (inr (inl e)) = absurd (let z : ⊥ = omega arith in z)
-  position-holds JointVelocity (inr (inr e)) = absurd (let z : ⊥ = omega arith in z)
+  position-holds f EePosition h = refl
+  position-holds f JointPosition h = refl
+  position-holds f Other h = refl
+  position-holds f EeDelta (inl e) = absurd (let z : ⊥ = omega arith in z)
+  position-holds f EeDelta (inr (inl e)) = absurd (let z : ⊥ = omega arith in z)
+  position-holds f EeDelta (inr (inr e)) = absurd (let z : ⊥ = omega arith in z)
+  position-holds f JointVelocity (inl e) = absurd (let z : ⊥ = omega arith in z)
+  position-holds f JointVelocity (inr (inl e)) = absurd (let z : ⊥ = omega arith in z)
+  position-holds f JointVelocity (inr (inr e)) = absurd (let z : ⊥ = omega arith in z)
 
 -- ---- the number
 
@@ -105,6 +107,10 @@ all-sent f c tabs unfit row l z long = let w = sized f c tabs unfit (length l) z
 
 -- ---- the whole answer
 
+first-applies : (applies : Reason → Bool) {l : List Reason} {k : Reason} → First applies l k → applies k ≡ true
+first-applies applies (here e) = e
+first-applies applies (later e h) = first-applies applies h
+
 sent-number : (k : ℕ) → (k ≡ 0 → ⊥) → {r : Refusal} → r ≡ refusedFor k → sent.Refused r ≡ sentAt k
 sent-number zero h i = absurd (h refl)
 sent-number (suc k) h i = ap sent.Refused i
@@ -113,59 +119,73 @@ kept-number : (k : ℕ) → (k ≡ 0 → ⊥) → (row : List Float) (n : ℕ) (
 kept-number zero h row n l = absurd (h refl)
 kept-number (suc k) h row n l = refl
 
-pub record Braked (f : Format) (c : FuseConfig) (tabs : Tables) (p v l : List Float) (r : Sent) (m : List Float) : Type 0 where
-  pub gives : r ≡ brakeAnswer f c tabs p v (length l)
-  pub leaves : m ≡ brakeOutput f c tabs p v l
+-- what is answered by a number, and what the output then is
+pub record Answered (k : ℕ) (row : List Float) (n : ℕ) (l : List Float) (r : Sent) (m : List Float) : Type 0 where
+  pub gives : r ≡ sentAt k
+  pub leaves : m ≡ rowAt k row n l
 
-module _ (f : Format) (c : FuseConfig) (tabs : Tables) (p v l : List Float) {unfit : Bool} (ef : unfit ≡ someNotFinite p || someNotFinite v) where
+module _ (f : Format) (c : FuseConfig) (tabs : Tables) (l : List Float) {bad unfit : Bool} (ef : bad ≡ unfit) (x : Checked (List Float)) {k : ℕ}
+    (ek : k ≡ refusal (configJudged f c tabs ++ (rowLent c unfit (length l) ++ ((computed when not (x .sound)) ∷ [])))) where
   abbrev judged : List Judged
-  judged = configJudged f c tabs ++ rowLent c (someNotFinite p || someNotFinite v) (length l)
+  judged = configJudged f c tabs ++ rowLent c unfit (length l)
 
   abbrev rest : List Judged
-  rest = (computed when not (brakeSent f c p v .sound)) ∷ []
+  rest = (computed when not (x .sound)) ∷ []
 
-  numbered : (k : ℕ) → brakeRefusal f c tabs p v (length l) ≡ k → (k ≡ 0 → ⊥) → {r : Refusal} → r ≡ refusedFor k → Braked f c tabs p v l (sent.Refused r) l
-  unfolding brakeAnswer brakeOutput
-  numbered k e y i = record { gives = rw e (sent-number k y i); leaves = rw e (kept-number k y _ _ l) }
+  numbered : (j : ℕ) → k ≡ j → (j ≡ 0 → ⊥) → {r : Refusal} → r ≡ refusedFor j → Answered k (x .value) (c .dim) l (sent.Refused r) l
+  numbered j e y i = record { gives = rw e (sent-number j y i); leaves = rw e (kept-number j y _ _ l) }
 
-  same-judged : before f c tabs unfit (length l) ≡ refusal judged
+  same-judged : before f c tabs bad (length l) ≡ refusal judged
   same-judged = ap (λ (b : Bool). before f c tabs b (length l)) ef
 
-  pub brake-refused : {k : ℕ} → k ≡ before f c tabs unfit (length l) → (k ≡ 0 → ⊥) → {r : Refusal} → r ≡ refusedFor k → Braked f c tabs p v l (sent.Refused r) l
+  pub row-refused : {j : ℕ} → j ≡ before f c tabs bad (length l) → (j ≡ 0 → ⊥) → {r : Refusal} → r ≡ refusedFor j → Answered k (x .value) (c .dim) l (sent.Refused r) l
+  row-refused {j} g y = numbered j (ek ∙ first-refuses judged rest (λ z. y (g ∙ same-judged ∙ z)) ∙ sym (g ∙ same-judged)) y
+
+  module _ (z : before f c tabs bad (length l) ≡ 0) {row : Row} (er : row ≡ rowFrom x) where
+    left : k ≡ (if not (row .sound) then 13 else 0)
+    left = ek ∙ first-passes judged rest (sym same-judged ∙ z) ∙ ap (λ (y : Row). if not (y .sound) then 13 else 0) (sym er)
+
+    pub row-unsound : row .sound ≡ false → {r : Refusal} → r ≡ refusedFor 13 → Answered k (x .value) (c .dim) l (sent.Refused r) l
+    row-unsound y = numbered 13 (left ∙ ap (λ (b : Bool). if not b then 13 else 0) y) (λ q. omega arith)
+
+    pub row-done : row .sound ≡ true → length (row .at) ≡ 8 → {m : List Float} → m ≡ over (at (row .at)) l (min (c .dim) (min (length (row .at)) (length l))) → Answered k (x .value) (c .dim) l sent.Done m
+    row-done y long i = let e = left ∙ ap (λ (b : Bool). if not b then 13 else 0) y in record { gives = rw e; leaves = all-sent f c tabs bad (row .at) l z long i ∙ rw (e, er) }
+
+-- ---- brake and hold, each by its row
+
+module _ (f : Format) (c : FuseConfig) (p v : List Float) where
+  pub brake-judged : (tabs : Tables) (room : ℕ) → brakeRefusal f c tabs p v room ≡ refusal (configJudged f c tabs ++ (rowLent c (someNotFinite p || someNotFinite v) room ++ ((computed when not (brakeSent f c p v .sound)) ∷ [])))
   unfolding brakeRefusal
-  brake-refused {k} g y = numbered k (first-refuses judged rest (λ z. y (g ∙ same-judged ∙ z)) ∙ sym (g ∙ same-judged)) y
+  brake-judged tabs room = refl
 
-  module _ (z : before f c tabs unfit (length l) ≡ 0) {w : Workspace} {row : Row} (ew : w ≡ workspaceFor f c)
-      (er : row ≡ rowFrom (brakeRow f (c .kind) (c .limits .«a_max») (c .limits .dt) (wallsOf w) p v (c .dim))) where
-    is-sent : row ≡ rowFrom (brakeSent f c p v)
-    unfolding brakeSent
-    is-sent = er ∙ ap (λ (x : Workspace). rowFrom (brakeRow f (c .kind) (c .limits .«a_max») (c .limits .dt) (wallsOf x) p v (c .dim))) ew
+  pub brake-is-sent : {w : Workspace} {row : Row} → w ≡ workspaceFor f c → row ≡ rowFrom (brakeRow f (c .kind) (c .limits .«a_max») (c .limits .dt) (wallsOf w) p v (c .dim)) → row ≡ rowFrom (brakeSent f c p v)
+  unfolding brakeSent
+  brake-is-sent ew er = er ∙ ap (λ (x : Workspace). rowFrom (brakeRow f (c .kind) (c .limits .«a_max») (c .limits .dt) (wallsOf x) p v (c .dim))) ew
 
-    left : brakeRefusal f c tabs p v (length l) ≡ (if not (row .sound) then 13 else 0)
-    unfolding brakeRefusal
-    left = first-passes judged rest (sym same-judged ∙ z) ∙ ap (λ (x : Row). if not (x .sound) then 13 else 0) (sym is-sent)
+module _ (f : Format) (c : FuseConfig) (p : List Float) where
+  abbrev holdJudges : Tables → ℕ → List Judged
+  holdJudges tabs room = configJudged f c tabs ++ (rowLent c (someNotFinite p) room ++ ((computed when not (holdSent f c p .sound)) ∷ []))
 
-    pub brake-unsound : row .sound ≡ false → {r : Refusal} → r ≡ refusedFor 13 → Braked f c tabs p v l (sent.Refused r) l
-    brake-unsound y = numbered 13 (left ∙ ap (λ (b : Bool). if not b then 13 else 0) y) (λ q. omega arith)
-
-    pub brake-done : row .sound ≡ true → length (row .at) ≡ 8 → {m : List Float} → m ≡ over (at (row .at)) l (min (c .dim) (min (length (row .at)) (length l))) → Braked f c tabs p v l sent.Done m
-    unfolding brakeAnswer brakeOutput
-    brake-done y long i = let e = left ∙ ap (λ (b : Bool). if not b then 13 else 0) y in record { gives = rw e; leaves = all-sent f c tabs unfit (row .at) l z long i ∙ rw (e, is-sent) }
-
-pub record Held (f : Format) (c : FuseConfig) (tabs : Tables) (p l : List Float) (r : Sent) (m : List Float) : Type 0 where
-  pub gives : r ≡ holdAnswer f c tabs p (length l)
-  pub leaves : m ≡ holdOutput f c tabs p l
-
-module _ (f : Format) (c : FuseConfig) (tabs : Tables) (p l : List Float) {unfit : Bool} (ef : unfit ≡ someNotFinite p) where
-  same-refusal : before f c tabs unfit (length l) ≡ holdRefusal f c tabs p (length l)
+  pub hold-judged : (tabs : Tables) (room : ℕ) → holdRefusal f c tabs p room ≡ refusal (holdJudges tabs room)
   unfolding holdRefusal
-  same-refusal = ap (λ (b : Bool). before f c tabs b (length l)) ef
+  hold-judged tabs room = refl
 
-  pub hold-refused : {k : ℕ} → k ≡ before f c tabs unfit (length l) → (k ≡ 0 → ⊥) → {r : Refusal} → r ≡ refusedFor k → Held f c tabs p l (sent.Refused r) l
-  unfolding holdAnswer holdOutput
-  hold-refused {k} g y i = let e : holdRefusal f c tabs p (length l) ≡ k = sym (g ∙ same-refusal) in record { gives = rw e (sent-number k y i); leaves = rw e (kept-number k y _ _ l) }
+  pub hold-is-sent : {w : Workspace} {row : Row} → w ≡ workspaceFor f c → row ≡ rowFrom (holdRow f (c .kind) (wallsOf w) p (c .dim)) → row ≡ rowFrom (holdSent f c p)
+  unfolding holdSent
+  hold-is-sent ew er = er ∙ ap (λ (x : Workspace). rowFrom (holdRow f (c .kind) (wallsOf x) p (c .dim))) ew
 
-  pub hold-done : before f c tabs unfit (length l) ≡ 0 → {w : Workspace} {row : List Float} → w ≡ workspaceFor f c → row ≡ holdRow (c .kind) (wallsOf w) p (c .dim)
-      → length row ≡ 8 → {m : List Float} → m ≡ over (at row) l (min (c .dim) (min (length row) (length l))) → Held f c tabs p l sent.Done m
-  unfolding holdAnswer holdOutput
-  hold-done z {w} {row} ew er long i = let e = sym same-refusal ∙ z in record { gives = rw e; leaves = all-sent f c tabs unfit row l z long i ∙ rw (e, er, ew) }
+  -- at a box hold computes nothing
+  held-sound : (w : Walls) (n : ℕ) (k : ActionKind) → holdRow f k w p n .sound ≡ true
+  unfolding holdRow
+  held-sound w n EePosition = setpoint-sound f w p n
+  held-sound w n EeDelta = refl
+  held-sound w n JointPosition = setpoint-sound f w p n
+  held-sound w n JointVelocity = refl
+  held-sound w n Other = setpoint-sound f w p n
+
+  -- so it is never refused with 13
+  pub hold-never-13 : (tabs : Tables) (room : ℕ) → holdRefusal f c tabs p room ≡ 13 → ⊥
+  unfolding holdSent
+  hold-never-13 tabs room e =
+      let judges = among (holdJudges tabs room) in
+      false≢true (sym (ap not (held-sound (wallsAt f c) (c .dim) (c .kind))) ∙ first-applies judges (exactly-first judges computed .1 (sym (hold-judged tabs room) ∙ e)))

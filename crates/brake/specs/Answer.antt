@@ -93,12 +93,15 @@ module _ (f : Format) (c : FuseConfig) (t : Tables) (p v : List Float) where
   unfoldable pub brakeOutput : List Float → List Float
   brakeOutput l = rowAt (brakeRefusal (length l)) (brakeSent f c p v .value) (c .dim) l
 
+unfoldable pub holdSent : Format → FuseConfig → List Float → Checked (List Float)
+holdSent f c p = holdRow f (c .kind) (wallsAt f c) p (c .dim)
+
 module _ (f : Format) (c : FuseConfig) (t : Tables) (p : List Float) where
   unfoldable pub holdRefusal : ℕ → ℕ
-  holdRefusal room = refusal (configJudged f c t ++ rowLent c (someNotFinite p) room)
+  holdRefusal room = refusal (configJudged f c t ++ (rowLent c (someNotFinite p) room ++ (computed when not (holdSent f c p .sound) ∷ [])))
 
   unfoldable pub holdAnswer : ℕ → Sent
   holdAnswer room = sentAt (holdRefusal room)
 
   unfoldable pub holdOutput : List Float → List Float
-  holdOutput l = rowAt (holdRefusal (length l)) (holdRow (c .kind) (wallsAt f c) p (c .dim)) (c .dim) l
+  holdOutput l = rowAt (holdRefusal (length l)) (holdSent f c p .value) (c .dim) l

@@ -14,7 +14,8 @@ use Rattle.workspace.specs.declared.Workspace.{Workspace}
 use Rattle.course.specs.declared.Course.{Course}
 use Rattle.course.specs.declared.Plant.{Plant}
 use Rattle.course.specs.Rows.{rowsLeft}
-use Rattle.brake.specs.Rule.{live, eight}
+use Rattle.checked.specs.Row.{eight}
+use Rattle.brake.specs.Rule.{live}
 
 abbrev pub workspaceFrom : Derived → Workspace
 workspaceFrom d = record { lo = d .«box_lo»; hi = d .«box_hi» }

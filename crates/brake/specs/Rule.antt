@@ -8,7 +8,7 @@ use Rattle.bits.specs.Choice.{if_then_else_}
 use Rattle.checked.specs.Constants.{1!, eps}
 use Rattle.checked.specs.Each.{at}
 use Rattle.checked.specs.Finite.{+0}
-use Rattle.checked.specs.Row.{padded}
+use Rattle.checked.specs.Row.{eight}
 use Rattle.checked.specs.Least.{greater}
 use Rattle.checked.specs.Checked.{Checked, _>>=_, pure, plus, minus, times, divided, each}
 use Rattle.fmath.specs.Norm.{norm}
@@ -18,7 +18,7 @@ use Rattle.envelope.specs.declared.ActionKind.the-variants.{EePosition, EeDelta
 use Rattle.envelope.specs.declared.BrakeKind.{BrakeKind}
 use Rattle.envelope.specs.declared.BrakeKind.the-variants.{PdSecondOrder, FirstOrderDecay, BoundedAccel, JerkLimited, ZeroVelocityHold}
 use Rattle.envelope.specs.declared.FuseConfig.{FuseConfig}
-use Rattle.workspace.specs.Rule.{Walls, inward}
+use Rattle.workspace.specs.Rule.{Walls, setpoint}
 use Rattle.rollout.specs.Plant.{Gains}
 use Rattle.course.specs.Plant.{State}
 use Rattle.course.specs.Forecast.{Forecast}
@@ -29,10 +29,6 @@ use Rattle.stopping.specs.Rule as stopping
 -- the axes that move: those that the rows and the position both have
 abbrev pub live : FuseConfig → ℕ
 live c = min (c .dim) (c .«pos_dim»)
-
--- the first n numbers of a list, as many as there are, and 0.0 past them: eight in all
-unfoldable pub eight : List Float → ℕ → List Float
-eight l n = padded l (min n (length l))
 
 -- the walls that module 4 derives
 abbrev pub wallsAt : Format → FuseConfig → Walls
@@ -90,10 +86,6 @@ module _ (f : Format) (c : FuseConfig) (p v rows : List Float) (h d from : ℕ) 
 
 -- ---- brake and hold
 
--- a position kind's row: the position, 0.0 where it has no such coordinate, inside its walls
-unfoldable pub setpoint : Walls → List Float → ℕ → List Float
-setpoint w p n = inward w (eight p 8) n
-
 -- the part of the velocity that one step of braking leaves: max(0, 1 - a_max dt / (|v| + eps))
 unfoldable pub ramp : Format → Float → Float → List Float → ℕ → Checked Float
 ramp f a dt v n = do
@@ -129,14 +121,14 @@ shorter f a dt v n = do
 unfoldable pub brakeRow : Format → ActionKind → Float → Float → Walls → List Float → List Float → ℕ → Checked (List Float)
 brakeRow f JointVelocity a dt w p v n = slower f a dt v n
 brakeRow f EeDelta a dt w p v n = shorter f a dt v n
-brakeRow f EePosition a dt w p v n = pure (setpoint w p n)
-brakeRow f JointPosition a dt w p v n = pure (setpoint w p n)
-brakeRow f Other a dt w p v n = pure (setpoint w p n)
+brakeRow f EePosition a dt w p v n = setpoint f w p n
+brakeRow f JointPosition a dt w p v n = setpoint f w p n
+brakeRow f Other a dt w p v n = setpoint f w p n
 
 -- the row that holds: no velocity, or the latched position inside its walls
-unfoldable pub holdRow : ActionKind → Walls → List Float → ℕ → List Float
-holdRow JointVelocity w p n = replicate 8 +0
-holdRow EeDelta w p n = replicate 8 +0
-holdRow EePosition w p n = setpoint w p n
-holdRow JointPosition w p n = setpoint w p n
-holdRow Other w p n = setpoint w p n
+unfoldable pub holdRow : Format → ActionKind → Walls → List Float → ℕ → Checked (List Float)
+holdRow f JointVelocity w p n = pure (replicate 8 +0)
+holdRow f EeDelta w p n = pure (replicate 8 +0)
+holdRow f EePosition w p n = setpoint f w p n
+holdRow f JointPosition w p n = setpoint f w p n
+holdRow f Other w p n = setpoint f w p n

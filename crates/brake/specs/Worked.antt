@@ -14,14 +14,14 @@ use Rattle.fmath.specs.Clamp.{clamped}
 use Rattle.checked.specs.Checked.{sumFrom, each, pure}
 use Rattle.fmath.specs.Norm.{squareAt, norm}
 use Rattle.envelope.specs.declared.ActionKind.the-variants.{EePosition, EeDelta, JointVelocity}
-use Rattle.workspace.specs.Rule.{Walls, inward}
-use Rattle.checked.specs.Row.{padded}
-use Rattle.brake.specs.Rule.{eight, setpoint, ramp, scaledAt, slowed, slower, shorter, brakeRow, holdRow}
+use Rattle.workspace.specs.Rule.{Walls, inward, setpoint}
+use Rattle.checked.specs.Row.{padded, eight}
+use Rattle.brake.specs.Rule.{ramp, scaledAt, slowed, slower, shorter, brakeRow, holdRow}
 
 abbrev walls : Walls
 walls = record { lo = fin true 1 (pos 0) ∷ fin true 1 (pos 0) ∷ []; hi = 2! ∷ 2! ∷ [] }
 
-sent-to-the-wall : holdRow EePosition walls (fin false 5 (pos 0) ∷ []) 2 ≡ 2! ∷ replicate 7 +0
+sent-to-the-wall : holdRow binary64 EePosition walls (fin false 5 (pos 0) ∷ []) 2 ≡ pure (2! ∷ replicate 7 +0)
 unfolding holdRow setpoint eight padded inward over clamped lt
 sent-to-the-wall = refl
 

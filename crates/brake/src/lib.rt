@@ -19,7 +19,7 @@ ghost use Rattle.course.specs.Of.{leftOf, runOf};
 ghost use Rattle.rollout.specs.Of as rolled;
 ghost use Rattle.stopping.specs.Rule as stopping-rule;
 ghost use Rattle.stopping.specs.Of as stopped;
-ghost use Rattle.brake.specs.Rule.{armOf, forecastOf, setpoint, ramp, scaledAt, slowed, slower, shorter, brakeRow, holdRow};
+ghost use Rattle.brake.specs.Rule.{armOf, forecastOf, ramp, scaledAt, slowed, slower, shorter, brakeRow, holdRow};
 ghost use Rattle.brake.specs.Answer.{tooShort, outcome, lentJudged, forecastAnswer, forecastSlacks, rowLent, brakeAnswer, brakeOutput, holdAnswer, holdOutput};
 ghost use Rattle.brake.specs.Of.{workspaceFrom, workspaceFor, courseFor, startFor, countFor, Planned};
 ghost use Rattle.checked.specs.Of.{rowFrom, reckonedFrom};
@@ -310,14 +310,6 @@ pub fn brake_feasible(
 
 // ---- brake and hold
 
-// The position, 0.0 where it has no such coordinate, inside its walls on the first n.
-fn setpoint(w: Workspace, pos: &[f64], n: usize) -> [f64; 8]
-    ensures { λ r. ⌜ r ≡ setpoint (wallsOf w) (now (pos .entry)) n ⌝ }
-{
-    let p = fmath::padded(pos, 8);
-    workspace::inward(w, p, n)
-}
-
 // The part of the velocity that one step of braking leaves.
 fn ramp(a_max: f64, dt: f64, vel: &[f64], n: usize) -> Reckoned
     ensures { λ r. ⌜ r ≡ reckonedFrom (ramp binary64 «a_max» dt (now (vel .entry)) n) ⌝ }
@@ -396,21 +388,25 @@ fn brake_row(
     match kind {
         ActionKind::JointVelocity => slower(a_max, dt, vel, n),
         ActionKind::EeDelta => shorter(a_max, dt, vel, n),
-        _ => {
-            let at = setpoint(w, pos, n);
-            Row { at, sound: true }
-        }
+        _ => workspace::setpoint(w, pos, n),
     }
 }
 
 // The row that holds, by the kind of action.
-fn hold_row(kind: ActionKind, w: Workspace, pos: &[f64], n: usize) -> [f64; 8]
-    ensures { λ r. ⌜ r ≡ holdRow kind (wallsOf w) (now (pos .entry)) n ⌝ }
+fn hold_row(kind: ActionKind, w: Workspace, pos: &[f64], n: usize) -> Row
+    ensures { λ r. ⌜ r ≡ rowFrom (holdRow binary64 kind (wallsOf w) (now (pos .entry)) n) ⌝ }
 {
+    let still = [0.0; 8];
     match kind {
-        ActionKind::JointVelocity => [0.0; 8],
-        ActionKind::EeDelta => [0.0; 8],
-        _ => setpoint(w, pos, n),
+        ActionKind::JointVelocity => Row {
+            at: still,
+            sound: true,
+        },
+        ActionKind::EeDelta => Row {
+            at: still,
+            sound: true,
+        },
+        _ => workspace::setpoint(w, pos, n),
     }
 }
 
@@ -476,7 +472,11 @@ pub fn hold_action(
     }
     let w = workspace_of(compiled.derived);
     let kind = c.kind;
-    let row = hold_row(kind, w, pos, c.dim);
+    let held = hold_row(kind, w, pos, c.dim);
+    if !held.sound {
+        return Sent::Refused(Refusal::of(Refusal::COMPUTED));
+    }
+    let row = held.at;
     fmath::put(&row, c.dim, out);
     Sent::Done
 }

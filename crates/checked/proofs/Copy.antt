@@ -10,8 +10,8 @@ use lib.ListN.{length, getD, set, replicate}
 use lib.Seq.{paste, paste-zero, paste-suc}
 use Rattle.checked.specs.Each.{at, over}
 use Rattle.checked.specs.Finite.{+0}
-use Rattle.checked.specs.Row.{padded}
-use Rattle.checked.proofs.Each.{over-at}
+use Rattle.checked.specs.Row.{padded, eight}
+use Rattle.checked.proofs.Each.{over-at, length-over}
 
 pub copy-more : (l₀ l r : List Float) (at j : ℕ) → at + j < length l₀ → j < length r → l ≡ paste l₀ at r j → set l (at + j) (getD r j nan) ≡ paste l₀ at r (j + 1)
 copy-more l₀ l r at j hl hr e = ap (λ (x : List Float). set x (at + j) (getD r j nan)) e ∙ paste-suc l₀ at r j nan hl hr ∙ ap (paste l₀ at r) (sym (add-one j))
@@ -43,3 +43,15 @@ all-padded a hn ha = all-put (replicate 8 +0) a ha hn
 pub padded-at : (a : List Float) (n j : ℕ) → n ≤ 8 → j < n → at (padded a n) j ≡ at a j
 unfolding padded
 padded-at a n j hn hj = over-at (at a) (replicate 8 +0) n j hj (omega arith)
+
+-- what it gives where the list may be short
+pub eight-is : (a : List Float) (n : ℕ) {r : List Float} → n ≤ 8 → r ≡ padded a (min n (min (length a) 8)) → r ≡ eight a n
+unfolding eight
+eight-is a n h e = e ∙ ap (padded a) as-many
+  where
+    as-many : min n (min (length a) 8) ≡ min n (length a)
+    as-many = omega arith
+
+pub length-eight : (a : List Float) (n : ℕ) → length (eight a n) ≡ 8
+unfolding eight padded
+length-eight a n = length-over (at a) (replicate 8 +0) (min n (length a))

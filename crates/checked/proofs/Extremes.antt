@@ -8,7 +8,7 @@ use borrow.Author.Count.{below-more}
 use mathlib.Core.Logic.{_⊎_, inl, inr}
 use lib.Ieee.{Float, nan, inf, fin, lt, isNan}
 use Rattle.checked.specs.Least.{lesser, greater, least, greatest}
-use Rattle.checked.proofs.Ordered.{Real, lt-not-below, lt-asymmetric, lt-irrefl}
+use Rattle.checked.proofs.Ordered.{Real, lt-not-below, lt-asymmetric, lt-irrefl, below-nan}
 
 -- ---- of two
 
@@ -62,10 +62,7 @@ greater-right a b = go (lt b a) refl
     go false e = lt-irrefl b
 
 not-below-nan : (x : Float) → cond (lt x nan) x nan ≡ nan
-unfolding lt
-not-below-nan nan = refl
-not-below-nan (inf s) = refl
-not-below-nan (fin s m e) = refl
+not-below-nan x = rw (below-nan x)
 
 -- nothing is above infinity
 pub not-above-inf : (x : Float) → lt (inf false) x ≡ false

@@ -23,6 +23,17 @@ finite-real nan h = subst T (sym h) tt
 finite-real (inf s) h = tt
 finite-real (fin s m e) h = tt
 
+-- nothing is below a NaN, nor a NaN below anything
+pub below-nan : (x : Float) → lt x nan ≡ false
+unfolding lt
+below-nan nan = refl
+below-nan (inf s) = refl
+below-nan (fin s m e) = refl
+
+pub nan-below : (x : Float) → lt nan x ≡ false
+unfolding lt
+nan-below x = refl
+
 zeroed : (x d : ℕ) → 0 < d → x * d ≤ 0 → x ≡ 0
 zeroed zero d h l = refl
 zeroed (suc x) d h l = absurd (omega (arith, suc-mul x d))

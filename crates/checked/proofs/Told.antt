@@ -9,6 +9,8 @@ use lib.ListN.{set}
 use lib.Ieee.{Float, Format}
 use Rattle.checked.specs.Finite.{finite}
 use Rattle.checked.specs.Checked.{Checked, sumFrom, each}
+use Rattle.checked.specs.declared.Row.{Row}
+use Rattle.checked.specs.Of.{rowFrom}
 use Rattle.checked.proofs.Absorbing.{Fine, fine-add-left, fine-add-right}
 
 abbrev pub Tells : Checked Float → Type 0
@@ -43,3 +45,7 @@ module _ (g : ℕ → Checked Float) (l : List Float) (i : ℕ) where
   pub each-sound : (ok k : Bool) (x : Float) → ok ≡ each g l i .sound → k ≡ finite x → x ≡ g i .value → Tells (g i) → (ok && k) ≡ each g l (i + 1) .sound
   unfolding each
   each-sound ok k x e p h t = rw (add-one, e, p, h, and-true, t)
+
+-- the row at its end
+pub a-row : (x : Checked (List Float)) {r : List Float} {k : Bool} → r ≡ x .value → k ≡ x .sound → _≡_ {A = Row} (record { at = r; sound = k }) (rowFrom x)
+a-row x e h = rw (e, h)

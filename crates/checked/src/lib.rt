@@ -11,3 +11,9 @@ pub struct Row {
     pub at: [f64; 8],
     pub sound: bool,
 }
+
+// Whether something holds.
+pub struct Test {
+    pub holds: bool,
+    pub sound: bool,
+}

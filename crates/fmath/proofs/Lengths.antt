@@ -1,16 +1,19 @@
 -- norm and dist: they tell of each number on the way, they are a NaN where a coordinate is missing, and the loops that sum up end in them.
-use Prim.Native.Nat.{ℕ, _<_}
-use mathlib.Core.Path.{_≡_, refl}
+use Prim.Native.Nat.{ℕ, _≤_, _<_}
+use mathlib.Core.Path.{_≡_, refl, sym, ap, _∙_}
+use mathlib.Core.Bool.{Bool, true, false, false≢true}
 use mathlib.Core.List.{List}
-use native.Mathlib.Nat.{le-refl}
+use native.Mathlib.Nat.{le-refl, lt-of-not-le}
+use native.Mathlib.Decide.{decLe}
 use lib.ListN.{length, List·getD-eq-default}
-use lib.Ieee.{Float, Format, nan, sub}
+use lib.Ieee.{Float, Format, nan, lt, sub}
 use Rattle.root.specs.Root.{rootOf}
 use Rattle.checked.specs.Each.{at}
 use Rattle.checked.specs.Finite.{finite, +0}
 use Rattle.checked.specs.Checked.{sumFrom}
 use Rattle.fmath.specs.Norm.{squareAt, norm, squaredGap, dist}
 use Rattle.checked.proofs.Absorbing.{fine-mul-left, fine-root, sub-nan, nan-sub, nan-mul, root-nan}
+use Rattle.checked.proofs.Ordered.{below-nan}
 use Rattle.checked.proofs.Sums.{sum-nan}
 use Rattle.checked.proofs.Told.{Tells, implied, told, sum-tells}
 
@@ -51,6 +54,21 @@ module _ (f : Format) where
   pub dist-missing-right : (a b : List Float) (n : ℕ) → length b < n → dist f a b n .value ≡ nan
   unfolding squaredGap
   dist-missing-right a b n h = gap-missing a b n (length b) h (rw (past b, sub-nan f (at a (length b))) (nan-mul f nan))
+
+  -- the test of a distance is that of each number on its way
+  pub dist-sound : (a b : List Float) (n : ℕ) {d : Float} {k : Bool} → d ≡ dist f a b n .value → k ≡ finite d → k ≡ dist f a b n .sound
+  dist-sound a b n e h = h ∙ ap finite e ∙ sym (dist-tells a b n)
+
+  -- where a distance exceeds something, both have all n coordinates
+  pub dist-there : (most : Float) (a b : List Float) (n : ℕ) {d : Float} → d ≡ dist f a b n .value → lt most d ≡ true → (n ≤ length a) × (n ≤ length b)
+  dist-there most a b n e t = (go (length a) (dist-missing-left a b n), go (length b) (dist-missing-right a b n))
+    where
+      go : (m : ℕ) → (m < n → dist f a b n .value ≡ nan) → n ≤ m
+      go m missing = go′ (decLe n m)
+        where
+          go′ : Dec (n ≤ m) → n ≤ m
+          go′ (yes h) = h
+          go′ (no h) = absurd (false≢true (sym (ap (lt most) (e ∙ missing (lt-of-not-le h)) ∙ below-nan most) ∙ t))
 
   -- the root at the end of a loop
   pub norm-done : (v : List Float) (n i : ℕ) (s r : Float) → s ≡ sumFrom f +0 (squareAt f v) i .value → i ≡ n → r ≡ rootOf f s → r ≡ norm f v n .value

@@ -82,7 +82,7 @@ module _ (f : Format) (t : Task) (b : ControlSteps) where
 
   same-aim : (k : ℕ) → aim f (braking t b) k ≡ aim f t k
   unfolding aim setpoint
-  same-aim k = ap (λ (s : State). if ltb k (pushes t) then rowAt t k else inward (t .walls) (s .p) (t .n)) (same-pushed (pushes t))
+  same-aim k = ap (λ (s : State). if ltb k (pushes t) then rowAt t k else inward f (t .walls) (s .p) (t .n) .value) (same-pushed (pushes t))
 
   same-after : (k : ℕ) → after f (braking t b) k ≡ after f t k
   unfolding after

@@ -39,6 +39,6 @@ module _ (f : Format) (t : Task) where
       ap (λ (a : List Float). substep f (t .gains) a (t .n) (after f t k) .value) (aim-row k h)
       ∙ ap (λ (s : State). substep f (t .gains) (rowAt t k) (t .n) s .value) (after-pushed k (omega arith))
 
-  pub aims-setpoint : (k : ℕ) → pushes t ≤ k → aim f t k ≡ inward (t .walls) (after f t (pushes t) .p) (t .n)
+  pub aims-setpoint : (k : ℕ) → pushes t ≤ k → aim f t k ≡ inward f (t .walls) (after f t (pushes t) .p) (t .n) .value
   unfolding aim setpoint
   aims-setpoint k h = rw (le-ltb k (pushes t) h, after-pushed (pushes t) (omega arith))

@@ -57,9 +57,9 @@ module _ (f : Format) (t : Task) where
   pushed zero = t .start
   pushed (suc k) = substep f (t .gains) (rowAt t k) (t .n) (pushed k) .value
 
-  -- the braking setpoint: clamp(p), with p as the committed rows leave it
+  -- the braking setpoint: clamp(p), with p as the committed rows leave it. Whether it was computed soundly has no place yet: at a box nothing is computed.
   unfoldable pub setpoint : List Float
-  setpoint = inward (t .walls) (pushed (pushes t) .p) (t .n)
+  setpoint = inward f (t .walls) (pushed (pushes t) .p) (t .n) .value
 
   -- what substep k, counted from 0, goes towards
   unfoldable pub aim : ℕ → List Float

@@ -255,7 +255,8 @@ pub fn rollout(
     let pushed = push(g, w, c, rows, first, slack);
     let plant = pushed.plant;
     let p = plant.p;
-    let setpoint = workspace::inward(w, p, c.live);
+    let inside = workspace::inward(w, p, c.live);
+    let setpoint = inside.at;
     let count = envelope::substeps_in(ControlSteps(0), c.brake, c.per);
     hold(g, w, c.live, &setpoint, count, pushed, slack)
 }

@@ -9,7 +9,6 @@ use borrow.Author.Tests.{eqb-true}
 use lib.Dec.{eqb}
 use lib.ListN.{length, replicate}
 use lib.Ieee.{Float, Format}
-use Rattle.checked.specs.Each.{some}
 use Rattle.checked.specs.Finite.{+0}
 use Rattle.checked.specs.Row.{padded}
 use Rattle.envelope.specs.declared.ClampMode.{ClampMode}
@@ -22,7 +21,7 @@ use Rattle.tier0.specs.declared.Checks.{Checks}
 use Rattle.tier0.specs.declared.Difference.{Difference}
 use Rattle.tier0.specs.declared.Difference.the-variants.{Accel, Jerk}
 use Rattle.tier0.specs.Rule.{WORKSPACE, SPEED, ACCEL, JERK, REACH, CONTACT, arms, bit, clear, outOfBox, outOfReach, boxed, leashed, reached, moves, project, projection, checkAction}
-use Rattle.tier0.specs.Chunk.{rawRow, startRow, someOutOfBox, largeAt, tooLarge, nextRow, runRows, projectedRows, checkChunk}
+use Rattle.tier0.specs.Chunk.{rawRow, startRow, someOutOfBox, someOf, largeAt, tooLarge, nextRow, runRows, projectedRows, checkChunk}
 use Rattle.tier0.specs.Of.{checksOf, actionRuling, actionRefusal, actionAnswer, actionOut, chunkRuling, chunkRefusal, chunkAnswer, chunkOut}
 use Rattle.tier0.specs.Promises.{raised, withoutContact, contactUnarmed, Promised}
 use Rattle.tier0.proofs.Promises.{no-contact}
@@ -83,7 +82,7 @@ module _ (f : Format) (s : Checks) (p : List Float) where
   unfolding moves boxed leashed reached
   same-moves first prev a = rw (workspace-as-before s, speed-as-before s, reach-as-before s)
 
-  same-box : (a : List Float) → outOfBox (quiet s) a ≡ outOfBox s a
+  same-box : (a : List Float) → outOfBox f (quiet s) a ≡ outOfBox f s a
   unfolding outOfBox
   same-box a = rw (workspace-as-before s)
 
@@ -92,10 +91,9 @@ module _ (f : Format) (s : Checks) (p : List Float) where
   same-reach a = rw (reach-as-before s)
 
   module _ (rows q : List Float) where
-    same-boxes : (h : ℕ) → someOutOfBox (quiet s) rows h ≡ someOutOfBox s rows h
-    unfolding someOutOfBox some
-    same-boxes zero = refl
-    same-boxes (suc h) = rw (same-boxes h, same-box (rawRow rows (s .dim) h))
+    same-boxes : (h : ℕ) → someOutOfBox f (quiet s) rows h ≡ someOutOfBox f s rows h
+    unfolding someOutOfBox
+    same-boxes h = λ i. someOf (λ (k : ℕ). same-box (rawRow rows (s .dim) k) i) h
 
     same-large : (d : Difference) (h : ℕ) → tooLarge f (quiet s) d q rows h ≡ tooLarge f s d q rows h
     unfolding tooLarge largeAt

@@ -62,7 +62,7 @@ module _ (f : Format) (s : Checks) (p aux rows l : List Float) (h : ℕ) where
   abbrev z : Slow
   z = slowZone f s p aux .value
 
-  pub chunk-workspace-exactly : raised WORKSPACE chunkTrips ≡ someOutOfBox s rows h
+  pub chunk-workspace-exactly : raised WORKSPACE chunkTrips ≡ someOutOfBox f s rows h .value
   unfolding checkChunk
   chunk-workspace-exactly = bits _ _ _ _ _ _ .0
 
@@ -99,7 +99,7 @@ module _ (f : Format) (s : Checks) (p aux prev a : List Float) where
   abbrev zone : Slow
   zone = slowZone f s p aux .value
 
-  pub action-workspace-exactly : raised WORKSPACE actionTrips ≡ outOfBox s a
+  pub action-workspace-exactly : raised WORKSPACE actionTrips ≡ outOfBox f s a .value
   unfolding checkAction
   action-workspace-exactly = bits _ _ _ _ _ _ .0
 

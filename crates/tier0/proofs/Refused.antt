@@ -47,10 +47,8 @@ or-right true true e = e
 or-right true false e = refl
 or-right false b e = e
 
-pub record Sized (c : FuseConfig) (p prev a : List Float) (room : ℕ) : Type 0 where
+pub record Sized (c : FuseConfig) (a : List Float) (room : ℕ) : Type 0 where
   pub narrow : c .dim ≤ 8
-  pub pos : c .«pos_dim» ≤ length p
-  pub before : c .dim ≤ length prev
   pub act : c .dim ≤ length a
   pub out : c .dim ≤ room
 
@@ -60,10 +58,9 @@ unfolding checksOf
 checks-are f c es ed = es ∙ ap (checksFrom c) ed
 
 -- the same of what the checks read
-pub sized-checks : (f : Format) (c : FuseConfig) (p prev a : List Float) (room : ℕ) {s : Checks} → s ≡ checksOf f c → Sized c p prev a room
-    → (s .dim ≤ 8) × (s .dim ≤ length a) × (s .dim ≤ length prev) × (s .«pos_dim» ≤ length p)
+pub sized-checks : (f : Format) (c : FuseConfig) (a : List Float) (room : ℕ) {s : Checks} → s ≡ checksOf f c → Sized c a room → (s .dim ≤ 8) × (s .dim ≤ length a)
 unfolding checksOf
-sized-checks f c p prev a room e w = rw e (w .narrow, w .act, w .before, w .pos)
+sized-checks f c a room e w = rw e (w .narrow, w .act)
 
 -- ---- the whole answer
 
@@ -109,23 +106,20 @@ module _ (f : Format) (c : FuseConfig) (t : Tables) (p aux prev a : List Float) 
       pub by-none : {n : Bool} → n ≡ unfit → s ≡ false → n ≡ false → 0 ≡ lentNumber
       by-none en h g = sym (passed-on ∙ rw (sym es ∙ h, sym en ∙ g))
 
-  sizes : (room : ℕ) → brief room ≡ false → c .dim ≤ 8 → Sized c p prev a room
+  sizes : (room : ℕ) → brief room ≡ false → c .dim ≤ 8 → Sized c a room
   unfolding tooShort
   sizes room e w =
       let x = ltb (length p) (c .«pos_dim») in
       let y = ltb (length prev) (c .dim) in
       let z = ltb (length a) (c .dim) in
       let e3 = or-left (x || y || z) (ltb room (c .dim)) e in
-      let e2 = or-left (x || y) z e3 in
       record {
         narrow = w;
-        pos = ltb-false _ _ (or-left x y e2);
-        before = ltb-false _ _ (or-right x y e2);
         act = ltb-false _ _ (or-right (x || y) z e3);
         out = ltb-false _ _ (or-right (x || y || z) (ltb room (c .dim)) e);
       }
 
-  pub accepted-sizes : (room : ℕ) → lentNumber room ≡ 0 → Sized c p prev a room
+  pub accepted-sizes : (room : ℕ) → lentNumber room ≡ 0 → Sized c a room
   accepted-sizes room h =
       let w = both-pass (configJudged f c t) (rest room) h in
       sizes room (passes-at short (brief room) ((notFinite when unfit) ∷ []) (w .1) .0) (dim-most f c t (accepted f c t (w .0)))

@@ -30,13 +30,13 @@ use Rattle.tier0.specs.declared.Difference.the-variants as D
 use Rattle.tier0.specs.declared.SlowZone.{SlowZone}
 use Rattle.tier0.specs.declared.Ruling.{Ruling}
 use Rattle.checked.specs.declared.Row.{Row}
-use Rattle.tier0.specs.declared.Test.{Test}
+use Rattle.checked.specs.declared.Test.{Test}
 use Rattle.tier0.specs.declared.Stride.{Stride}
 use Rattle.tier0.specs.declared.Ran.{Ran}
 use Rattle.tier0.specs.Rule.{Slow, SPEED, arms, slowZone, outOfBox, outOfReach, tripBits, moves, moved, Projected}
 use Rattle.tier0.specs.Chunk.{rawRow, startRow, rowBefore, stepTo, peakStep, someLonger, someOutOfBox, someOf, bend, jolt, bends, jolts, exceeds, largeAt, further, tripOf, tooLarge, putRow, Run, nextRow, runRows, projectedRows, checkChunk}
-use Rattle.tier0.specs.Of.{slowOf, zoneFrom, testFrom, stepsFrom, runFrom, ranFrom, rulingFrom}
-use Rattle.checked.specs.Of.{rowFrom}
+use Rattle.tier0.specs.Of.{slowOf, zoneFrom, stepsFrom, runFrom, ranFrom, rulingFrom}
+use Rattle.checked.specs.Of.{rowFrom, testFrom}
 
 -- ---- one row
 
@@ -176,35 +176,38 @@ module _ (f : Format) (s : Checks) (z : Slow) (p rows q₀ l₀ : List Float) wh
   ran e k = (rw (← e, ← (k .all), ← (k .flag)), rw (← e, ← (k .all)))
 
 -- what the loop over the steps keeps
-pub record Strode (f : Format) (s : Checks) (slow : Float) (q rows : List Float) (i : ℕ) (peak : Float) (fast close out ok : Bool) : Type 0 where
+pub record Strode (f : Format) (s : Checks) (slow : Float) (q rows : List Float) (i : ℕ) (peak : Float) (fast close out told ok : Bool) : Type 0 where
   pub top : peak ≡ peakStep f q rows (s .dim) i .value
   pub fast-so : fast ≡ someLonger f q rows (s .dim) (s .«step_max») i
   pub close-so : close ≡ someLonger f q rows (s .dim) slow i
-  pub out-so : out ≡ someOutOfBox s rows i
+  pub out-so : out ≡ someOutOfBox f s rows i .value
+  pub told-so : told ≡ someOutOfBox f s rows i .sound
   pub ok-so : ok ≡ peakStep f q rows (s .dim) i .sound
 
 module _ (f : Format) (s : Checks) (slow : Float) (q rows : List Float) where
-  pub set-out : Strode f s slow q rows 0 +0 false false false true
-  unfolding peakStep someLonger someOutOfBox greatest all some
-  set-out = record { top = refl; fast-so = refl; close-so = refl; out-so = refl; ok-so = refl }
+  pub set-out : Strode f s slow q rows 0 +0 false false false true true
+  unfolding peakStep someLonger someOutOfBox someOf greatest all some
+  set-out = record { top = refl; fast-so = refl; close-so = refl; out-so = refl; told-so = refl; ok-so = refl }
 
-  pub stride : (i : ℕ) (peak : Float) (fast close out ok : Bool) {a b : List Float} {n m : Float} {o k : Bool}
-      → Strode f s slow q rows i peak fast close out ok
+  pub stride : (i : ℕ) (peak : Float) (fast close out told ok : Bool) {a b : List Float} {n m : Float} {o : Test} {k : Bool}
+      → Strode f s slow q rows i peak fast close out told ok
       → a ≡ rawRow rows (s .dim) i
       → b ≡ rowBefore q rows (s .dim) i
       → n ≡ dist f a b (s .dim) .value
       → m ≡ greater peak n
-      → o ≡ outOfBox s a
+      → o ≡ testFrom (outOfBox f s a)
       → k ≡ finite n
-      → Strode f s slow q rows (i + 1) m (fast || lt (s .«step_max») n) (close || lt slow n) (out || o) (ok && k)
+      → Strode f s slow q rows (i + 1) m (fast || lt (s .«step_max») n) (close || lt slow n) (out || o .holds) (told && o .sound) (ok && k)
   unfolding peakStep someLonger someOutOfBox stepTo
-  stride i peak fast close out ok {a} {b} {n} {m} {o} {k} h ea eb en em eo ek =
+  stride i peak fast close out told ok {a} {b} {n} {m} {o} {k} h ea eb en em eo ek =
+      let w = some-turn (λ (j : ℕ). outOfBox f s (rawRow rows (s .dim) j)) i out told o (h .out-so, h .told-so) (eo ∙ ap (λ (l : List Float). testFrom (outOfBox f s l)) ea) in
       let e : n ≡ stepTo f q rows (s .dim) i .value = rw (ea, eb) at en in
       record {
         top = em ∙ greatest-more +0 (λ (j : ℕ). stepTo f q rows (s .dim) j .value) i peak n (h .top) e;
         fast-so = some-more (λ (j : ℕ). lt (s .«step_max») (stepTo f q rows (s .dim) j .value)) i fast _ (h .fast-so) (ap (λ (x : Float). lt (s .«step_max») x) e);
         close-so = some-more (λ (j : ℕ). lt slow (stepTo f q rows (s .dim) j .value)) i close _ (h .close-so) (ap (λ (x : Float). lt slow x) e);
-        out-so = some-more (λ (j : ℕ). outOfBox s (rawRow rows (s .dim) j)) i out o (h .out-so) (eo ∙ ap (outOfBox s) ea);
+        out-so = w .0;
+        told-so = w .1;
         ok-so = all-more (λ (j : ℕ). stepTo f q rows (s .dim) j .sound) i ok k (h .ok-so) (ek ∙ ap finite e ∙ sym (dist-tells f (rawRow rows (s .dim) i) (rowBefore q rows (s .dim) i) (s .dim)));
       }
 
@@ -220,10 +223,10 @@ module _ (f : Format) (s : Checks) (q rows : List Float) (i : ℕ) {before here 
   unfolding largeAt
   jolted-at-is es ed ek = exceeds-is f _ (s .dim) (s .«inv_dt3») (s .«j_max») (ed ∙ rw (es, en, eh, eb)) ev ek
 
-pub strides-are : (f : Format) (s : Checks) (slow : Float) (q rows : List Float) {i h : ℕ} {peak : Float} {fast close out ok : Bool} → i ≡ h
-    → Strode f s slow q rows i peak fast close out ok
-    → _≡_ {A = Stride} (record { peak = peak; fast = fast; close = close; out = out; sound = ok }) (stepsFrom f s slow q rows h)
-strides-are f s slow q rows e w = rw (← e, w .top, w .fast-so, w .close-so, w .out-so, w .ok-so)
+pub strides-are : (f : Format) (s : Checks) (slow : Float) (q rows : List Float) {i h : ℕ} {peak : Float} {fast close out told ok : Bool} → i ≡ h
+    → Strode f s slow q rows i peak fast close out told ok
+    → _≡_ {A = Stride} (record { peak = peak; fast = fast; close = close; out = record { holds = out; sound = told }; sound = ok }) (stepsFrom f s slow q rows h)
+strides-are f s slow q rows e w = rw (← e, w .top, w .fast-so, w .close-so, w .out-so, w .told-so, w .ok-so)
 
 -- ---- the projected rows, and the whole check
 
@@ -249,9 +252,9 @@ pub judge-chunk-is : (f : Format) (s : Checks) (p aux rows l : List Float) (h : 
     → first ≡ rawRow rows (s .dim) 0
     → far ≡ testFrom (outOfReach f s p first)
     → speed ≡ arms s SPEED
-    → bits ≡ tripBits (t .out) (speed && t .fast) (bent .holds) (jolted .holds) (far .holds) (z .inside && t .close)
+    → bits ≡ tripBits (t .out .holds) (speed && t .fast) (bent .holds) (jolted .holds) (far .holds) (z .inside && t .close)
     → (c ≡ ranFrom (projectedRows f s (s .clamp) (slowOf z) p rows q l h)) × (m ≡ projectedRows f s (s .clamp) (slowOf z) p rows q l h .value .rows)
-    → (_≡_ {A = Ruling} (record { trips = bits; mask = c .mask; peak = mul f (t .peak) (s .«inv_dt»); sound = z .sound && (t .sound && (k && (bent .sound && (jolted .sound && (far .sound && c .sound))))) })
+    → (_≡_ {A = Ruling} (record { trips = bits; mask = c .mask; peak = mul f (t .peak) (s .«inv_dt»); sound = z .sound && (t .sound && (k && (t .out .sound && (bent .sound && (jolted .sound && (far .sound && c .sound)))))) })
     (rulingFrom (checkChunk f s p aux rows l h))) × (m ≡ checkChunk f s p aux rows l h .value .after .rows)
 unfolding checkChunk
 judge-chunk-is f s p aux rows l h ez eq et ek eb ej e1 ef es ew ec = (rw (ew, ec .0, ef, e1, ej, eb, es, ek, et, eq, ez, and-true), ec .1 ∙ rw (eq, ez))

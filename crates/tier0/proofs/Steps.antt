@@ -3,14 +3,15 @@ use Prim.Native.Nat.{ℕ, _+_}
 use mathlib.Core.Path.{_≡_, refl, sym, ap, _∙_}
 use mathlib.Core.Bool.{Bool, true, false, _&&_, _||_, and-true}
 use mathlib.Core.List.{List, [], _∷_}
-use lib.Ieee.{Float, Format, mul, div, lt, le}
+use lib.Ieee.{Float, Format, mul, lt, le}
 use Rattle.checked.specs.Each.{at}
 use Rattle.checked.specs.Finite.{finite, +0}
 use Rattle.checked.specs.Row.{padded}
-use Rattle.checked.specs.Checked.{Checked, pure, each}
+use Rattle.checked.specs.Checked.{pure}
 use Rattle.fmath.specs.Norm.{dist}
 use Rattle.checked.proofs.Absorbing.{fine-mul-left}
-use Rattle.fmath.proofs.Lengths.{dist-tells}
+use Rattle.fmath.proofs.Lengths.{dist-tells, dist-sound}
+use Rattle.pull.specs.Rule.{pulled}
 use Rattle.workspace.specs.Of.{wallsOf}
 use Rattle.workspace.specs.Rule.{outside, inward}
 use Rattle.envelope.specs.declared.ClampMode.{ClampMode}
@@ -20,32 +21,29 @@ use Rattle.envelope.specs.declared.Contact.the-variants as C
 use Rattle.tier0.specs.declared.Checks.{Checks}
 use Rattle.tier0.specs.declared.SlowZone.{SlowZone}
 use Rattle.checked.specs.declared.Row.{Row}
-use Rattle.tier0.specs.declared.Test.{Test}
+use Rattle.checked.specs.declared.Test.{Test}
 use Rattle.tier0.specs.declared.Clamped.{Clamped}
 use Rattle.tier0.specs.declared.Verdict.{Verdict}
-use Rattle.tier0.specs.Rule.{Slow, WORKSPACE, SPEED, ACCEL, JERK, REACH, CONTACT, arms, shared, clear, seen, inZone, zoneIn, slowZone, outOfBox, outOfReach, bit, tripBits, shrink, towards, shortened, pulled, leash, boxed, leashed, reached, moves, moved, project, projection, checkAction}
-use Rattle.tier0.specs.Of.{slowOf, zoneFrom, testFrom, clampedFrom, verdictFrom}
-use Rattle.checked.specs.Of.{rowFrom}
-
-pub a-row : (x : Checked (List Float)) {r : List Float} {k : Bool} → r ≡ x .value → k ≡ x .sound → _≡_ {A = Row} (record { at = r; sound = k }) (rowFrom x)
-a-row x e h = rw (e, h)
-
--- the test of a distance is that of each number on its way
-pub dist-sound : (f : Format) (a b : List Float) (n : ℕ) {d : Float} {k : Bool} → d ≡ dist f a b n .value → k ≡ finite d → k ≡ dist f a b n .sound
-dist-sound f a b n e h = h ∙ ap finite e ∙ sym (dist-tells f a b n)
+use Rattle.tier0.specs.Rule.{Slow, WORKSPACE, SPEED, ACCEL, JERK, REACH, CONTACT, arms, shared, clear, seen, inZone, zoneIn, slowZone, outOfBox, outOfReach, bit, tripBits, leash, boxed, leashed, reached, moves, moved, project, projection, checkAction}
+use Rattle.tier0.specs.Of.{slowOf, zoneFrom, clampedFrom, verdictFrom}
+use Rattle.checked.specs.Of.{rowFrom, testFrom}
 
 -- ---- the workspace
 
-pub out-is : (s : Checks) (a : List Float) {k o : Bool} {n : ℕ} → k ≡ arms s WORKSPACE → n ≡ shared s → o ≡ outside (wallsOf (s .walls)) a n → (k && o) ≡ outOfBox s a
-unfolding outOfBox
-out-is s a e h g = rw (e, g, h)
+module _ (f : Format) (s : Checks) (a : List Float) {k : Bool} (e : k ≡ arms s WORKSPACE) where
+  pub out-off : k ≡ false → _≡_ {A = Test} (record { holds = false; sound = true }) (testFrom (outOfBox f s a))
+  unfolding outOfBox
+  out-off h = rw (sym e ∙ h)
 
-module _ (s : Checks) (a : List Float) {k : Bool} (e : k ≡ arms s WORKSPACE) where
-  pub boxed-off : k ≡ false → a ≡ boxed s a
+  pub out-on : k ≡ true → {n : ℕ} {t : Test} → n ≡ shared s → t ≡ testFrom (outside f (wallsOf (s .walls)) a n) → t ≡ testFrom (outOfBox f s a)
+  unfolding outOfBox
+  out-on h p q = rw (sym e ∙ h) (rw p at q)
+
+  pub boxed-off : k ≡ false → _≡_ {A = Row} (record { at = a; sound = true }) (rowFrom (boxed f s a))
   unfolding boxed
   boxed-off h = rw (sym e ∙ h)
 
-  pub boxed-on : k ≡ true → {n : ℕ} {r : List Float} → n ≡ shared s → r ≡ inward (wallsOf (s .walls)) a n → r ≡ boxed s a
+  pub boxed-on : k ≡ true → {n : ℕ} {r : Row} → n ≡ shared s → r ≡ rowFrom (inward f (wallsOf (s .walls)) a n) → r ≡ rowFrom (boxed f s a)
   unfolding boxed
   boxed-on h p q = rw (sym e ∙ h) (rw p at q)
 
@@ -104,25 +102,7 @@ module _ (f : Format) (s : Checks) (p a : List Float) {k : Bool} (e : k ≡ arms
   unfolding reached
   reached-on h q u = rw (sym e ∙ h) (rw q at u)
 
--- ---- the pull
-
-module _ (f : Format) (most : Float) (q : List Float) (n : ℕ) (a : List Float) where
-  pub shortened-is : (far : Float) {k l : Bool} {r : Row}
-      → k ≡ finite (mul f most (shrink f))
-      → l ≡ finite (div f (mul f most (shrink f)) far)
-      → r ≡ rowFrom (each (towards f (div f (mul f most (shrink f)) far) q a) a n)
-      → _≡_ {A = Row} (record { at = r .at; sound = k && (l && r .sound) }) (rowFrom (shortened f most far q n a))
-  unfolding shortened
-  shortened-is far e h g = rw (e, h, g)
-
-  module _ {far : Float} {k : Bool} (e : far ≡ dist f a q n .value) (h : k ≡ finite far) where
-    pub pulled-near : lt most far ≡ false → _≡_ {A = Row} (record { at = a; sound = k }) (rowFrom (pulled f most q n a))
-    unfolding pulled
-    pulled-near t = rw (dist-sound f a q n e h, ap (λ (x : Float). lt most x) (sym e) ∙ t, and-true)
-
-    pub pulled-far : lt most far ≡ true → {r : Row} → r ≡ rowFrom (shortened f most far q n a) → _≡_ {A = Row} (record { at = r .at; sound = k && r .sound }) (rowFrom (pulled f most q n a))
-    unfolding pulled
-    pulled-far t g = rw (dist-sound f a q n e h, ap (λ (x : Float). lt most x) (sym e) ∙ t, g, e)
+-- ---- the leash
 
 module _ (f : Format) (s : Checks) (z : Slow) (prev a : List Float) {k : Bool} (e : k ≡ arms s SPEED) where
   pub leashed-off : (k || z .inside) ≡ false → _≡_ {A = Row} (record { at = a; sound = true }) (rowFrom (leashed f s z prev a))
@@ -135,13 +115,13 @@ module _ (f : Format) (s : Checks) (z : Slow) (prev a : List Float) {k : Bool} (
 
 -- ---- the three moves
 
-module _ (f : Format) (s : Checks) (z : Slow) (p q a : List Float) {b : List Float} {l : Row}
-    (eb : b ≡ boxed s a) (el : l ≡ rowFrom (leashed f s z q b)) {t : Bool} where
-  pub first-row : t ≡ true → {r : Row} → r ≡ rowFrom (reached f s p (l .at)) → _≡_ {A = Row} (record { at = r .at; sound = l .sound && r .sound }) (rowFrom (moves f s z p t q a))
+module _ (f : Format) (s : Checks) (z : Slow) (p q a : List Float) {b l : Row}
+    (eb : b ≡ rowFrom (boxed f s a)) (el : l ≡ rowFrom (leashed f s z q (b .at))) {t : Bool} where
+  pub first-row : t ≡ true → {r : Row} → r ≡ rowFrom (reached f s p (l .at)) → _≡_ {A = Row} (record { at = r .at; sound = b .sound && (l .sound && r .sound) }) (rowFrom (moves f s z p t q a))
   unfolding moves
   first-row e er = rw (e, er, el, eb)
 
-  pub later-row : t ≡ false → _≡_ {A = Row} (record { at = l .at; sound = l .sound }) (rowFrom (moves f s z p t q a))
+  pub later-row : t ≡ false → _≡_ {A = Row} (record { at = l .at; sound = b .sound && l .sound }) (rowFrom (moves f s z p t q a))
   unfolding moves
   later-row e = rw (e, el, eb, and-true)
 
@@ -177,17 +157,17 @@ absorbed false true z h = absurd-is (h refl) z
     absurd-is e false = refl
 absorbed false false z h = refl
 
-pub judge-is : (f : Format) (s : Checks) (p aux prev a : List Float) {z : SlowZone} {n : Float} {k speed out : Bool} {far : Test} {raw : List Float} {c : Clamped} {bits : ℕ}
+pub judge-is : (f : Format) (s : Checks) (p aux prev a : List Float) {z : SlowZone} {n : Float} {k speed : Bool} {out far : Test} {raw : List Float} {c : Clamped} {bits : ℕ}
     → z ≡ zoneFrom (slowZone f s p aux)
     → n ≡ dist f a prev (s .dim) .value
     → k ≡ finite (mul f n (s .«inv_dt»))
-    → out ≡ outOfBox s a
+    → out ≡ testFrom (outOfBox f s a)
     → far ≡ testFrom (outOfReach f s p a)
     → raw ≡ padded a (s .dim)
     → speed ≡ arms s SPEED
-    → bits ≡ tripBits out (speed && lt (s .«step_max») n) false false (far .holds) (z .inside && lt (z .step) n)
+    → bits ≡ tripBits (out .holds) (speed && lt (s .«step_max») n) false false (far .holds) (z .inside && lt (z .step) n)
     → c ≡ clampedFrom (projection f s (s .clamp) (slowOf z) p prev raw)
-    → _≡_ {A = Verdict} (record { trips = bits; mask = c .mask; peak = mul f n (s .«inv_dt»); at = c .at; sound = z .sound && (k && (far .sound && c .sound)) })
+    → _≡_ {A = Verdict} (record { trips = bits; mask = c .mask; peak = mul f n (s .«inv_dt»); at = c .at; sound = z .sound && (k && (out .sound && (far .sound && c .sound))) })
     (verdictFrom (checkAction f s p aux prev a))
 unfolding checkAction
 judge-is f s p aux prev a ez en ek eo ef ew es eb ec =

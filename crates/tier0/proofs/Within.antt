@@ -40,9 +40,9 @@ if-so : (b : Bool) (x : Checked Bool) → x .value ≡ false → (if b then x el
 if-so true x h = h
 if-so false x h = refl
 
-in-box : (s : Checks) (a : List Float) → ((j : ℕ) → j < shared s → beyond (wallsOf (s .walls)) a j ≡ false) → outOfBox s a ≡ false
+in-box : (f : Format) (s : Checks) (a : List Float) → ((j : ℕ) → j < shared s → beyond (wallsOf (s .walls)) a j ≡ false) → outOfBox f s a .value ≡ false
 unfolding outOfBox outside
-in-box s a h = where-so (arms s WORKSPACE) _ (λ e. none-so (beyond (wallsOf (s .walls)) a) (shared s) h)
+in-box f s a h = if-so (arms s WORKSPACE) _ (none-so (beyond (wallsOf (s .walls)) a) (shared s) h)
 
 in-reach : (f : Format) (s : Checks) (p a : List Float) → lt (s .«reach_max») (dist f a p (shared s) .value) ≡ false → outOfReach f s p a .value ≡ false
 unfolding outOfReach
@@ -75,9 +75,9 @@ module _ (f : Format) (c : FuseConfig) (t : Tables) (p aux rows : List Float) (h
   unfolding chunkAnswer chunkRuling
   from-rule w none = trips-raised w (chunkRefusal f c t p aux rows h d e room) (chunkRuling f c p aux rows h .value) none
 
-  not-out : ChunkInBox f c p aux rows h → someOutOfBox s rows h ≡ false
-  unfolding someOutOfBox
-  not-out w = none-so (λ (i : ℕ). outOfBox s (rawRow rows (s .dim) i)) h (λ i b. in-box s (rawRow rows (s .dim) i) (w i b))
+  not-out : ChunkInBox f c p aux rows h → someOutOfBox f s rows h .value ≡ false
+  unfolding someOutOfBox someOf
+  not-out w = none-so (λ (i : ℕ). outOfBox f s (rawRow rows (s .dim) i) .value) h (λ i b. in-box f s (rawRow rows (s .dim) i) (w i b))
 
   not-longer : (most : Float) → ((i : ℕ) → i < h → lt most (stepTo f (beforeFirst f c p aux rows) rows (s .dim) i .value) ≡ false) → someLonger f (beforeFirst f c p aux rows) rows (s .dim) most h ≡ false
   unfolding someLonger
@@ -148,7 +148,7 @@ module _ (f : Format) (c : FuseConfig) (t : Tables) (p aux prev a : List Float) 
   action-not-close w = where-so (zoneHere f c p aux prev a .inside) _ w
 
   pub action-workspace-touched : ActionInBox f c p aux prev a → raised WORKSPACE trips-of ≡ false
-  action-workspace-touched w = action-from-rule WORKSPACE refl (action-workspace-exactly f (checksOf f c) p aux prev a ∙ in-box (checksOf f c) a w)
+  action-workspace-touched w = action-from-rule WORKSPACE refl (action-workspace-exactly f (checksOf f c) p aux prev a ∙ in-box f (checksOf f c) a w)
 
   pub action-speed-touched : ActionSlowEnough f c p aux prev a → raised SPEED trips-of ≡ false
   action-speed-touched w = action-from-rule SPEED refl (action-speed-exactly f (checksOf f c) p aux prev a ∙ action-not-fast w)
@@ -161,7 +161,7 @@ module _ (f : Format) (c : FuseConfig) (t : Tables) (p aux prev a : List Float) 
 
   action-none-tripped : ActionWithin f c p aux prev a → actionTrips f (checksOf f c) p aux prev a ≡ 0
   unfolding checkAction tripBits
-  action-none-tripped w = rw (in-box (checksOf f c) a (w .box), action-not-fast (w .speed), in-reach f (checksOf f c) p a (w .reach), action-not-close (w .contact))
+  action-none-tripped w = rw (in-box f (checksOf f c) a (w .box), action-not-fast (w .speed), in-reach f (checksOf f c) p a (w .reach), action-not-close (w .contact))
 
   pub action-touched : ActionWithin f c p aux prev a → trips-of ≡ 0
   unfolding actionAnswer actionRuling

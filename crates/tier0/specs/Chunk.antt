@@ -49,13 +49,13 @@ peakStep f q rows n h = record { value = greatest +0 (λ (i : ℕ). stepTo f q r
 unfoldable pub someLonger : Format → List Float → List Float → ℕ → Float → ℕ → Bool
 someLonger f q rows n most h = some (λ (i : ℕ). lt most (stepTo f q rows n i .value)) h
 
--- some row is out of the box
-unfoldable pub someOutOfBox : Checks → List Float → ℕ → Bool
-someOutOfBox s rows h = some (λ (i : ℕ). outOfBox s (rawRow rows (s .dim) i)) h
-
 -- a checked test holds somewhere below n; each is evaluated
 unfoldable pub someOf : (ℕ → Checked Bool) → ℕ → Checked Bool
 someOf g n = record { value = some (λ (i : ℕ). g i .value) n; sound = all (λ (i : ℕ). g i .sound) n }
+
+-- some row is out of the box
+unfoldable pub someOutOfBox : Format → Checks → List Float → ℕ → Checked Bool
+someOutOfBox f s rows h = someOf (λ (i : ℕ). outOfBox f s (rawRow rows (s .dim) i)) h
 
 -- next - 2 here + before
 unfoldable pub bend : Format → Float → Float → Float → Checked Float
@@ -147,10 +147,11 @@ checkChunk f s p aux rows l h = do
   z ← slowZone f s p aux
   n ← peakStep f q rows (s .dim) h
   v ← times f n (s .«inv_dt»)
+  out ← someOutOfBox f s rows h
   bent ← tooLarge f s Accel q rows h
   jolted ← tooLarge f s Jerk q rows h
   far ← outOfReach f s p (rawRow rows (s .dim) 0)
   after ← projectedRows f s (s .clamp) z p rows q l h
   let fast = arms s SPEED && someLonger f q rows (s .dim) (s .«step_max») h
   let close = z .inside && someLonger f q rows (s .dim) (z .step) h
-  pure (record { trips = tripBits (someOutOfBox s rows h) fast bent jolted far close; peak = v; after = after })
+  pure (record { trips = tripBits out fast bent jolted far close; peak = v; after = after })

@@ -1,6 +1,6 @@
 -- The rules at the declared structs.
 use Prim.Native.Nat.{ℕ, _*_}
-use mathlib.Core.Bool.{Bool, not}
+use mathlib.Core.Bool.{not}
 use mathlib.Core.List.{List, [], _∷_, _++_}
 use lib.Dec.{eqb}
 use lib.ListN.{length, replicate}
@@ -9,6 +9,7 @@ use Rattle.refusal.specs.Order.{Judged, width, short, notFinite, computed, _whe
 use Rattle.fmath.specs.Answer.{someLentNotFinite}
 use Rattle.checked.specs.Finite.{+0}
 use Rattle.checked.specs.Checked.{Checked}
+use Rattle.checked.specs.Of.{testFrom}
 use Rattle.chunk.specs.Refusals.{chunkReasons}
 use Rattle.conformal.specs.Rule.{Tables}
 use Rattle.envelope.specs.Derive.{derived}
@@ -18,7 +19,6 @@ use Rattle.envelope.specs.declared.FuseConfig.{FuseConfig}
 use Rattle.tier0.specs.declared.Check.{Check}
 use Rattle.tier0.specs.declared.Checks.{Checks}
 use Rattle.tier0.specs.declared.SlowZone.{SlowZone}
-use Rattle.tier0.specs.declared.Test.{Test}
 use Rattle.tier0.specs.declared.Clamped.{Clamped}
 use Rattle.tier0.specs.declared.Verdict.{Verdict}
 use Rattle.tier0.specs.declared.Stride.{Stride}
@@ -58,9 +58,6 @@ slowOf z = record { inside = z .inside; step = z .step }
 abbrev pub zoneFrom : Checked Slow → SlowZone
 zoneFrom x = record { inside = x .value .inside; step = x .value .step; sound = x .sound }
 
-abbrev pub testFrom : Checked Bool → Test
-testFrom x = record { holds = x .value; sound = x .sound }
-
 abbrev pub clampedFrom : Checked Projected → Clamped
 clampedFrom x = record { at = x .value .rows; mask = x .value .mask; sound = x .sound }
 
@@ -79,7 +76,7 @@ stepsFrom f s slow q rows h = record {
   peak = peakStep f q rows (s .dim) h .value;
   fast = someLonger f q rows (s .dim) (s .«step_max») h;
   close = someLonger f q rows (s .dim) slow h;
-  out = someOutOfBox s rows h;
+  out = testFrom (someOutOfBox f s rows h);
   sound = peakStep f q rows (s .dim) h .sound;
 }
 

@@ -3,17 +3,17 @@ use Prim.Native.Nat.{ℕ, _+_, _/_, _%_, min}
 use mathlib.Core.Bool.{Bool, true, false, _&&_, _||_}
 use mathlib.Core.List.{List, [], _∷_}
 use lib.Dec.{ltb, leb, eqb}
-use lib.IntN.{negsuc}
 use lib.ListN.{length}
-use lib.Ieee.{Float, Format, binary32, binary64, fin, lt, le, ne}
+use lib.Ieee.{Float, Format, lt, le, ne}
 use Rattle.bits.specs.Choice.{if_then_else_}
 use Rattle.checked.specs.Each.{at}
 use Rattle.checked.specs.Finite.{+0}
 use Rattle.checked.specs.Row.{padded}
-use Rattle.checked.specs.Checked.{Checked, _>>=_, pure, plus, minus, times, divided, each}
+use Rattle.checked.specs.Checked.{Checked, _>>=_, pure, times}
 use Rattle.checked.specs.Least.{lesser}
 use Rattle.fmath.specs.Norm.{dist}
 use Rattle.bits.specs.Bits.{bitsWhere}
+use Rattle.pull.specs.Rule.{pulled}
 use Rattle.workspace.specs.Of.{wallsOf}
 use Rattle.workspace.specs.Rule.{outside, inward}
 use Rattle.envelope.specs.declared.ClampMode.{ClampMode}
@@ -81,8 +81,8 @@ slowZone f s p aux = if arms s CONTACT then zoneIn f (s .dt) (s .contact) p aux 
 -- ---- trips: strictly exceeded, on the row as it came
 
 -- WORKSPACE: a shared coordinate lies beyond its walls
-unfoldable pub outOfBox : Checks → List Float → Bool
-outOfBox s a = arms s WORKSPACE && outside (wallsOf (s .walls)) a (shared s)
+unfoldable pub outOfBox : Format → Checks → List Float → Checked Bool
+outOfBox f s a = if arms s WORKSPACE then outside f (wallsOf (s .walls)) a (shared s) else pure false
 
 -- REACH: the distance to the position, on the shared coordinates
 unfoldable pub outOfReach : Format → Checks → List Float → List Float → Checked Bool
@@ -98,41 +98,13 @@ tripBits box speed accel jerk reach contact =
 
 -- ---- projection
 
--- 1 - 2^-36, and 1 - 2^-13 at the smaller width
-abbrev pub shrink : Format → Float
-shrink binary32 = fin false 0x1fff (negsuc 12)
-shrink binary64 = fin false 0xf_ffff_ffff (negsuc 35)
-
--- from q, the part s of the way to x
-unfoldable pub toward : Format → Float → Float → Float → Checked Float
-toward f s q x = do
-  d ← minus f x q
-  m ← times f d s
-  plus f q m
-
-abbrev pub towards : Format → Float → List Float → List Float → ℕ → Checked Float
-towards f s q a j = toward f s (at q j) (at a j)
-
--- a, pulled on its first n coordinates towards q, from which it is so far: the factor is most x shrink / far
-unfoldable pub shortened : Format → Float → Float → List Float → ℕ → List Float → Checked (List Float)
-shortened f most far q n a = do
-  short ← times f most (shrink f)
-  s ← divided f short far
-  each (towards f s q a) a n
-
--- .. where it is further than `most`
-unfoldable pub pulled : Format → Float → List Float → ℕ → List Float → Checked (List Float)
-pulled f most q n a = do
-  far ← dist f a q n
-  if lt most far then shortened f most far q n a else pure a
-
 -- the least armed leash
 abbrev pub leash : Bool → Float → Slow → Float
 leash speed stepMax z = if speed then (if z .inside then lesser stepMax (z .step) else stepMax) else z .step
 
 -- first move: inside the box on the shared coordinates
-unfoldable pub boxed : Checks → List Float → List Float
-boxed s a = if arms s WORKSPACE then inward (wallsOf (s .walls)) a (shared s) else a
+unfoldable pub boxed : Format → Checks → List Float → Checked (List Float)
+boxed f s a = if arms s WORKSPACE then inward f (wallsOf (s .walls)) a (shared s) else pure a
 
 -- second move: the leash towards the row before
 unfoldable pub leashed : Format → Checks → Slow → List Float → List Float → Checked (List Float)
@@ -145,7 +117,8 @@ reached f s p a = if arms s REACH then pulled f (s .«reach_max») p (shared s) 
 -- the three moves in order; the third is the first row's
 unfoldable pub moves : Format → Checks → Slow → List Float → Bool → List Float → List Float → Checked (List Float)
 moves f s z p isFirst prev a = do
-  l ← leashed f s z prev (boxed s a)
+  b ← boxed f s a
+  l ← leashed f s z prev b
   if isFirst then reached f s p l else pure l
 
 -- a bit for each coordinate that differs, as numbers
@@ -179,8 +152,9 @@ checkAction f s p aux prev a = do
   z ← slowZone f s p aux
   n ← dist f a prev (s .dim)
   v ← times f n (s .«inv_dt»)
+  out ← outOfBox f s a
   far ← outOfReach f s p a
   after ← projection f s (s .clamp) z p prev (padded a (s .dim))
   let fast = arms s SPEED && lt (s .«step_max») n
   let close = z .inside && lt (z .step) n
-  pure (record { trips = tripBits (outOfBox s a) fast false false far close; peak = v; after = after })
+  pure (record { trips = tripBits out fast false false far close; peak = v; after = after })

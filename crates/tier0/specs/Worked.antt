@@ -15,8 +15,9 @@ use Rattle.fmath.specs.Norm.{squaredGap, dist}
 use Rattle.bits.specs.Bits.{bitsWhere}
 use Rattle.envelope.specs.declared.ClampMode.the-variants.{Project}
 use Rattle.envelope.specs.declared.Contact.the-variants.{None}
+use Rattle.pull.specs.Rule.{toward, shortened, pulled}
 use Rattle.tier0.specs.declared.Checks.{Checks}
-use Rattle.tier0.specs.Rule.{SPEED, arms, slowZone, outOfBox, outOfReach, tripBits, toward, shortened, pulled, boxed, leashed, reached, moves, project, projection, Judgement, checkAction}
+use Rattle.tier0.specs.Rule.{SPEED, arms, slowZone, outOfBox, outOfReach, tripBits, boxed, leashed, reached, moves, project, projection, Judgement, checkAction}
 
 -- one coordinate, SPEED alone armed, step 1.5
 abbrev line : Checks

@@ -21,6 +21,7 @@ use crate::trips::step_rows;
 use crate::trips::too_large;
 use crate::trips::trip_bits;
 use crate::zone::slow_zone;
+use checked::Test;
 use envelope::ClampMode;
 use envelope::Contact;
 use envelope::Derived;
@@ -77,12 +78,6 @@ pub enum Difference {
     Jerk,
 }
 
-// Whether a limit is exceeded.
-pub struct Test {
-    pub holds: bool,
-    pub sound: bool,
-}
-
 // A projected row and the coordinates moved.
 pub struct Clamped {
     pub at: [f64; 8],
@@ -104,7 +99,7 @@ pub struct Stride {
     pub peak: f64,
     pub fast: bool,
     pub close: bool,
-    pub out: bool,
+    pub out: Test,
     pub sound: bool,
 }
 
@@ -164,7 +159,7 @@ fn found(trips: u32, clamped_dims: u32, peak_speed: f64) -> Check
 
 // Trips on the action as it came, its speed, and its projection.
 fn judge_action(s: Checks, pos: &[f64], aux: &[f64], prev: &[f64], a: &[f64]) -> Verdict
-    requires { ⌜ (s .dim ≤ 8) × (s .dim ≤ length (now a)) × (s .dim ≤ length (now prev)) × (s .«pos_dim» ≤ length (now pos)) ⌝ }
+    requires { ⌜ (s .dim ≤ 8) × (s .dim ≤ length (now a)) ⌝ }
     ensures { λ r. ⌜ r ≡ verdictFrom (checkAction binary64 s (now (pos .entry)) (now (aux .entry)) (now (prev .entry)) (now (a .entry))) ⌝ }
 {
     let z = slow_zone(s, pos, aux);
@@ -176,7 +171,7 @@ fn judge_action(s: Checks, pos: &[f64], aux: &[f64], prev: &[f64], a: &[f64]) ->
     let raw = fmath::padded(a, s.dim);
     let speed = armed(s, TripMask::SPEED);
     let trips = trip_bits(
-        out,
+        out.holds,
         speed & (s.step_max < step),
         false,
         false,
@@ -190,7 +185,7 @@ fn judge_action(s: Checks, pos: &[f64], aux: &[f64], prev: &[f64], a: &[f64]) ->
         mask: p.mask,
         peak,
         at,
-        sound: z.sound & (fine & (far.sound & p.sound)),
+        sound: z.sound & (fine & (out.sound & (far.sound & p.sound))),
     }
 }
 
@@ -248,7 +243,7 @@ fn judge_chunk(
     let far = out_of_reach(s, pos, &first);
     let speed = armed(s, TripMask::SPEED);
     let trips = trip_bits(
-        t.out,
+        t.out.holds,
         speed & t.fast,
         bent.holds,
         jolted.holds,
@@ -256,7 +251,8 @@ fn judge_chunk(
         z.inside & t.close,
     );
     let p = projected_rows(s, z, pos, rows, q, h, out);
-    let judged = t.sound & (fine & (bent.sound & (jolted.sound & (far.sound & p.sound))));
+    let differences = bent.sound & (jolted.sound & (far.sound & p.sound));
+    let judged = t.sound & (fine & (t.out.sound & differences));
     Ruling {
         trips,
         mask: p.mask,

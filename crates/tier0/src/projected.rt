@@ -3,8 +3,7 @@ ghost use mathlib.Core.Path.{_≡_};
 ghost use Prim.Native.Nat.{_+_, _*_, _≤_};
 ghost use lib.ListN.{length};
 ghost use lib.Ieee.{binary64};
-ghost use Rattle.checked.specs.Checked.{each};
-ghost use Rattle.tier0.specs.Rule.{towards, shortened, pulled, leash, boxed, leashed, reached, moves, moved, project, projection};
+ghost use Rattle.tier0.specs.Rule.{leash, boxed, leashed, reached, moves, moved, project, projection};
 ghost use Rattle.tier0.specs.Chunk.{putRow, runRows, projectedRows};
 ghost use Rattle.tier0.specs.Of.{slowOf, clampedFrom, runFrom, ranFrom};
 ghost use Rattle.checked.specs.Of.{rowFrom};
@@ -19,64 +18,12 @@ use checked::Row;
 use envelope::ClampMode;
 use envelope::TripMask;
 
-// The row, each of its first n coordinates the part s of the way from q to it.
-fn moved_toward(s: f64, q: &[f64], n: usize, a: [f64; 8]) -> Row
-    requires { ⌜ (n ≤ 8) × (n ≤ length (now q)) ⌝ }
-    ensures { λ r. ⌜ r ≡ rowFrom (each (towards binary64 s (now (q .entry)) a) a n) ⌝ }
-{
-    let mut r = a;
-    let mut sound = true;
-    let mut i = 0;
-    while i < n {
-        let x = q[i] + (a[i] - q[i]) * s;
-        r[i] = x;
-        sound = sound & fmath::finite(x);
-        i += 1;
-    }
-    Row { at: r, sound }
-}
-
-// The row shortened towards q, from which it is so far. The factor lands it inside the limit by 2^-36 of it.
-fn shortened(most: f64, far: f64, q: &[f64], n: usize, a: [f64; 8]) -> Row
-    requires { ⌜ (n ≤ 8) × (n ≤ length (now q)) ⌝ }
-    ensures { λ r. ⌜ r ≡ rowFrom (shortened binary64 most far (now (q .entry)) n a) ⌝ }
-{
-    let short = most * (1.0 - 1.0 / 68719476736.0);
-    let s = short / far;
-    let fine = fmath::finite(short);
-    let good = fmath::finite(s);
-    let r = moved_toward(s, q, n, a);
-    let at = r.at;
-    Row {
-        at,
-        sound: fine & (good & r.sound),
-    }
-}
-
-// The row pulled towards q, where it is further from it than `most`.
-fn pulled(most: f64, q: &[f64], n: usize, a: [f64; 8]) -> Row
-    requires { ⌜ (n ≤ 8) × (n ≤ length (now q)) ⌝ }
-    ensures { λ r. ⌜ r ≡ rowFrom (pulled binary64 most (now (q .entry)) n a) ⌝ }
-{
-    let far = fmath::distance(&a, q, n);
-    let fine = fmath::finite(far);
-    if most < far {
-        let r = shortened(most, far, q, n, a);
-        let at = r.at;
-        return Row {
-            at,
-            sound: fine & r.sound,
-        };
-    }
-    Row { at: a, sound: fine }
-}
-
 // The row inside the box, where WORKSPACE is armed.
-fn boxed(s: Checks, a: [f64; 8]) -> [f64; 8]
-    ensures { λ r. ⌜ r ≡ boxed s a ⌝ }
+fn boxed(s: Checks, a: [f64; 8]) -> Row
+    ensures { λ r. ⌜ r ≡ rowFrom (boxed binary64 s a) ⌝ }
 {
     if !armed(s, TripMask::WORKSPACE) {
-        return a;
+        return Row { at: a, sound: true };
     }
     let walls = s.walls;
     let n = shared(s);
@@ -99,7 +46,6 @@ fn leash(speed: bool, step_max: f64, z: SlowZone) -> f64
 
 // The row leashed to the one before it, where a leash is armed.
 fn leashed(s: Checks, z: SlowZone, prev: &[f64], a: [f64; 8]) -> Row
-    requires { ⌜ (s .dim ≤ 8) × (s .dim ≤ length (now prev)) ⌝ }
     ensures { λ r. ⌜ r ≡ rowFrom (leashed binary64 s (slowOf z) (now (prev .entry)) a) ⌝ }
 {
     let speed = armed(s, TripMask::SPEED);
@@ -107,27 +53,26 @@ fn leashed(s: Checks, z: SlowZone, prev: &[f64], a: [f64; 8]) -> Row
         return Row { at: a, sound: true };
     }
     let most = leash(speed, s.step_max, z);
-    pulled(most, prev, s.dim, a)
+    pull::pulled(most, prev, s.dim, a)
 }
 
 // The row pulled towards the position, where REACH is armed.
 fn reached(s: Checks, pos: &[f64], a: [f64; 8]) -> Row
-    requires { ⌜ (s .dim ≤ 8) × (s .«pos_dim» ≤ length (now pos)) ⌝ }
     ensures { λ r. ⌜ r ≡ rowFrom (reached binary64 s (now (pos .entry)) a) ⌝ }
 {
     if !armed(s, TripMask::REACH) {
         return Row { at: a, sound: true };
     }
     let n = shared(s);
-    pulled(s.reach_max, pos, n, a)
+    pull::pulled(s.reach_max, pos, n, a)
 }
 
 // One row after the three moves; the reach pull is the first row's.
 fn moves(s: Checks, z: SlowZone, pos: &[f64], first: bool, prev: &[f64], a: [f64; 8]) -> Row
-    requires { ⌜ (s .dim ≤ 8) × (s .dim ≤ length (now prev)) × (s .«pos_dim» ≤ length (now pos)) ⌝ }
     ensures { λ r. ⌜ r ≡ rowFrom (moves binary64 s (slowOf z) (now (pos .entry)) first (now (prev .entry)) a) ⌝ }
 {
-    let inside = boxed(s, a);
+    let b = boxed(s, a);
+    let inside = b.at;
     let l = leashed(s, z, prev, inside);
     let near = l.at;
     if first {
@@ -135,12 +80,12 @@ fn moves(s: Checks, z: SlowZone, pos: &[f64], first: bool, prev: &[f64], a: [f64
         let at = r.at;
         return Row {
             at,
-            sound: l.sound & r.sound,
+            sound: b.sound & (l.sound & r.sound),
         };
     }
     Row {
         at: near,
-        sound: l.sound,
+        sound: b.sound & l.sound,
     }
 }
 
@@ -162,7 +107,7 @@ fn moved(a: &[f64; 8], b: &[f64; 8], n: usize) -> u32
 
 // The action after the three moves, and the coordinates that they moved.
 fn project(s: Checks, z: SlowZone, pos: &[f64], prev: &[f64], a: [f64; 8]) -> Clamped
-    requires { ⌜ (s .dim ≤ 8) × (s .dim ≤ length (now prev)) × (s .«pos_dim» ≤ length (now pos)) ⌝ }
+    requires { ⌜ s .dim ≤ 8 ⌝ }
     ensures { λ r. ⌜ r ≡ clampedFrom (project binary64 s (slowOf z) (now (pos .entry)) (now (prev .entry)) a) ⌝ }
 {
     let r = moves(s, z, pos, true, prev, a);
@@ -177,7 +122,7 @@ fn project(s: Checks, z: SlowZone, pos: &[f64], prev: &[f64], a: [f64; 8]) -> Cl
 
 // The projection, or the action as it came under ClampMode Off.
 pub(crate) fn projection(s: Checks, z: SlowZone, pos: &[f64], prev: &[f64], a: [f64; 8]) -> Clamped
-    requires { ⌜ (s .dim ≤ 8) × (s .dim ≤ length (now prev)) × (s .«pos_dim» ≤ length (now pos)) ⌝ }
+    requires { ⌜ s .dim ≤ 8 ⌝ }
     ensures { λ r. ⌜ r ≡ clampedFrom (projection binary64 s (s .clamp) (slowOf z) (now (pos .entry)) (now (prev .entry)) a) ⌝ }
 {
     let mode = s.clamp;
@@ -205,7 +150,6 @@ fn put_row(r: [f64; 8], k: usize, n: usize, out: &mut [f64])
 
 // A row after its moves, from the projected one before it.
 fn next_row(s: Checks, z: SlowZone, pos: &[f64], first: bool, q: [f64; 8], a: [f64; 8]) -> Row
-    requires { ⌜ (s .dim ≤ 8) × (s .«pos_dim» ≤ length (now pos)) ⌝ }
     ensures { λ r. ⌜ r ≡ rowFrom (moves binary64 s (slowOf z) (now (pos .entry)) first q a) ⌝ }
 {
     moves(s, z, pos, first, &q, a)
@@ -221,7 +165,7 @@ fn run_rows(
     h: usize,
     out: &mut [f64],
 ) -> Ran
-    requires { ⌜ (s .dim ≤ 8) × (s .«pos_dim» ≤ length (now pos)) × (h ≤ 64) × (h * s .dim ≤ length (now rows)) × (h * s .dim ≤ length (now out)) ⌝ }
+    requires { ⌜ (s .dim ≤ 8) × (h ≤ 64) × (h * s .dim ≤ length (now rows)) × (h * s .dim ≤ length (now out)) ⌝ }
     ensures { λ r. ⌜ (r ≡ runFrom (runRows binary64 s (slowOf z) (now (pos .entry)) (now (rows .entry)) q0 (now (out .entry)) h)) × (now (out .exit) ≡ runRows binary64 s (slowOf z) (now (pos .entry)) (now (rows .entry)) q0 (now (out .entry)) h .value .out) ⌝ }
 {
     let n = s.dim;
@@ -252,7 +196,7 @@ pub(crate) fn projected_rows(
     h: usize,
     out: &mut [f64],
 ) -> Ran
-    requires { ⌜ (s .dim ≤ 8) × (s .«pos_dim» ≤ length (now pos)) × (h ≤ 64) × (h * s .dim ≤ length (now rows)) × (h * s .dim ≤ length (now out)) ⌝ }
+    requires { ⌜ (s .dim ≤ 8) × (h ≤ 64) × (h * s .dim ≤ length (now rows)) × (h * s .dim ≤ length (now out)) ⌝ }
     ensures { λ r. ⌜ (r ≡ ranFrom (projectedRows binary64 s (s .clamp) (slowOf z) (now (pos .entry)) (now (rows .entry)) q (now (out .entry)) h)) × (now (out .exit) ≡ projectedRows binary64 s (s .clamp) (slowOf z) (now (pos .entry)) (now (rows .entry)) q (now (out .entry)) h .value .rows) ⌝ }
 {
     let mode = s.clamp;

@@ -8,28 +8,32 @@ ghost use Rattle.checked.specs.Finite.{+0};
 ghost use Rattle.tier0.specs.Rule.{outOfBox, outOfReach, tripBits};
 ghost use Rattle.tier0.specs.Chunk.{bends, jolts, someOf, largeAt, further, tripOf, tooLarge};
 ghost use Rattle.tier0.specs.declared.Difference.the-variants.{Accel, Jerk};
-ghost use Rattle.checked.specs.Of.{rowFrom};
-ghost use Rattle.tier0.specs.Of.{testFrom, stepsFrom};
+ghost use Rattle.checked.specs.Of.{rowFrom, testFrom};
+ghost use Rattle.tier0.specs.Of.{stepsFrom};
 use crate::Checks;
 use crate::Difference;
 use crate::Stride;
-use crate::Test;
 use crate::measure::armed;
 use crate::measure::raw_row;
 use crate::measure::row_before;
 use crate::measure::shared;
 use checked::Row;
+use checked::Test;
 use envelope::TripMask;
 
 // WORKSPACE, where it is armed.
-pub(crate) fn out_of_box(s: Checks, a: &[f64]) -> bool
-    ensures { λ r. ⌜ r ≡ outOfBox s (now (a .entry)) ⌝ }
+pub(crate) fn out_of_box(s: Checks, a: &[f64]) -> Test
+    ensures { λ r. ⌜ r ≡ testFrom (outOfBox binary64 s (now (a .entry))) ⌝ }
 {
-    let on = armed(s, TripMask::WORKSPACE);
+    if !armed(s, TripMask::WORKSPACE) {
+        return Test {
+            holds: false,
+            sound: true,
+        };
+    }
     let walls = s.walls;
     let n = shared(s);
-    let out = workspace::outside(walls, a, n);
-    on & out
+    workspace::outside(walls, a, n)
 }
 
 // REACH, where it is armed.
@@ -80,6 +84,7 @@ pub(crate) fn step_rows(s: Checks, slow: f64, q: [f64; 8], rows: &[f64], h: usiz
     let mut fast = false;
     let mut close = false;
     let mut out = false;
+    let mut told = true;
     let mut sound = true;
     let mut i = 0usize;
     while i < h {
@@ -89,7 +94,9 @@ pub(crate) fn step_rows(s: Checks, slow: f64, q: [f64; 8], rows: &[f64], h: usiz
         peak = fmath::max(peak, n);
         fast = fast | (s.step_max < n);
         close = close | (slow < n);
-        out = out | out_of_box(s, &a);
+        let beyond = out_of_box(s, &a);
+        out = out | beyond.holds;
+        told = told & beyond.sound;
         sound = sound & fmath::finite(n);
         i += 1;
     }
@@ -97,7 +104,10 @@ pub(crate) fn step_rows(s: Checks, slow: f64, q: [f64; 8], rows: &[f64], h: usiz
         peak,
         fast,
         close,
-        out,
+        out: Test {
+            holds: out,
+            sound: told,
+        },
         sound,
     }
 }

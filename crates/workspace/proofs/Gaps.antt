@@ -1,4 +1,4 @@
--- Laws of the workspace: what lies past the eight axes, what one test tells of a gap, and that a point moved inward lies between its walls.
+-- Laws of the workspace: what lies past the eight axes, and what one test tells of a gap.
 use mathlib.Core.Path.{_≡_, refl, sym, ap, _∙_}
 use mathlib.Core.Bool.{Bool, true, false, _&&_, and-true}
 use mathlib.Core.List.{List}
@@ -9,15 +9,19 @@ use native.Mathlib.Omega.{arith}
 use borrow.Author.Count.{below-more}
 use lib.ListN.{length, set, length-set, List·getD-eq-default}
 use lib.Seq.{getD-set-same, getD-set-other}
-use lib.Ieee.{Float, Format, nan, inf, fin, lt, add, sub}
+use lib.Ieee.{Float, Format, nan, lt, add, sub}
 use Rattle.checked.specs.Each.{at, some, all, over}
 use Rattle.checked.specs.Finite.{finite}
 use Rattle.checked.specs.Least.{lesser, least}
 use Rattle.fmath.specs.Clamp.{clamped}
 use Rattle.checked.specs.Checked.{Checked, leastOf}
+use Rattle.checked.specs.declared.Row.{Row}
+use Rattle.checked.specs.declared.Test.{Test}
+use Rattle.checked.specs.Of.{rowFrom, testFrom}
 use Rattle.checked.proofs.Each.{_&&≡_, some-cut, over-cut, all-fails, all-more, all-from, and-left, and-right}
 use Rattle.checked.proofs.Extremes.{least-missing, least-more}
 use Rattle.checked.proofs.Absorbing.{sub-nan, nan-sub, fine-sub-left, fine-add-left, fine-add-right}
+use Rattle.checked.proofs.Ordered.{below-nan, nan-below}
 use Rattle.checked.proofs.Told.{implied}
 use Rattle.workspace.specs.Rule.{Walls, beyond, outside, inward, between, betweenWithin, gap, gapWithin, slack, slackWithin}
 
@@ -25,16 +29,6 @@ use Rattle.workspace.specs.Rule.{Walls, beyond, outside, inward, between
 
 past : (l : List Float) (j : ℕ) → length l ≤ j → at l j ≡ nan
 past l j h = List·getD-eq-default l nan h
-
-nan-below : (x : Float) → lt nan x ≡ false
-unfolding lt
-nan-below x = refl
-
-below-nan : (x : Float) → lt x nan ≡ false
-unfolding lt
-below-nan nan = refl
-below-nan (inf s) = refl
-below-nan (fin s m e) = refl
 
 -- a coordinate, or its walls, that are not there: it is not beyond them
 none-beyond : (w : Walls) (a : List Float) (j : ℕ) → length (w .lo) ≡ 8 → length (w .hi) ≡ 8 → min (length a) 8 ≤ j → beyond w a j ≡ false
@@ -46,13 +40,18 @@ none-beyond w a j hl hh h = go (decLe (length a) j)
         let g : 8 ≤ j = omega (arith, lt-of-not-le k) in
         rw (past (w .lo) j (omega arith), past (w .hi) j (omega arith), below-nan (at a j), nan-below (at a j))
 
-pub outside-cut : (w : Walls) (a : List Float) (n : ℕ) → length (w .lo) ≡ 8 → length (w .hi) ≡ 8 → outside w a n ≡ some (beyond w a) (min n (min (length a) 8))
+-- so that what is found on the axes and coordinates that are there is all
+pub outside-is : (f : Format) (w : Walls) (a : List Float) (n : ℕ) → length (w .lo) ≡ 8 → length (w .hi) ≡ 8 → {b : Bool} → b ≡ some (beyond w a) (min n (min (length a) 8))
+    → _≡_ {A = Test} (record { holds = b; sound = true }) (testFrom (outside f w a n))
 unfolding outside
-outside-cut w a n hl hh = some-cut (beyond w a) n (min (length a) 8) (λ j h. none-beyond w a j hl hh h)
+outside-is f w a n hl hh e = rw (e ∙ sym (some-cut (beyond w a) n (min (length a) 8) (λ j h. none-beyond w a j hl hh h)))
 
-pub inward-cut : (w : Walls) (a : List Float) (n : ℕ) → length a ≡ 8 → inward w a n ≡ over (λ (j : ℕ). clamped (at a j) (at (w .lo) j) (at (w .hi) j)) a (min n 8)
+pub inward-is : (f : Format) (w : Walls) (a : List Float) (n : ℕ) → length a ≡ 8 → {r : List Float} → r ≡ over (λ (j : ℕ). clamped (at a j) (at (w .lo) j) (at (w .hi) j)) a (min n 8)
+    → _≡_ {A = Row} (record { at = r; sound = true }) (rowFrom (inward f w a n))
 unfolding inward
-inward-cut w a n h = over-cut (λ (j : ℕ). clamped (at a j) (at (w .lo) j) (at (w .hi) j)) a n ∙ ap (λ (m : ℕ). over (λ (j : ℕ). clamped (at a j) (at (w .lo) j) (at (w .hi) j)) a (min n m)) h
+inward-is f w a n h e =
+    let g : ℕ → Float = λ (j : ℕ). clamped (at a j) (at (w .lo) j) (at (w .hi) j) in
+    rw (e ∙ sym (over-cut g a n ∙ ap (λ (m : ℕ). over g a (min n m)) h))
 
 -- ---- one test of the last number tells of each before it
 

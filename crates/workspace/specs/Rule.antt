@@ -1,10 +1,12 @@
--- The workspace, over the format: whether a point is outside, a point moved inside, and the slack that is left. Nothing else reads the walls.
+-- The workspace, over the format: whether a point is outside, a point moved inside, the setpoint at a position, and the slack that is left. Nothing else
+-- reads the walls, and whatever is computed is checked, so that another shape is another case here.
 use Prim.Native.Nat.{ℕ}
 use mathlib.Core.Bool.{Bool, _||_}
 use mathlib.Core.List.{List}
 use lib.Ieee.{Float, Format, lt}
 use Rattle.checked.specs.Each.{at, some, over}
 use Rattle.checked.specs.Least.{lesser}
+use Rattle.checked.specs.Row.{eight}
 use Rattle.fmath.specs.Clamp.{clamped}
 use Rattle.checked.specs.Checked.{Checked, _>>=_, pure, minus, leastOf}
 
@@ -13,19 +15,23 @@ pub record Walls : Type 0 where
   pub lo : List Float
   pub hi : List Float
 
--- ---- where a point lies
+-- ---- where a point lies; at a box nothing is computed to tell
 
 -- coordinate j lies strictly beyond one of its walls
 abbrev pub beyond : Walls → List Float → ℕ → Bool
 beyond w a j = lt (at a j) (at (w .lo) j) || lt (at (w .hi) j) (at a j)
 
 -- one of the first n coordinates does
-unfoldable pub outside : Walls → List Float → ℕ → Bool
-outside w a n = some (beyond w a) n
+unfoldable pub outside : Format → Walls → List Float → ℕ → Checked Bool
+outside f w a n = pure (some (beyond w a) n)
 
 -- the point with its first n coordinates moved inside their walls
-unfoldable pub inward : Walls → List Float → ℕ → List Float
-inward w a n = over (λ (j : ℕ). clamped (at a j) (at (w .lo) j) (at (w .hi) j)) a n
+unfoldable pub inward : Format → Walls → List Float → ℕ → Checked (List Float)
+inward f w a n = pure (over (λ (j : ℕ). clamped (at a j) (at (w .lo) j) (at (w .hi) j)) a n)
+
+-- what stays at a position goes towards: the position, 0.0 where it has no such coordinate, moved inside on the first n
+unfoldable pub setpoint : Format → Walls → List Float → ℕ → Checked (List Float)
+setpoint f w p n = inward f w (eight p 8) n
 
 -- ---- the slack: the least distance to a wall, over the first n coordinates
 

@@ -1,4 +1,5 @@
-// The workspace: whether a point is outside, a point moved inside, and the slack that is left. Nothing else reads the walls.
+// The workspace: whether a point is outside, a point moved inside, the setpoint at a position, and the slack that is left. Nothing else reads
+// the walls.
 ghost use mathlib.Core.Path.{_≡_};
 ghost use mathlib.Core.Bool.{true};
 ghost use Prim.Native.Nat.{ℕ, _≤_, _<_};
@@ -6,10 +7,12 @@ ghost use lib.Ieee.{binary64, add, sub};
 ghost use Rattle.checked.specs.Each.{at};
 ghost use Rattle.checked.specs.Finite.{finite};
 ghost use Rattle.checked.specs.Least.{least};
-ghost use Rattle.checked.specs.Of.{reckonedFrom};
-ghost use Rattle.workspace.specs.Rule.{outside, inward, between, betweenWithin, gap, slack, slackWithin};
+ghost use Rattle.checked.specs.Of.{reckonedFrom, rowFrom, testFrom};
+ghost use Rattle.workspace.specs.Rule.{outside, inward, setpoint, between, betweenWithin, gap, slack, slackWithin};
 ghost use Rattle.workspace.specs.Of.{wallsOf};
 use checked::Reckoned;
+use checked::Row;
+use checked::Test;
 
 // The walls of the box, moved inward by the margin.
 pub struct Workspace {
@@ -18,8 +21,8 @@ pub struct Workspace {
 }
 
 // One of the first n coordinates lies strictly beyond a wall.
-pub fn outside(w: Workspace, a: &[f64], n: usize) -> bool
-    ensures { λ r. ⌜ r ≡ outside (wallsOf w) (now (a .entry)) n ⌝ }
+pub fn outside(w: Workspace, a: &[f64], n: usize) -> Test
+    ensures { λ r. ⌜ r ≡ testFrom (outside binary64 (wallsOf w) (now (a .entry)) n) ⌝ }
 {
     let m = fmath::fewer(n, fmath::fewer(a.len(), 8));
     let mut out = false;
@@ -28,12 +31,15 @@ pub fn outside(w: Workspace, a: &[f64], n: usize) -> bool
         out = out | ((a[j] < w.lo[j]) | (w.hi[j] < a[j]));
         j += 1;
     }
-    out
+    Test {
+        holds: out,
+        sound: true,
+    }
 }
 
 // The point with its first n coordinates moved inside their walls.
-pub fn inward(w: Workspace, a: [f64; 8], n: usize) -> [f64; 8]
-    ensures { λ r. ⌜ r ≡ inward (wallsOf w) a n ⌝ }
+pub fn inward(w: Workspace, a: [f64; 8], n: usize) -> Row
+    ensures { λ r. ⌜ r ≡ rowFrom (inward binary64 (wallsOf w) a n) ⌝ }
 {
     let m = fmath::fewer(n, 8);
     let mut r = a;
@@ -42,7 +48,15 @@ pub fn inward(w: Workspace, a: [f64; 8], n: usize) -> [f64; 8]
         r[j] = fmath::clamp(a[j], w.lo[j], w.hi[j]);
         j += 1;
     }
-    r
+    Row { at: r, sound: true }
+}
+
+// The position, 0.0 where it has no such coordinate, with its first n coordinates moved inside their walls.
+pub fn setpoint(w: Workspace, pos: &[f64], n: usize) -> Row
+    ensures { λ r. ⌜ r ≡ rowFrom (setpoint binary64 (wallsOf w) (now (pos .entry)) n) ⌝ }
+{
+    let p = fmath::padded(pos, 8);
+    inward(w, p, n)
 }
 
 fn gap(lo: f64, hi: f64, p: f64) -> Reckoned
@@ -172,7 +186,7 @@ fn gap_within(r: f64, lo: f64, hi: f64, p: f64) -> Reckoned
     }
 }
 
-// .. with a stopping radius taken off.
+// The slack with a stopping radius taken off.
 pub fn slack_within(w: Workspace, r: f64, p: [f64; 8], n: usize) -> Reckoned
     ensures { λ s. ⌜ s ≡ reckonedFrom (slackWithin binary64 (wallsOf w) r p n) ⌝ }
 {

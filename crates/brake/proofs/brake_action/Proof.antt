@@ -7,8 +7,9 @@ use lib.ListN.{length}
 use lib.Ieee.{binary64}
 use Rattle.conformal.specs.Of.{tables}
 use Rattle.envelope.proofs.Accepted.{compiled-number, compiled-derived}
+use Rattle.brake.specs.Answer.{brakeSent, brakeAnswer, brakeOutput}
 use Rattle.brake.specs.Of.{workspaceFrom}
-use Rattle.brake.proofs.Sending.{sized, brake-refused, brake-unsound, brake-done}
+use Rattle.brake.proofs.Sending.{sized, row-refused, row-unsound, row-done, brake-judged, brake-is-sent}
 use borrow.Author.Needs.{needs}
 use Rattle.brake.proofs.brake_action.Statement.{statement}
 use Rattle.brake.proofs.brake_action.Tie as tie
@@ -32,7 +33,8 @@ of-requires : tie.Need-of-requires
 of-requires c κs = search needs
 
 returns : tie.Need-returns
-returns c = let g = c .before .before .before .before .before .before .before .before .before .args in let w = brake-refused binary64 (g .c) (tables (now (g .center)) (now (g .scale))) (now (g .pos)) (now (g .vel)) (now (g .out)) (either (c .before .before .before .before .all-finite .ensures) (c .before .before .before .all-finite2 .ensures)) (c .before .before .row-refusal .ensures _ (compiled-number (c .before .before .before .before .before .compile .ensures))) (c .before .if1 .taken) (c .of .ensures) in (w .gives, w .leaves)
+unfolding brakeAnswer brakeOutput
+returns c = let g = c .before .before .before .before .before .before .before .before .before .args in let w = row-refused binary64 (g .c) (tables (now (g .center)) (now (g .scale))) (now (g .out)) (either (c .before .before .before .before .all-finite .ensures) (c .before .before .before .all-finite2 .ensures)) (brakeSent binary64 (g .c) (now (g .pos)) (now (g .vel))) (brake-judged binary64 (g .c) (now (g .pos)) (now (g .vel)) (tables (now (g .center)) (now (g .scale))) (length (now (g .out)))) (c .before .before .row-refusal .ensures _ (compiled-number (c .before .before .before .before .before .compile .ensures))) (c .before .if1 .taken) (c .of .ensures) in (w .gives, w .leaves)
 
 workspace-of-requires : tie.Need-workspace-of-requires
 workspace-of-requires c κs = search needs
@@ -44,10 +46,8 @@ of-requires-2 : tie.Need-of-requires-2
 of-requires-2 c κs = search needs
 
 returns-2 : tie.Need-returns-2
-returns-2 c =
-    let g = c .before .before .before .before .before .before .before .before .before .before .before .before .before .args in
-    let w = brake-unsound binary64 (g .c) (tables (now (g .center)) (now (g .scale))) (now (g .pos)) (now (g .vel)) (now (g .out)) (either (c .before .before .before .before .before .before .before .before .all-finite .ensures) (c .before .before .before .before .before .before .before .all-finite2 .ensures)) (sym (c .before .before .before .before .before .before .row-refusal .ensures _ (compiled-number (c .before .before .before .before .before .before .before .before .before .compile .ensures))) ∙ c .before .before .before .before .before .if1 .left) (c .before .before .before .before .workspace-of .ensures ∙ ap workspaceFrom (compiled-derived (c .before .before .before .before .before .before .before .before .before .compile .ensures))) (c .before .before .before .brake-row .ensures) (not-true _ (c .before .if2 .taken)) (c .of2 .ensures) in
-    (w .gives, w .leaves)
+unfolding brakeAnswer brakeOutput
+returns-2 c = let g = c .before .before .before .before .before .before .before .before .before .before .before .before .before .args in let w = row-unsound binary64 (g .c) (tables (now (g .center)) (now (g .scale))) (now (g .out)) (either (c .before .before .before .before .before .before .before .before .all-finite .ensures) (c .before .before .before .before .before .before .before .all-finite2 .ensures)) (brakeSent binary64 (g .c) (now (g .pos)) (now (g .vel))) (brake-judged binary64 (g .c) (now (g .pos)) (now (g .vel)) (tables (now (g .center)) (now (g .scale))) (length (now (g .out)))) (sym (c .before .before .before .before .before .before .row-refusal .ensures _ (compiled-number (c .before .before .before .before .before .before .before .before .before .compile .ensures))) ∙ c .before .before .before .before .before .if1 .left) (brake-is-sent binary64 (g .c) (now (g .pos)) (now (g .vel)) (c .before .before .before .before .workspace-of .ensures ∙ ap workspaceFrom (compiled-derived (c .before .before .before .before .before .before .before .before .before .compile .ensures))) (c .before .before .before .brake-row .ensures)) (not-true _ (c .before .if2 .taken)) (c .of2 .ensures) in (w .gives, w .leaves)
 
 slice-aggregate-put : tie.Need-slice-aggregate-put
 slice-aggregate-put c = search needs
@@ -63,10 +63,8 @@ long : (c : tie.After-put) → length (c .before .before .before .before .before
 long c = search needs
 
 returns-3 : tie.Need-returns-3
-returns-3 c =
-    let g = c .before .before .before .before .before .before .before .before .before .before .before .before .before .before .before .before .before .before .args in
-    let w = brake-done binary64 (g .c) (tables (now (g .center)) (now (g .scale))) (now (g .pos)) (now (g .vel)) (now (g .out)) (either (c .before .before .before .before .before .before .before .before .before .before .before .before .before .all-finite .ensures) (c .before .before .before .before .before .before .before .before .before .before .before .before .all-finite2 .ensures)) (sym (c .before .before .before .before .before .before .before .before .before .before .before .row-refusal .ensures _ (compiled-number (c .before .before .before .before .before .before .before .before .before .before .before .before .before .before .compile .ensures))) ∙ c .before .before .before .before .before .before .before .before .before .before .if1 .left) (c .before .before .before .before .before .before .before .before .before .workspace-of .ensures ∙ ap workspaceFrom (compiled-derived (c .before .before .before .before .before .before .before .before .before .before .before .before .before .before .compile .ensures))) (c .before .before .before .before .before .before .before .before .brake-row .ensures) (not-false _ (c .before .before .before .before .before .before .if2 .left)) (long (c .before .before)) (c .before .before .put .ensures) in
-    (w .gives, w .leaves)
+unfolding brakeAnswer brakeOutput
+returns-3 c = let g = c .before .before .before .before .before .before .before .before .before .before .before .before .before .before .before .before .before .before .args in let w = row-done binary64 (g .c) (tables (now (g .center)) (now (g .scale))) (now (g .out)) (either (c .before .before .before .before .before .before .before .before .before .before .before .before .before .all-finite .ensures) (c .before .before .before .before .before .before .before .before .before .before .before .before .all-finite2 .ensures)) (brakeSent binary64 (g .c) (now (g .pos)) (now (g .vel))) (brake-judged binary64 (g .c) (now (g .pos)) (now (g .vel)) (tables (now (g .center)) (now (g .scale))) (length (now (g .out)))) (sym (c .before .before .before .before .before .before .before .before .before .before .before .row-refusal .ensures _ (compiled-number (c .before .before .before .before .before .before .before .before .before .before .before .before .before .before .compile .ensures))) ∙ c .before .before .before .before .before .before .before .before .before .before .if1 .left) (brake-is-sent binary64 (g .c) (now (g .pos)) (now (g .vel)) (c .before .before .before .before .before .before .before .before .before .workspace-of .ensures ∙ ap workspaceFrom (compiled-derived (c .before .before .before .before .before .before .before .before .before .before .before .before .before .before .compile .ensures))) (c .before .before .before .before .before .before .before .before .brake-row .ensures)) (not-false _ (c .before .before .before .before .before .before .if2 .left)) (long (c .before .before)) (c .before .before .put .ensures) in (w .gives, w .leaves)
 
 pub brake-action-spec : {M : Type 1} → statement M
 brake-action-spec =

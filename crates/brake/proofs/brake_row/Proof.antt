@@ -1,9 +1,7 @@
 -- `brake::brake_row` meets its contract: by the kind of action.
-use mathlib.Core.List.{List}
 use mathlib.Core.Path.{sym, ap, _∙_}
 use denote.Ref.{now}
-use lib.Ieee.{Float, binary64}
-use Rattle.checked.specs.Checked.{pure}
+use lib.Ieee.{binary64}
 use Rattle.workspace.specs.Of.{wallsOf}
 use Rattle.brake.specs.Rule.{brakeRow}
 use Rattle.checked.specs.Of.{rowFrom}
@@ -38,7 +36,7 @@ returns-2 c = rw (c .before .enum-told2 .given .1, c .shorter .ensures)
 returns-3 : tie.Need-returns-3
 returns-3 c =
     let s = c .before .before .before .before .args in
-    ap (λ (l : List Float). rowFrom (pure l)) (c .setpoint .ensures)
+    c .setpoint .ensures
     ∙ sym (ap rowFrom (position-brakes (wallsOf (s .w)) (now (s .pos)) (s .n) binary64 (s .a-max) (s .dt) (now (s .vel)) (s .kind) (c .before .match .keys3)))
 
 pub brake-row-spec : {M : Type 1} → statement M

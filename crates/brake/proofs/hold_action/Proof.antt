@@ -1,13 +1,15 @@
--- `brake::hold_action` meets its contract: refused before the row is made, or written.
+-- `brake::hold_action` meets its contract: refused before the row is made, refused by a computed number, or written.
 use mathlib.Core.Path.{_≡_, sym, ap, _∙_}
 use mathlib.Core.Bool.{not}
+use borrow.Author.Tests.{not-true, not-false}
 use denote.Ref.{now}
 use lib.ListN.{length}
 use lib.Ieee.{binary64}
 use Rattle.conformal.specs.Of.{tables}
 use Rattle.envelope.proofs.Accepted.{compiled-number, compiled-derived}
+use Rattle.brake.specs.Answer.{holdSent, holdAnswer, holdOutput}
 use Rattle.brake.specs.Of.{workspaceFrom}
-use Rattle.brake.proofs.Sending.{hold-refused, hold-done}
+use Rattle.brake.proofs.Sending.{row-refused, row-unsound, row-done, hold-judged, hold-is-sent}
 use borrow.Author.Needs.{needs}
 use Rattle.brake.proofs.hold_action.Statement.{statement}
 use Rattle.brake.proofs.hold_action.Tie as tie
@@ -25,13 +27,21 @@ of-requires : tie.Need-of-requires
 of-requires c κs = search needs
 
 returns : tie.Need-returns
-returns c = let g = c .before .before .before .before .before .before .before .args in let w = hold-refused binary64 (g .c) (tables (now (g .center)) (now (g .scale))) (now (g .pos)) (now (g .out)) (ap not (c .before .before .before .all-finite .ensures)) (c .before .before .row-refusal .ensures _ (compiled-number (c .before .before .before .before .compile .ensures))) (c .before .if1 .taken) (c .of .ensures) in (w .gives, w .leaves)
+unfolding holdAnswer holdOutput
+returns c = let g = c .before .before .before .before .before .before .before .args in let w = row-refused binary64 (g .c) (tables (now (g .center)) (now (g .scale))) (now (g .out)) (ap not (c .before .before .before .all-finite .ensures)) (holdSent binary64 (g .c) (now (g .pos))) (hold-judged binary64 (g .c) (now (g .pos)) (tables (now (g .center)) (now (g .scale))) (length (now (g .out)))) (c .before .before .row-refusal .ensures _ (compiled-number (c .before .before .before .before .compile .ensures))) (c .before .if1 .taken) (c .of .ensures) in (w .gives, w .leaves)
 
 workspace-of-requires : tie.Need-workspace-of-requires
 workspace-of-requires c κs = search needs
 
 hold-row-requires : tie.Need-hold-row-requires
 hold-row-requires c κs = search needs
+
+of-requires-2 : tie.Need-of-requires-2
+of-requires-2 c κs = search needs
+
+returns-2 : tie.Need-returns-2
+unfolding holdAnswer holdOutput
+returns-2 c = let g = c .before .before .before .before .before .before .before .before .before .before .before .args in let w = row-unsound binary64 (g .c) (tables (now (g .center)) (now (g .scale))) (now (g .out)) (ap not (c .before .before .before .before .before .before .before .all-finite .ensures)) (holdSent binary64 (g .c) (now (g .pos))) (hold-judged binary64 (g .c) (now (g .pos)) (tables (now (g .center)) (now (g .scale))) (length (now (g .out)))) (sym (c .before .before .before .before .before .before .row-refusal .ensures _ (compiled-number (c .before .before .before .before .before .before .before .before .compile .ensures))) ∙ c .before .before .before .before .before .if1 .left) (hold-is-sent binary64 (g .c) (now (g .pos)) (c .before .before .before .before .workspace-of .ensures ∙ ap workspaceFrom (compiled-derived (c .before .before .before .before .before .before .before .before .compile .ensures))) (c .before .before .before .hold-row .ensures)) (not-true _ (c .before .if2 .taken)) (c .of2 .ensures) in (w .gives, w .leaves)
 
 slice-aggregate-put : tie.Need-slice-aggregate-put
 slice-aggregate-put c = search needs
@@ -43,14 +53,12 @@ same-length : tie.Need-same-length
 same-length c = search needs
 
 -- the row has eight numbers
-long : (c : tie.After-put) → length (c .before .before .before .hold-row .result) ≡ 8
+long : (c : tie.After-put) → length (c .before .before .before .before .before .before .hold-row .result .at) ≡ 8
 long c = search needs
 
-returns-2 : tie.Need-returns-2
-returns-2 c =
-    let g = c .before .before .before .before .before .before .before .before .before .before .before .before .before .args in
-    let w = hold-done binary64 (g .c) (tables (now (g .center)) (now (g .scale))) (now (g .pos)) (now (g .out)) (ap not (c .before .before .before .before .before .before .before .before .before .all-finite .ensures)) (sym (c .before .before .before .before .before .before .before .before .row-refusal .ensures _ (compiled-number (c .before .before .before .before .before .before .before .before .before .before .compile .ensures))) ∙ c .before .before .before .before .before .before .before .if1 .left) (c .before .before .before .before .before .before .workspace-of .ensures ∙ ap workspaceFrom (compiled-derived (c .before .before .before .before .before .before .before .before .before .before .compile .ensures))) (c .before .before .before .before .before .hold-row .ensures) (long (c .before .before)) (c .before .before .put .ensures) in
-    (w .gives, w .leaves)
+returns-3 : tie.Need-returns-3
+unfolding holdAnswer holdOutput
+returns-3 c = let g = c .before .before .before .before .before .before .before .before .before .before .before .before .before .before .before .before .args in let w = row-done binary64 (g .c) (tables (now (g .center)) (now (g .scale))) (now (g .out)) (ap not (c .before .before .before .before .before .before .before .before .before .before .before .before .all-finite .ensures)) (holdSent binary64 (g .c) (now (g .pos))) (hold-judged binary64 (g .c) (now (g .pos)) (tables (now (g .center)) (now (g .scale))) (length (now (g .out)))) (sym (c .before .before .before .before .before .before .before .before .before .before .before .row-refusal .ensures _ (compiled-number (c .before .before .before .before .before .before .before .before .before .before .before .before .before .compile .ensures))) ∙ c .before .before .before .before .before .before .before .before .before .before .if1 .left) (hold-is-sent binary64 (g .c) (now (g .pos)) (c .before .before .before .before .before .before .before .before .before .workspace-of .ensures ∙ ap workspaceFrom (compiled-derived (c .before .before .before .before .before .before .before .before .before .before .before .before .before .compile .ensures))) (c .before .before .before .before .before .before .before .before .hold-row .ensures)) (not-false _ (c .before .before .before .before .before .before .if2 .left)) (long (c .before .before)) (c .before .before .put .ensures) in (w .gives, w .leaves)
 
 pub hold-action-spec : {M : Type 1} → statement M
 hold-action-spec =
@@ -63,7 +71,9 @@ hold-action-spec =
     returns
     workspace-of-requires
     hold-row-requires
+    of-requires-2
+    returns-2
     slice-aggregate-put
     put-requires
     same-length
-    returns-2)
+    returns-3)

@@ -1,7 +1,8 @@
 -- `brake::hold_row` meets its contract: by the kind of action.
-use mathlib.Core.Path.{sym, _∙_}
+use mathlib.Core.Path.{sym, ap, _∙_}
 use denote.Ref.{now}
-use lib.Ieee.{ofBits}
+use lib.Ieee.{binary64, ofBits}
+use Rattle.checked.specs.Of.{rowFrom}
 use Rattle.workspace.specs.Of.{wallsOf}
 use Rattle.brake.specs.Rule.{holdRow}
 use Rattle.brake.proofs.Sending.{position-holds}
@@ -27,7 +28,7 @@ unfolding holdRow ofBits
 returns-2 c = rw (c .enum-told2 .given .1)
 
 returns-3 : tie.Need-returns-3
-returns-3 c = let s = c .before .before .before .args in c .setpoint .ensures ∙ sym (position-holds (wallsOf (s .w)) (now (s .pos)) (s .n) (s .kind) (c .before .match .keys3))
+returns-3 c = let s = c .before .before .before .args in c .setpoint .ensures ∙ sym (ap rowFrom (position-holds (wallsOf (s .w)) (now (s .pos)) (s .n) binary64 (s .kind) (c .before .match .keys3)))
 
 pub hold-row-spec : {M : Type 1} → statement M
 hold-row-spec =

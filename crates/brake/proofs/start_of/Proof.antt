@@ -1,7 +1,7 @@
 -- `brake::start_of` meets its contract: both on the axes that move.
 use native.Mathlib.Omega.{arith}
 use denote.Ref.{now}
-use Rattle.brake.proofs.Eight.{eight-is}
+use Rattle.checked.proofs.Copy.{eight-is}
 use borrow.Author.Needs.{needs}
 use Rattle.brake.proofs.start_of.Statement.{statement}
 use Rattle.brake.proofs.start_of.Tie as tie

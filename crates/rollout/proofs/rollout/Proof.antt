@@ -9,6 +9,7 @@ use borrow.Author.Tests.{not-true, not-false}
 use denote.Ref.{now}
 use lib.ListN.{length}
 use lib.Ieee.{binary64, ofBits, div}
+use Rattle.checked.specs.declared.Row.{Row}
 use Rattle.workspace.specs.Rule.{inward}
 use Rattle.workspace.specs.Of.{wallsOf}
 use Rattle.course.specs.Plant.{State}
@@ -55,11 +56,11 @@ slice-aggregate-hold c = search needs
 
 hold-requires : tie.Need-hold-requires
 hold-requires c κs =
-    let s = c .before .before .before .before .before .before .before .before .before .before .before .before .before .before .args .c in
-    let r = room (c .before .before .before .before .before .before .before .before .before .before) in
+    let s = c .before .before .before .before .before .before .before .before .before .before .before .before .before .before .before .args .c in
+    let r = room (c .before .before .before .before .before .before .before .before .before .before .before) in
     let axes = shape-of _ _ (r .0) .axes in
-    let long : length (c .before .before .before .inward .result) ≡ 8 = search needs in
-    (axes, omega (arith, long, axes), omega (arith, r .1, add-mul (leftOf s .0) (s .brake .0) (s .per .0), c .before .before .before .before .before .before .before .before .push .ensures .0, c .before .before .substeps-in .ensures, c .before .before .before .before .before .before .before .before .push .kept .1 .1 .1 .1 .1 .0))
+    let long : length (c .before .before .before .before .inward .result .at) ≡ 8 = search needs in
+    (axes, omega (arith, long, axes), omega (arith, r .1, add-mul (leftOf s .0) (s .brake .0) (s .per .0), c .before .before .before .before .before .before .before .before .before .push .ensures .0, c .before .before .substeps-in .ensures, c .before .before .before .before .before .before .before .before .before .push .kept .1 .1 .1 .1 .1 .0))
 
 same-length : tie.Need-same-length
 same-length c = search needs
@@ -73,25 +74,25 @@ whole : (s : tie.Start) → pushes (task s) + (0 + s .args .c .brake .0) * s .ar
 whole s = ap (λ (b : ℕ). pushes (task s) + b * s .args .c .per .0) (zero-add (s .args .c .brake .0)) ∙ sym (add-mul (leftOf (s .args .c) .0) (s .args .c .brake .0) (s .args .c .per .0))
 
 -- where the rows leave the plant, the setpoint is made
-towards-setpoint : (c : tie.After-hold) → Towards binary64 (task (c .before .before .before .before .before .before .before .before .before .before .before .before .before .before .before)) (pushes (task (c .before .before .before .before .before .before .before .before .before .before .before .before .before .before .before))) (c .before .before .before .substeps-in .result) (c .before .before .before .before .inward .result) (c .before .before .before .before .before .before .before .before .before .push .result)
+towards-setpoint : (c : tie.After-hold) → Towards binary64 (task (c .before .before .before .before .before .before .before .before .before .before .before .before .before .before .before .before)) (pushes (task (c .before .before .before .before .before .before .before .before .before .before .before .before .before .before .before .before))) (c .before .before .before .substeps-in .result) (c .before .before .before .before .before .inward .result .at) (c .before .before .before .before .before .before .before .before .before .before .push .result)
 towards-setpoint c e j b =
-    let s = c .before .before .before .before .before .before .before .before .before .before .before .before .before .before .before in
+    let s = c .before .before .before .before .before .before .before .before .before .before .before .before .before .before .before .before in
     aims-setpoint binary64 (task s) (pushes (task s) + j) (omega arith)
-    ∙ ap (λ (q : State). inward (wallsOf (s .args .w)) (q .p) (s .args .c .live)) (sym (stands-at (forecast binary64 (task s)) (after binary64 (task s)) (now (s .args .slack)) (pushes (task s)) (c .before .before .before .before .before .before .before .before .before .push .result) (c .before .before .before .before .before .before .before .before .before .push .last .1 .1 .1 .1 .1 .0) (along-rows (c .before .before .before .before .before .before .before .before .before)) e))
-    ∙ sym (c .before .before .before .before .inward .ensures)
+    ∙ ap (λ (q : State). inward binary64 (wallsOf (s .args .w)) (q .p) (s .args .c .live) .value) (sym (stands-at (forecast binary64 (task s)) (after binary64 (task s)) (now (s .args .slack)) (pushes (task s)) (c .before .before .before .before .before .before .before .before .before .before .push .result) (c .before .before .before .before .before .before .before .before .before .before .push .last .1 .1 .1 .1 .1 .0) (along-rows (c .before .before .before .before .before .before .before .before .before .before)) e))
+    ∙ sym (ap (λ (r : Row). r .at) (c .before .before .before .before .before .inward .ensures))
 
-along-whole : (c : tie.After-hold) → Along binary64 (task (c .before .before .before .before .before .before .before .before .before .before .before .before .before .before .before)) (now (c .before .before .before .before .before .before .before .before .before .before .before .before .before .before .before .args .slack)) (total (task (c .before .before .before .before .before .before .before .before .before .before .before .before .before .before .before))) (c .hold .result) (c .hold .last .1 .1 .1 .1 .1 .1 .0)
+along-whole : (c : tie.After-hold) → Along binary64 (task (c .before .before .before .before .before .before .before .before .before .before .before .before .before .before .before .before)) (now (c .before .before .before .before .before .before .before .before .before .before .before .before .before .before .before .before .args .slack)) (total (task (c .before .before .before .before .before .before .before .before .before .before .before .before .before .before .before .before))) (c .hold .result) (c .hold .last .1 .1 .1 .1 .1 .1 .0)
 along-whole c =
-    let s = c .before .before .before .before .before .before .before .before .before .before .before .before .before .before .before in
+    let s = c .before .before .before .before .before .before .before .before .before .before .before .before .before .before .before .before in
     along-at (forecast binary64 (task s)) (after binary64 (task s)) (now (s .args .slack)) (total (task s)) (c .hold .result) (c .hold .last .1 .1 .1 .1 .1 .1 .0) (pushes (task s) + c .before .before .before .substeps-in .result)
     (ap (λ (n : ℕ). pushes (task s) + n) (c .before .before .before .substeps-in .ensures) ∙ whole s)
-    (c .hold .ensures .1 (task s) (now (s .args .slack)) (pushes (task s)) (record { gains = refl; walls = refl; live = refl }) (along-rows (c .before .before .before .before .before .before .before .before .before)) (towards-setpoint c))
+    (c .hold .ensures .1 (task s) (now (s .args .slack)) (pushes (task s)) (record { gains = refl; walls = refl; live = refl }) (along-rows (c .before .before .before .before .before .before .before .before .before .before)) (towards-setpoint c))
 
 returns-2 : tie.Need-returns-2
 returns-2 c =
-    let s = c .before .before .before .before .before .before .before .before .before .before .before .before .before .before .before .before .before in
+    let s = c .before .before .before .before .before .before .before .before .before .before .before .before .before .before .before .before .before .before in
     let a = along-whole (c .before .before) in
-    rw (has-room (c .before .before .before .before .before .before .before .before .before .before .before .before .before)) (run-is (forecast binary64 (task s)) (after binary64 (task s)) (now (s .args .slack)) _ _ a, written-is (forecast binary64 (task s)) (after binary64 (task s)) (now (s .args .slack)) _ _ a)
+    rw (has-room (c .before .before .before .before .before .before .before .before .before .before .before .before .before .before)) (run-is (forecast binary64 (task s)) (after binary64 (task s)) (now (s .args .slack)) _ _ a, written-is (forecast binary64 (task s)) (after binary64 (task s)) (now (s .args .slack)) _ _ a)
 
 pub rollout-spec : {M : Type 1} → statement M
 rollout-spec = tie.close (tie.spec roomy-requires returns push-requires inward-requires substeps-in-requires slice-aggregate-hold hold-requires same-length returns-2)

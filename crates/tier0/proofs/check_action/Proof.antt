@@ -27,7 +27,7 @@ checks-of-requires : tie.Need-checks-of-requires
 checks-of-requires c κs = search needs
 
 judge-action-requires : tie.Need-judge-action-requires
-judge-action-requires c κs = let g = c .before .before .before .before .before .before .before .before .before .args in sized-checks binary64 (g .c) (now (g .pos)) (now (g .prev)) (now (g .a)) _ (checks-are binary64 (g .c) (c .checks-of .ensures) (compiled-derived (c .before .before .before .compile .ensures))) (accepted-sizes binary64 (g .c) (tables (now (g .center)) (now (g .scale))) (now (g .pos)) (now (g .aux)) (now (g .prev)) (now (g .a)) _ (sym (c .before .before .action-refusal .ensures _ (compiled-number (c .before .before .before .compile .ensures))) ∙ c .before .if1 .left))
+judge-action-requires c κs = let g = c .before .before .before .before .before .before .before .before .before .args in sized-checks binary64 (g .c) (now (g .a)) _ (checks-are binary64 (g .c) (c .checks-of .ensures) (compiled-derived (c .before .before .before .compile .ensures))) (accepted-sizes binary64 (g .c) (tables (now (g .center)) (now (g .scale))) (now (g .pos)) (now (g .aux)) (now (g .prev)) (now (g .a)) _ (sym (c .before .before .action-refusal .ensures _ (compiled-number (c .before .before .before .compile .ensures))) ∙ c .before .if1 .left))
 
 of-requires-2 : tie.Need-of-requires-2
 of-requires-2 c κs = search needs

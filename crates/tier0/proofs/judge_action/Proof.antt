@@ -31,10 +31,10 @@ trip-bits-requires : tie.Need-trip-bits-requires
 trip-bits-requires c κs = search needs
 
 projection-requires : tie.Need-projection-requires
-projection-requires c κs = let w = c .before .before .before .before .before .before .before .before .before .before .before .before .before .before .before .before .pre in (w .0, w .2, w .3)
+projection-requires c κs = c .before .before .before .before .before .before .before .before .before .before .before .before .before .before .before .before .pre .0
 
 returns : tie.Need-returns
-returns c = judge-is binary64 _ _ _ _ _ (c .before .before .before .before .before .before .before .before .before .before .before .before .before .before .before .before .slow-zone .ensures) (c .before .before .before .before .before .before .before .before .before .before .before .before .before .before .before .distance .ensures) (c .before .before .before .before .before .before .before .before .before .before .before .before .before .finite .ensures) (c .before .before .before .before .before .before .before .before .before .before .before .before .out-of-box .ensures) (c .before .before .before .before .before .before .before .before .before .before .before .out-of-reach .ensures) (all-padded _ (c .before .before .before .before .before .before .before .before .before .before .before .before .before .before .before .before .before .before .before .before .before .pre .0) (c .before .before .before .before .before .before .before .before .before .before .before .before .before .before .before .before .before .before .before .before .before .pre .1) (c .before .before .before .before .before .before .before .before .before .before .padded .ensures)) (c .before .before .before .before .before .before .before .before .before .armed .ensures) (c .before .before .before .before .before .trip-bits .ensures) (c .before .before .before .before .projection .ensures)
+returns c = judge-is binary64 _ _ _ _ _ (c .before .before .before .before .before .before .before .before .before .before .before .before .before .before .before .before .before .slow-zone .ensures) (c .before .before .before .before .before .before .before .before .before .before .before .before .before .before .before .before .distance .ensures) (c .before .before .before .before .before .before .before .before .before .before .before .before .before .before .finite .ensures) (c .before .before .before .before .before .before .before .before .before .before .before .before .before .out-of-box .ensures) (c .before .before .before .before .before .before .before .before .before .before .before .before .out-of-reach .ensures) (all-padded _ (c .before .before .before .before .before .before .before .before .before .before .before .before .before .before .before .before .before .before .before .before .before .before .pre .0) (c .before .before .before .before .before .before .before .before .before .before .before .before .before .before .before .before .before .before .before .before .before .before .pre .1) (c .before .before .before .before .before .before .before .before .before .before .before .padded .ensures)) (c .before .before .before .before .before .before .before .before .before .before .armed .ensures) (c .before .before .before .before .before .before .trip-bits .ensures) (c .before .before .before .before .before .projection .ensures)
 
 pub judge-action-spec : {M : Type 1} → statement M
 judge-action-spec = tie.close (tie.spec slow-zone-requires distance-requires finite-requires out-of-box-requires out-of-reach-requires padded-requires armed-requires trip-bits-requires projection-requires returns)

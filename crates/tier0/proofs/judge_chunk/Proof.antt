@@ -41,13 +41,13 @@ trip-bits-requires : tie.Need-trip-bits-requires
 trip-bits-requires c κs = search needs
 
 projected-rows-requires : tie.Need-projected-rows-requires
-projected-rows-requires c κs = let w = c .before .before .before .before .before .before .before .before .before .before .before .before .before .before .before .before .before .before .before .before .before .pre in (w .0, w .1, w .3, w .4, w .5)
+projected-rows-requires c κs = let w = c .before .before .before .before .before .before .before .before .before .before .before .before .before .before .before .before .before .before .before .before .before .pre in (w .0, w .3, w .4, w .5)
 
 same-length : tie.Need-same-length
 same-length c = search needs
 
 returns : tie.Need-returns
-returns c = judge-chunk-is binary64 _ _ _ _ _ _ (c .before .before .before .before .before .before .before .before .before .before .before .before .before .before .before .before .before .before .before .before .before .before .before .before .before .slow-zone .ensures) (c .before .before .before .before .before .before .before .before .before .before .before .before .before .before .before .before .before .before .before .before .before .before .before .before .start-row .ensures) (c .before .before .before .before .before .before .before .before .before .before .before .before .before .before .before .before .before .before .before .before .before .before .before .step-rows .ensures) (c .before .before .before .before .before .before .before .before .before .before .before .before .before .before .before .before .before .before .before .before .finite .ensures) (c .before .before .before .before .before .before .before .before .before .before .before .before .before .before .before .before .before .before .before .too-large .ensures) (c .before .before .before .before .before .before .before .before .before .before .before .before .before .before .before .before .before .before .too-large2 .ensures) (c .before .before .before .before .before .before .before .before .before .before .before .before .before .before .before .before .before .raw-row .ensures) (c .before .before .before .before .before .before .before .before .before .before .before .before .before .before .before .out-of-reach .ensures) (c .before .before .before .before .before .before .before .before .before .before .before .before .before .before .armed .ensures) (c .before .before .before .before .before .before .before .before .before .before .trip-bits .ensures) (c .before .before .before .before .before .before .before .before .projected-rows .ensures)
+returns c = judge-chunk-is binary64 _ _ _ _ _ _ (c .before .before .before .before .before .before .before .before .before .before .before .before .before .before .before .before .before .before .before .before .before .before .before .before .before .before .slow-zone .ensures) (c .before .before .before .before .before .before .before .before .before .before .before .before .before .before .before .before .before .before .before .before .before .before .before .before .before .start-row .ensures) (c .before .before .before .before .before .before .before .before .before .before .before .before .before .before .before .before .before .before .before .before .before .before .before .before .step-rows .ensures) (c .before .before .before .before .before .before .before .before .before .before .before .before .before .before .before .before .before .before .before .before .before .finite .ensures) (c .before .before .before .before .before .before .before .before .before .before .before .before .before .before .before .before .before .before .before .before .too-large .ensures) (c .before .before .before .before .before .before .before .before .before .before .before .before .before .before .before .before .before .before .before .too-large2 .ensures) (c .before .before .before .before .before .before .before .before .before .before .before .before .before .before .before .before .before .before .raw-row .ensures) (c .before .before .before .before .before .before .before .before .before .before .before .before .before .before .before .before .out-of-reach .ensures) (c .before .before .before .before .before .before .before .before .before .before .before .before .before .before .before .armed .ensures) (c .before .before .before .before .before .before .before .before .before .before .before .trip-bits .ensures) (c .before .before .before .before .before .before .before .before .before .projected-rows .ensures)
 
 pub judge-chunk-spec : {M : Type 1} → statement M
 judge-chunk-spec =

@@ -1,13 +1,14 @@
 -- `workspace::inward` meets its contract: nothing is put past the eighth axis, and the loop puts one coordinate a turn.
 use Prim.Native.Nat.{ℕ, _-_, _≤_, min}
-use mathlib.Core.Path.{_≡_, refl, sym, ap, _∙_}
+use mathlib.Core.Path.{_≡_, refl, ap, _∙_}
 use native.Mathlib.Omega.{arith}
 use borrow.Author.Needs.{needs}
+use lib.Ieee.{binary64}
 use Rattle.checked.specs.Each.{at, over}
 use Rattle.fmath.specs.Clamp.{clamped}
 use Rattle.checked.proofs.Each.{over-more}
 use Rattle.workspace.specs.Of.{wallsOf}
-use Rattle.workspace.proofs.Gaps.{inward-cut}
+use Rattle.workspace.proofs.Gaps.{inward-is}
 use Rattle.workspace.proofs.inward.Statement.{statement}
 use Rattle.workspace.proofs.inward.Tie as tie
 
@@ -68,7 +69,7 @@ returns c =
     let l = c .before .loop in
     let s = c .before .before .before .args in
     let e : l .j ≡ min (s .n) 8 = omega (arith, c .before .before .fewer .ensures) in
-    l .inv .2 ∙ ap (over (λ (i : ℕ). clamped (at (s .t2) i) (at (s .t1 .lo) i) (at (s .t1 .hi) i)) (s .t2)) e ∙ sym (inward-cut (wallsOf (s .t1)) (s .t2) (s .n) (search needs))
+    inward-is binary64 (wallsOf (s .t1)) (s .t2) (s .n) (search needs) (l .inv .2 ∙ ap (over (λ (i : ℕ). clamped (at (s .t2) i) (at (s .t1 .lo) i) (at (s .t1 .hi) i)) (s .t2)) e)
 
 pub inward-spec : {M : Type 1} → statement M
 inward-spec =

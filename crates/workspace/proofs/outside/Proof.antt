@@ -1,15 +1,16 @@
 -- `workspace::outside` meets its contract: from the eighth axis and the last coordinate on none lies beyond, and the loop keeps the answer so far.
 use Prim.Native.Nat.{_-_, _≤_, min}
-use mathlib.Core.Path.{_≡_, refl, sym, ap, _∙_}
+use mathlib.Core.Path.{_≡_, refl, ap, _∙_}
 use native.Mathlib.Omega.{arith}
 use borrow.Author.Needs.{needs}
 use denote.Ref.{now}
 use lib.ListN.{length}
+use lib.Ieee.{binary64}
 use Rattle.checked.specs.Each.{some}
 use Rattle.checked.proofs.Each.{some-more}
 use Rattle.workspace.specs.Rule.{beyond}
 use Rattle.workspace.specs.Of.{wallsOf}
-use Rattle.workspace.proofs.Gaps.{outside-cut}
+use Rattle.workspace.proofs.Gaps.{outside-is}
 use Rattle.workspace.proofs.outside.Statement.{statement}
 use Rattle.workspace.proofs.outside.Tie as tie
 
@@ -70,7 +71,7 @@ returns c =
     let l = c .before .loop in
     let s = c .before .before .before .before .before .args in
     let e : l .j ≡ min (s .n) (min (length (now (s .a))) 8) = omega (arith, c .before .before .fewer2 .ensures, c .before .before .before .fewer .ensures) in
-    l .inv .3 ∙ ap (some (beyond (wallsOf (s .t1)) (now (s .a)))) e ∙ sym (outside-cut (wallsOf (s .t1)) (now (s .a)) (s .n) (search needs) (search needs))
+    outside-is binary64 (wallsOf (s .t1)) (now (s .a)) (s .n) (search needs) (search needs) (l .inv .3 ∙ ap (some (beyond (wallsOf (s .t1)) (now (s .a)))) e)
 
 pub outside-spec : {M : Type 1} → statement M
 outside-spec =

@@ -15,10 +15,10 @@ reached-requires : tie.Need-reached-requires
 reached-requires c κs = search needs
 
 returns : tie.Need-returns
-returns c = first-row binary64 _ _ _ _ _ (c .before .before .before .before .before .before .before .boxed .ensures) (c .before .before .before .before .before .before .leashed .ensures) (c .before .before .before .before .if1 .taken) (c .before .before .before .reached .ensures)
+returns c = first-row binary64 _ _ _ _ _ (c .before .before .before .before .before .before .before .before .before .boxed .ensures) (c .before .before .before .before .before .before .before .leashed .ensures) (c .before .before .before .before .before .if1 .taken) (c .before .before .before .before .reached .ensures)
 
 returns-2 : tie.Need-returns-2
-returns-2 c = later-row binary64 _ _ _ _ _ (c .before .before .before .boxed .ensures) (c .before .before .leashed .ensures) (c .if1 .left)
+returns-2 c = later-row binary64 _ _ _ _ _ (c .before .before .before .before .before .before .boxed .ensures) (c .before .before .before .before .leashed .ensures) (c .before .before .if1 .left)
 
 pub moves-spec : {M : Type 1} → statement M
 moves-spec = tie.close (tie.spec boxed-requires leashed-requires reached-requires returns returns-2)

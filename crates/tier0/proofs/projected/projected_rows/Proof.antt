@@ -13,7 +13,7 @@ enum-told : tie.Need-enum-told
 enum-told c = search needs
 
 mul-put : tie.Need-mul-put
-mul-put c = let w = c .before .before .before .before .before .before in let h = size-small (w .args .h) (w .args .s .dim) (w .pre .2) (w .pre .0) in omega arith
+mul-put c = let w = c .before .before .before .before .before .before in let h = size-small (w .args .h) (w .args .s .dim) (w .pre .1) (w .pre .0) in omega arith
 
 put-requires : tie.Need-put-requires
 put-requires c κs = search needs
@@ -28,7 +28,7 @@ same-length : tie.Need-same-length
 same-length c = search needs
 
 returns : tie.Need-returns
-returns c = let w = c .before .before .before .before .before .before .before .before .before .before in rows-off binary64 _ _ _ _ _ _ _ _ (c .before .before .before .before .before .enum-told .given .1) (all-put (now (w .args .out)) (now (w .args .rows)) (w .pre .3) (w .pre .4) (c .before .before .put .ensures))
+returns c = let w = c .before .before .before .before .before .before .before .before .before .before in rows-off binary64 _ _ _ _ _ _ _ _ (c .before .before .before .before .before .enum-told .given .1) (all-put (now (w .args .out)) (now (w .args .rows)) (w .pre .2) (w .pre .3) (c .before .before .put .ensures))
 
 same-length-2 : tie.Need-same-length-2
 same-length-2 c = search needs

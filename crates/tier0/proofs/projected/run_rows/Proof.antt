@@ -23,22 +23,22 @@ loop-holds : tie.Need-loop-holds Inv-loop μ-loop
 loop-holds c = (search needs, (refl, begun binary64 _ _ _ _ _ _))
 
 raw-row-requires : tie.Need-raw-row-requires Inv-loop μ-loop
-raw-row-requires c κs = let g = c .before .before .before .before .before in (g .pre .0, omega (arith, c .loop-test .taken, g .pre .2), row-fits _ _ _ _ (c .loop-test .taken) (g .pre .3))
+raw-row-requires c κs = let g = c .before .before .before .before .before in (g .pre .0, omega (arith, c .loop-test .taken, g .pre .1), row-fits _ _ _ _ (c .loop-test .taken) (g .pre .2))
 
 next-row-requires : tie.Need-next-row-requires Inv-loop μ-loop
-next-row-requires c κs = let g = c .before .before .before .before .before .before in (g .pre .0, g .pre .1)
+next-row-requires c κs = search needs
 
 moved-requires : tie.Need-moved-requires Inv-loop μ-loop
 moved-requires c κs = c .before .before .before .before .before .before .before .before .before .before .pre .0
 
 mul-put-row : tie.Need-mul-put-row Inv-loop μ-loop
-mul-put-row c = let w = c .before .before .before .before .before .before .before .before .before .before .before in let h = size-small (c .before .before .before .before .before .before .before .loop .i) (w .args .s .dim) (omega (arith, c .before .before .before .before .before .before .loop-test .taken, w .pre .2)) (w .pre .0) in omega arith
+mul-put-row c = let w = c .before .before .before .before .before .before .before .before .before .before .before in let h = size-small (c .before .before .before .before .before .before .before .loop .i) (w .args .s .dim) (omega (arith, c .before .before .before .before .before .before .loop-test .taken, w .pre .1)) (w .pre .0) in omega arith
 
 put-row-requires : tie.Need-put-row-requires Inv-loop μ-loop
-put-row-requires c κs = let w = c .before .before .before .before .before .before .before .before .before .before .before .before in (w .pre .0, rw (c .before .before .before .before .before .before .before .before .loop .inv .1 .0) (row-fits _ _ _ _ (c .before .before .before .before .before .before .before .loop-test .taken) (w .pre .4)))
+put-row-requires c κs = let w = c .before .before .before .before .before .before .before .before .before .before .before .before in (w .pre .0, rw (c .before .before .before .before .before .before .before .before .loop .inv .1 .0) (row-fits _ _ _ _ (c .before .before .before .before .before .before .before .loop-test .taken) (w .pre .3)))
 
 add-i : tie.Need-add-i Inv-loop μ-loop
-add-i c = omega (arith, c .before .before .before .before .before .before .before .before .before .before .before .loop-test .taken, c .before .before .before .before .before .before .before .before .before .before .before .before .before .before .before .before .pre .2)
+add-i c = omega (arith, c .before .before .before .before .before .before .before .before .before .before .before .loop-test .taken, c .before .before .before .before .before .before .before .before .before .before .before .before .before .before .before .before .pre .1)
 
 loop-less : tie.Need-loop-less Inv-loop μ-loop
 loop-less c = search needs

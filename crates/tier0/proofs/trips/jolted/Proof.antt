@@ -10,10 +10,9 @@ use lib.Ieee.{binary64, ofBits}
 use Rattle.checked.specs.Each.{at}
 use Rattle.checked.specs.Finite.{+0}
 use Rattle.checked.specs.Checked.{each}
-use Rattle.checked.proofs.Told.{each-value, each-sound}
+use Rattle.checked.proofs.Told.{each-value, each-sound, a-row}
 use Rattle.tier0.specs.Chunk.{jolt, jolts}
 use Rattle.tier0.proofs.Rows.{jolt-tells}
-use Rattle.tier0.proofs.Steps.{a-row}
 use Rattle.tier0.proofs.trips.jolted.Statement.{statement}
 use Rattle.tier0.proofs.trips.jolted.Tie as tie
 

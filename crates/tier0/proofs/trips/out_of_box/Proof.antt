@@ -1,5 +1,7 @@
--- `tier0::trips::out_of_box` meets its contract.
-use Rattle.tier0.proofs.Steps.{out-is}
+-- `tier0::trips::out_of_box` meets its contract, armed or not.
+use borrow.Author.Tests.{not-true, not-false}
+use lib.Ieee.{binary64}
+use Rattle.tier0.proofs.Steps.{out-off, out-on}
 use borrow.Author.Needs.{needs}
 use Rattle.tier0.proofs.trips.out_of_box.Statement.{statement}
 use Rattle.tier0.proofs.trips.out_of_box.Tie as tie
@@ -7,14 +9,17 @@ use Rattle.tier0.proofs.trips.out_of_box.Tie as tie
 armed-requires : tie.Need-armed-requires
 armed-requires c κs = search needs
 
+returns : tie.Need-returns
+returns c = out-off binary64 _ _ (c .before .armed .ensures) (not-true _ (c .if1 .taken))
+
 shared-requires : tie.Need-shared-requires
 shared-requires c κs = search needs
 
 outside-requires : tie.Need-outside-requires
 outside-requires c κs = search needs
 
-returns : tie.Need-returns
-returns c = out-is _ _ (c .before .before .before .armed .ensures) (c .before .shared .ensures) (c .outside .ensures)
+returns-2 : tie.Need-returns-2
+returns-2 c = out-on binary64 _ _ (c .before .before .before .before .armed .ensures) (not-false _ (c .before .before .before .if1 .left)) (c .before .shared .ensures) (c .outside .ensures)
 
 pub out-of-box-spec : {M : Type 1} → statement M
-out-of-box-spec = tie.close (tie.spec armed-requires shared-requires outside-requires returns)
+out-of-box-spec = tie.close (tie.spec armed-requires returns shared-requires outside-requires returns-2)

@@ -10,10 +10,10 @@ use Rattle.tier0.proofs.trips.step_rows.Statement.{statement}
 use Rattle.tier0.proofs.trips.step_rows.Tie as tie
 
 abbrev Inv-loop : tie.InvT-loop
-Inv-loop s slow q rows h peak₀ fast₀ close₀ out₀ sound₀ i₀ peak fast close out sound i = (i ≤ h) × ((h ≤ 64) × Strode binary64 s slow q rows i peak fast close out sound)
+Inv-loop s slow q rows h peak₀ fast₀ close₀ out₀ told₀ sound₀ i₀ peak fast close out told sound i = (i ≤ h) × ((h ≤ 64) × Strode binary64 s slow q rows i peak fast close out told sound)
 
 abbrev μ-loop : tie.MeasureT-loop
-μ-loop s slow q rows h peak₀ fast₀ close₀ out₀ sound₀ i₀ peak fast close out sound i = h - i
+μ-loop s slow q rows h peak₀ fast₀ close₀ out₀ told₀ sound₀ i₀ peak fast close out told sound i = h - i
 
 loop-holds : tie.Need-loop-holds Inv-loop μ-loop
 unfolding ofBits
@@ -53,7 +53,7 @@ loop-less : tie.Need-loop-less Inv-loop μ-loop
 loop-less c = search needs
 
 loop-again : tie.Need-loop-again Inv-loop μ-loop
-loop-again c = let l = c .before .before .before .before .before .before .before .before .before .before .before .loop in (omega (arith, c .before .before .before .before .before .before .before .before .before .before .loop-test .taken), (l .inv .1 .0, stride binary64 _ _ _ _ _ _ _ _ _ _ (l .inv .1 .1) (c .before .before .before .before .before .before .before .before .before .raw-row .ensures) (c .before .before .before .before .before .before .before .before .row-before .ensures) (c .before .before .before .before .before .distance .ensures) (c .before .before .before .before .max .ensures) (c .before .out-of-box .ensures) (c .finite .ensures)))
+loop-again c = let l = c .before .before .before .before .before .before .before .before .before .before .before .before .before .loop in (omega (arith, c .before .before .before .before .before .before .before .before .before .before .before .before .loop-test .taken), (l .inv .1 .0, stride binary64 _ _ _ _ _ _ _ _ _ _ _ (l .inv .1 .1) (c .before .before .before .before .before .before .before .before .before .before .before .raw-row .ensures) (c .before .before .before .before .before .before .before .before .before .before .row-before .ensures) (c .before .before .before .before .before .before .before .distance .ensures) (c .before .before .before .before .before .before .max .ensures) (c .before .before .before .out-of-box .ensures) (c .finite .ensures)))
 
 returns : tie.Need-returns Inv-loop μ-loop
 returns c = let l = c .before .loop in let g = c .before .before .before .args in strides-are binary64 (g .s) (g .slow) _ _ (le-antisymm (l .inv .0) (c .loop-test .left)) (l .inv .1 .1)

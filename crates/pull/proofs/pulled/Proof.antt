@@ -1,9 +1,14 @@
--- `tier0::projected::pulled` meets its contract, near and far.
+-- `pull::pulled` meets its contract, near and far: where it is far, all n coordinates are there.
+use mathlib.Core.Path.{_≡_}
+use native.Mathlib.Omega.{arith}
+use denote.Ref.{now}
+use lib.ListN.{length}
 use lib.Ieee.{binary64}
-use Rattle.tier0.proofs.Steps.{pulled-near, pulled-far}
+use Rattle.fmath.proofs.Lengths.{dist-there}
+use Rattle.pull.proofs.Steps.{pulled-near, pulled-far}
 use borrow.Author.Needs.{needs}
-use Rattle.tier0.proofs.projected.pulled.Statement.{statement}
-use Rattle.tier0.proofs.projected.pulled.Tie as tie
+use Rattle.pull.proofs.pulled.Statement.{statement}
+use Rattle.pull.proofs.pulled.Tie as tie
 
 slice-aggregate-distance : tie.Need-slice-aggregate-distance
 slice-aggregate-distance c = search needs
@@ -15,7 +20,11 @@ finite-requires : tie.Need-finite-requires
 finite-requires c κs = search needs
 
 shortened-requires : tie.Need-shortened-requires
-shortened-requires c κs = search needs
+shortened-requires c κs =
+    let g = c .before .before .before .before .before .args in
+    let w = dist-there binary64 (g .most) (g .t4) (now (g .q)) (g .n) (c .before .before .distance .ensures) (c .if1 .taken) in
+    let long : length (g .t4) ≡ 8 = search needs in
+    (omega (arith, w .0), w .1)
 
 returns : tie.Need-returns
 returns c = pulled-far binary64 _ _ _ _ (c .before .before .before .before .before .distance .ensures) (c .before .before .before .before .finite .ensures) (c .before .before .before .if1 .taken) (c .before .before .shortened .ensures)

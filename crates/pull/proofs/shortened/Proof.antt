@@ -1,9 +1,9 @@
--- `tier0::projected::shortened` meets its contract: the factor as the source orders it, then each coordinate.
+-- `pull::shortened` meets its contract: the factor as the source orders it, then each coordinate.
 use lib.Ieee.{binary64, ofBits, sub, div}
-use Rattle.tier0.proofs.Steps.{shortened-is}
+use Rattle.pull.proofs.Steps.{shortened-is}
 use borrow.Author.Needs.{needs}
-use Rattle.tier0.proofs.projected.shortened.Statement.{statement}
-use Rattle.tier0.proofs.projected.shortened.Tie as tie
+use Rattle.pull.proofs.shortened.Statement.{statement}
+use Rattle.pull.proofs.shortened.Tie as tie
 
 finite-requires : tie.Need-finite-requires
 finite-requires c κs = search needs

@@ -1,11 +1,11 @@
--- `brake::setpoint` meets its contract: eight coordinates, then inside the walls.
-use Rattle.brake.specs.Rule.{setpoint}
+-- `workspace::setpoint` meets its contract: eight coordinates, then inside the walls.
 use native.Mathlib.Omega.{arith}
-use denote.Ref.{now}
-use Rattle.brake.proofs.Eight.{eight-is}
 use borrow.Author.Needs.{needs}
-use Rattle.brake.proofs.setpoint.Statement.{statement}
-use Rattle.brake.proofs.setpoint.Tie as tie
+use denote.Ref.{now}
+use Rattle.checked.proofs.Copy.{eight-is}
+use Rattle.workspace.specs.Rule.{setpoint}
+use Rattle.workspace.proofs.setpoint.Statement.{statement}
+use Rattle.workspace.proofs.setpoint.Tie as tie
 
 padded-requires : tie.Need-padded-requires
 padded-requires c κs = search needs

@@ -1,4 +1,4 @@
--- `tier0::projected::moved_toward` meets its contract: one coordinate a turn, with one test of it.
+-- `pull::moved_toward` meets its contract: one coordinate a turn, with one test of it.
 use Prim.Native.Nat.{_≤_, _-_}
 use mathlib.Core.Path.{_≡_, refl, ap, _∙_}
 use mathlib.Core.Bool.{Bool, _&&_}
@@ -11,11 +11,10 @@ use Rattle.checked.specs.Each.{at}
 use Rattle.checked.specs.Finite.{finite}
 use Rattle.checked.specs.Checked.{each}
 use Rattle.checked.proofs.Absorbing.{fine-add-right, fine-mul-left}
-use Rattle.checked.proofs.Told.{each-value, each-sound, Tells, implied}
-use Rattle.tier0.specs.Rule.{toward, towards}
-use Rattle.tier0.proofs.Steps.{a-row}
-use Rattle.tier0.proofs.projected.moved_toward.Statement.{statement}
-use Rattle.tier0.proofs.projected.moved_toward.Tie as tie
+use Rattle.checked.proofs.Told.{each-value, each-sound, Tells, implied, a-row}
+use Rattle.pull.specs.Rule.{toward, towards}
+use Rattle.pull.proofs.moved_toward.Statement.{statement}
+use Rattle.pull.proofs.moved_toward.Tie as tie
 
 -- a coordinate pulled towards another tells whether its numbers are finite
 toward-tells : (f : Format) (s q x : Float) → Tells (toward f s q x)
