@@ -30,7 +30,7 @@ use Rattle.tier0.specs.declared.Check.the-variants as check
 use Rattle.brake.specs.declared.BrakeOut.{BrakeOut}
 use Rattle.brake.specs.declared.BrakeOut.the-variants as forecast
 use Rattle.card.specs.declared.record.Card.{Card}
-use Rattle.card.specs.Desk.{num, normOf, wallsOf, brakeOf, calibrationOf, outcomeOf, slacksOf}
+use Rattle.card.specs.Desk.{tablesOf, num, normOf, wallsOf, brakeOf, calibrationOf, outcomeOf, slacksOf}
 
 -- ---- numbers, flags and refusals as counts
 
@@ -120,7 +120,7 @@ abbrev pub rowOf : ℕ → ℕ → List ℕ
 rowOf x y =
     let row = num x ∷ num y ∷ [] in
     let origin = +0 ∷ +0 ∷ [] in
-    checkTold (chunkAnswer plane origin [] row 1 2 1 2) ++ map bits (chunkOut plane origin [] row 1 2 1 origin)
+    checkTold (chunkAnswer binary64 plane tablesOf origin [] row 1 2 1 2) ++ map bits (chunkOut binary64 plane tablesOf origin [] row 1 2 1 origin)
 
 -- ---- module 3: pushes in the order in which they come, with one window length n
 
@@ -136,8 +136,6 @@ windowOf n l = let w = windowAfter n l emptyWindow in w .bits ∷ hitsIn (w .bit
 
 abbrev pub gate : Calibration
 gate = record {
-  center = replicate 192 one;
-  scale = replicate 192 one;
   mask = 3;
   gate = record { «n_terms» = 2; terms = 3 ∷ 1 ∷ replicate 6 0 };
   tau = num 2!;
@@ -153,5 +151,5 @@ verdictTold (verdict.Refused r) = refused r
 -- the refusal's number, s, and then whether the aggregated scores trip
 abbrev pub gateOf : ℕ → List ℕ
 gateOf valid =
-    let a = aggregated gate (scores valid) in
-    a .refusal .number ∷ bits (a .scores .s) ∷ verdictTold (tripped gate (a .scores))
+    let a = aggregated gate tablesOf (scores valid) in
+    a .refusal .number ∷ bits (a .scores .s) ∷ verdictTold (tripped gate tablesOf (a .scores))

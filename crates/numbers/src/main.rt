@@ -32,7 +32,9 @@ fn number_of(brake_steps: u16) -> u64 {
         brake_steps,
         from: 0,
     };
-    envelope::config_refusal(card::configure(card)) as u64
+    let unread = [1.0; 192];
+    let compiled = envelope::compile(card::configure(card), &unread, &unread);
+    compiled.number as u64
 }
 
 // One line: what is asked, and the number.

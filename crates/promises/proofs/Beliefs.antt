@@ -13,6 +13,7 @@ use Rattle.refusal.specs.Chain.{chain, first-refuses}
 use Rattle.fmath.specs.Answer.{someNotFinite}
 use Rattle.checked.specs.Finite.{+0}
 use Rattle.chunk.specs.Refusals.{chunkReasons}
+use Rattle.conformal.specs.Rule.{Tables}
 use Rattle.envelope.specs.Refusals.{configJudged}
 use Rattle.envelope.specs.declared.Contact.the-variants.{None}
 use Rattle.envelope.specs.declared.FuseConfig.{FuseConfig}
@@ -33,70 +34,70 @@ use Rattle.promises.specs.Beliefs.{EmptyBoxSlowsNothing, OneChannelIs4, 
 
 -- ---- an empty contact box
 
-chunk-not-raised : (c : FuseConfig) → c .contact ≡ None → (p aux rows : List Float) (h d e room : ℕ) → raised CONTACT (tripsIn (chunkAnswer c p aux rows h d e room)) ≡ false
+chunk-not-raised : (c : FuseConfig) (tabs : Tables) → c .contact ≡ None → (p aux rows : List Float) (h d e room : ℕ) → raised CONTACT (tripsIn (chunkAnswer binary64 c tabs p aux rows h d e room)) ≡ false
 unfolding chunkAnswer chunkRuling checksOf
-chunk-not-raised c is p aux rows h d e room =
-    trips-raised CONTACT (chunkRefusal c p aux rows h d e room) (chunkRuling c p aux rows h d e .value) refl
-    (no-contact-no-trip binary64 (checksOf c) p aux rows (replicate 512 +0) h is)
+chunk-not-raised c tabs is p aux rows h d e room =
+    trips-raised CONTACT (chunkRefusal binary64 c tabs p aux rows h d e room) (chunkRuling binary64 c p aux rows h .value) refl
+    (no-contact-no-trip binary64 (checksOf binary64 c) p aux rows (replicate 512 +0) h is)
 
-action-not-raised : (c : FuseConfig) → c .contact ≡ None → (p aux prev a : List Float) (room : ℕ) → raised CONTACT (tripsIn (actionAnswer c p aux prev a room)) ≡ false
+action-not-raised : (c : FuseConfig) (tabs : Tables) → c .contact ≡ None → (p aux prev a : List Float) (room : ℕ) → raised CONTACT (tripsIn (actionAnswer binary64 c tabs p aux prev a room)) ≡ false
 unfolding actionAnswer actionRuling checksOf
-action-not-raised c is p aux prev a room =
-    trips-raised CONTACT (actionRefusal c p aux prev a room) (actionRuling c p aux prev a .value) refl
-    (no-contact-no-action-trip binary64 (checksOf c) p aux prev a is)
+action-not-raised c tabs is p aux prev a room =
+    trips-raised CONTACT (actionRefusal binary64 c tabs p aux prev a room) (actionRuling binary64 c p aux prev a .value) refl
+    (no-contact-no-action-trip binary64 (checksOf binary64 c) p aux prev a is)
 
 pub empty-box-slows-nothing : EmptyBoxSlowsNothing
 empty-box-slows-nothing = record {
   chunk-not-raised = chunk-not-raised;
-  chunk-answer = no-contact-chunk-answer;
-  chunk-rows = no-contact-chunk-rows;
+  chunk-answer = no-contact-chunk-answer binary64;
+  chunk-rows = no-contact-chunk-rows binary64;
   action-not-raised = action-not-raised;
-  action-answer = no-contact-action-answer;
-  action-row = no-contact-action-row;
+  action-answer = no-contact-action-answer binary64;
+  action-row = no-contact-action-row binary64;
 }
 
 -- ---- one camera channel for both coordinates
 
-module _ (c : FuseConfig) (four : refusal (configJudged c) ≡ 4) where
+module _ (c : FuseConfig) (tabs : Tables) (four : refusal (configJudged binary64 c tabs) ≡ 4) where
   -- what is judged after the configuration does not matter
-  is-4 : (rest : List Judged) → chain (configJudged c ++ rest) ≡ 4
-  is-4 rest = first-refuses (configJudged c) rest (λ z. let f : chain (configJudged c) ≡ 4 = four in omega (arith, f, z)) ∙ four
+  is-4 : (rest : List Judged) → chain (configJudged binary64 c tabs ++ rest) ≡ 4
+  is-4 rest = first-refuses (configJudged binary64 c tabs) rest (λ z. let f : chain (configJudged binary64 c tabs) ≡ 4 = four in omega (arith, f, z)) ∙ four
 
-  chunk-4 : (p aux rows : List Float) (h d e room : ℕ) → chunkAnswer c p aux rows h d e room ≡ check.Refused (refusedFor 4)
+  chunk-4 : (p aux rows : List Float) (h d e room : ℕ) → chunkAnswer binary64 c tabs p aux rows h d e room ≡ check.Refused (refusedFor 4)
   unfolding chunkAnswer chunkRefusal
   chunk-4 p aux rows h d e room =
-      ap (λ (n : ℕ). checked n (chunkRuling c p aux rows h d e .value))
-      (is-4 (chunkReasons h d e (length rows) ++ lentToChunk c p aux rows h d e room ((computed when not (chunkRuling c p aux rows h d e .sound)) ∷ [])))
+      ap (λ (n : ℕ). checked n (chunkRuling binary64 c p aux rows h .value))
+      (is-4 (chunkReasons h d e (length rows) ++ lentToChunk c p aux rows h d room ((computed when not (chunkRuling binary64 c p aux rows h .sound)) ∷ [])))
 
-  action-4 : (p aux prev a : List Float) (room : ℕ) → actionAnswer c p aux prev a room ≡ check.Refused (refusedFor 4)
+  action-4 : (p aux prev a : List Float) (room : ℕ) → actionAnswer binary64 c tabs p aux prev a room ≡ check.Refused (refusedFor 4)
   unfolding actionAnswer actionRefusal
   action-4 p aux prev a room =
-      ap (λ (n : ℕ). checked n (actionRuling c p aux prev a .value)) (is-4 (lentToAction c p aux prev a room ((computed when not (actionRuling c p aux prev a .sound)) ∷ [])))
+      ap (λ (n : ℕ). checked n (actionRuling binary64 c p aux prev a .value)) (is-4 (lentToAction c p aux prev a room ((computed when not (actionRuling binary64 c p aux prev a .sound)) ∷ [])))
 
-  forecast-4 : (p v rows : List Float) (h d e from room : ℕ) → forecastAnswer c p v rows h d e from room ≡ forecast.Refused (refusedFor 4)
+  forecast-4 : (p v rows : List Float) (h d e from room : ℕ) → forecastAnswer binary64 c tabs p v rows h d e from room ≡ forecast.Refused (refusedFor 4)
   unfolding forecastAnswer forecastRefusal
   forecast-4 p v rows h d e from room =
-      let t = plan c p v rows h d e from in
-      ap (λ (n : ℕ). foreseen n t) (is-4 (chunkReasons h d e (length rows) ++ (lentJudged c p v rows h d e from room ++ ((computed when not (eqb (placeOf t) 0)) ∷ []))))
+      let t = plan binary64 c p v rows h d from in
+      ap (λ (n : ℕ). foreseen n t) (is-4 (chunkReasons h d e (length rows) ++ (lentJudged binary64 c p v rows h d from room ++ ((computed when not (eqb (placeOf t) 0)) ∷ []))))
 
-  brake-4 : (p v : List Float) (room : ℕ) → brakeAnswer c p v room ≡ sent.Refused (refusedFor 4)
+  brake-4 : (p v : List Float) (room : ℕ) → brakeAnswer binary64 c tabs p v room ≡ sent.Refused (refusedFor 4)
   unfolding brakeAnswer brakeRefusal
-  brake-4 p v room = ap sentAt (is-4 (rowLent c (someNotFinite p || someNotFinite v) room ++ ((computed when not (brakeSent c p v .sound)) ∷ [])))
+  brake-4 p v room = ap sentAt (is-4 (rowLent c (someNotFinite p || someNotFinite v) room ++ ((computed when not (brakeSent binary64 c p v .sound)) ∷ [])))
 
-  hold-4 : (p : List Float) (room : ℕ) → holdAnswer c p room ≡ sent.Refused (refusedFor 4)
+  hold-4 : (p : List Float) (room : ℕ) → holdAnswer binary64 c tabs p room ≡ sent.Refused (refusedFor 4)
   unfolding holdAnswer holdRefusal
   hold-4 p room = ap sentAt (is-4 (rowLent c (someNotFinite p) room))
 
-  all-4 : OneChannelIs4 c
+  all-4 : OneChannelIs4 c tabs
   all-4 = record { configuration-is-4 = four; chunk-is-4 = chunk-4; action-is-4 = action-4; forecast-is-4 = forecast-4; brake-is-4 = brake-4; hold-is-4 = hold-4 }
 
 pub one-channel-is-refused : OneChannelIsRefused
-one-channel-is-refused c radius speed i is sizes numbers counts = all-4 c (rw (sizes, numbers, counts, is, eq-eqb i i refl))
+one-channel-is-refused c tabs radius speed i is sizes numbers counts = all-4 c tabs (rw (sizes, numbers, counts, is, eq-eqb i i refl))
 
 -- ---- a limit that is touched
 
 pub touching-trips-nothing : TouchingTripsNothing
-touching-trips-nothing = record { chunk-raises-nothing = chunk-touched; action-raises-nothing = action-touched }
+touching-trips-nothing = record { chunk-raises-nothing = chunk-touched binary64; action-raises-nothing = action-touched binary64 }
 
 -- ---- where the arm stands now
 

@@ -22,7 +22,7 @@ use Rattle.envelope.specs.Refusals.{countsOk, channelsOk}
 use Rattle.layout.specs.Places.{count, in8, in16, in32}
 use Rattle.layout.specs.Chunk.{chunkOf, headerFlat, unheld}
 use Rattle.layout.specs.Trail.{trailOf}
-use Rattle.layout.specs.Config.{brakeOf, gateOf, contactOf, channelOf, zoneOf, zoneFits}
+use Rattle.layout.specs.Config.{brakeOf, gateOf, calibrationOf, contactOf, channelOf, zoneOf, zoneFits}
 
 -- ---- a test against a number that the field holds is the same of a count x and of the cut one
 
@@ -60,9 +60,9 @@ pub trail-counts : (l : List Float) (c : List ℕ) → outOfSize (trailOf l c) �
 unfolding trailOf
 trail-counts l c = rw (at-least (count c 0) 255 32 (omega arith), at-least (count c 1) 255 33 (omega arith))
 
-pub gate-counts : (c : List ℕ) → sizesOk (gateOf c) (in32 (count c 23)) ≡ every (leb (count c 24) 8 ∷ named (count c 23) ∷ all (λ (i : ℕ). leb (count c 24) i || named (count c (12 + i))) 8 ∷ [])
-unfolding sizesOk gateOf all
-gate-counts c =
+pub gate-counts : (n : List Float) (c : List ℕ) → sizesOk (calibrationOf n c) ≡ every (leb (count c 24) 8 ∷ named (count c 23) ∷ all (λ (i : ℕ). leb (count c 24) i || named (count c (12 + i))) 8 ∷ [])
+unfolding sizesOk calibrationOf gateOf all
+gate-counts n c =
     rw (
       at-most (count c 24) 255 8 (omega arith),
       under (count c 23) 4294967295 4096 (omega arith),

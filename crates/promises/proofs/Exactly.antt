@@ -7,7 +7,7 @@ use mathlib.Core.List.{List, [], _∷_, _++_}
 use native.Mathlib.Omega.{arith}
 use borrow.Author.Tests.{eqb-true, ne-eqb}
 use lib.Dec.{eqb, ltb}
-use lib.Ieee.{Float, Format}
+use lib.Ieee.{Float, Format, binary64}
 use lib.ListN.{length}
 use Rattle.refusal.specs.Order.{Reason, Judged, size, number, steps, short, notFinite, computed, _when_, numberOf, order, among, given, refusal, refusedFor, _or_}
 use Rattle.bits.specs.Choice.{if_then_else_}
@@ -30,6 +30,7 @@ use Rattle.conformal.specs.Refusals as calibration
 use Rattle.conformal.specs.declared.Calibration.{Calibration}
 use Rattle.conformal.specs.declared.Scores.{Scores}
 use Rattle.conformal.specs.Answer.{judged, standardsOf, standardised, aggregated, tripped, timeBinOf}
+use Rattle.conformal.specs.Rule.{Tables}
 use Rattle.envelope.specs.Refusals.{configJudged}
 use Rattle.envelope.specs.declared.FuseConfig.{FuseConfig}
 use Rattle.tier0.specs.Rule.{Judgement}
@@ -142,8 +143,8 @@ is-empty-exactly t = exactly _ (chosen emptinessNumber (refusal (trailReasons t)
 
 -- ---- module 4
 
-pub config-exactly : (c : FuseConfig) → Exactly (refusal (configJudged c)) (among (configJudged c))
-config-exactly c = exactly _ refl
+pub config-exactly : (c : FuseConfig) (tabs : Tables) → Exactly (refusal (configJudged binary64 c tabs)) (among (configJudged binary64 c tabs))
+config-exactly c tabs = exactly _ refl
 
 -- ---- module 5
 
@@ -153,26 +154,26 @@ check-told zero j = refl
 check-told (suc k) j = refl
 
 pub check-action-exactly :
-    (c : FuseConfig) (p aux prev a : List Float) (room : ℕ)
-    → Exactly (checkNumber (actionAnswer c p aux prev a room)) (among (configJudged c ++ lentToAction c p aux prev a room ((computed when not (actionRuling c p aux prev a .sound)) ∷ [])))
+    (c : FuseConfig) (tabs : Tables) (p aux prev a : List Float) (room : ℕ)
+    → Exactly (checkNumber (actionAnswer binary64 c tabs p aux prev a room)) (among (configJudged binary64 c tabs ++ lentToAction c p aux prev a room ((computed when not (actionRuling binary64 c p aux prev a .sound)) ∷ [])))
 unfolding actionAnswer actionRefusal
-check-action-exactly c p aux prev a room = exactly _ (check-told _ _)
+check-action-exactly c tabs p aux prev a room = exactly _ (check-told _ _)
 
 pub check-chunk-exactly :
-    (c : FuseConfig) (p aux rows : List Float) (h d e room : ℕ)
-    → Exactly (checkNumber (chunkAnswer c p aux rows h d e room)) (among (configJudged c ++ (chunkReasons h d e (length rows) ++ lentToChunk c p aux rows h d e room ((computed when not (chunkRuling c p aux rows h d e .sound)) ∷ []))))
+    (c : FuseConfig) (tabs : Tables) (p aux rows : List Float) (h d e room : ℕ)
+    → Exactly (checkNumber (chunkAnswer binary64 c tabs p aux rows h d e room)) (among (configJudged binary64 c tabs ++ (chunkReasons h d e (length rows) ++ lentToChunk c p aux rows h d room ((computed when not (chunkRuling binary64 c p aux rows h .sound)) ∷ []))))
 unfolding chunkAnswer chunkRefusal
-check-chunk-exactly c p aux rows h d e room = exactly _ (check-told _ _)
+check-chunk-exactly c tabs p aux rows h d e room = exactly _ (check-told _ _)
 
 -- ---- module 6
 
 pub features-exactly :
-    (c : FuseConfig) (p ext : List Float) (there : Bool) (k : Head) (rows : List Float) (rt : Tier1Rt) (sc : Scores)
-    → Exactly (tier1.featuresOf c p ext there k rows rt sc .refusal .number) (tier1.judged c p ext there k rows rt sc or among ((computed when not (tier1.ticked c p ext there k rows rt sc .sound)) ∷ []))
+    (c : FuseConfig) (tabs : Tables) (p ext : List Float) (there : Bool) (k : Head) (rows : List Float) (rt : Tier1Rt) (sc : Scores)
+    → Exactly (tier1.featuresOf binary64 c tabs p ext there k rows rt sc .refusal .number) (tier1.judged binary64 c tabs p ext there k rows rt sc or among ((computed when not (tier1.ticked binary64 c tabs p ext there k rows rt sc .sound)) ∷ []))
 unfolding tier1.featuresOf tier1.featuresRefusal
-features-exactly c p ext there k rows rt sc = exactly _ (told _)
+features-exactly c tabs p ext there k rows rt sc = exactly _ (told _)
   where
-    told : (n : ℕ) → tier1.featuredAt n (tier1.ticked c p ext there k rows rt sc .value) rt sc .refusal .number ≡ n
+    told : (n : ℕ) → tier1.featuredAt n (tier1.ticked binary64 c tabs p ext there k rows rt sc .value) rt sc .refusal .number ≡ n
     told zero = refl
     told (suc n) = refl
 
@@ -203,16 +204,16 @@ forecast-told t n fine fails = go (eqb n 0) (eqb n 13) refl refl
     go false true a b = let e = eqb-true n 13 b in rw (opposite (eqb (placeOf t) 0) (fails e)) (sym e)
     go false false a b = refl
 
-module _ (c : FuseConfig) (p v rows : List Float) (h d e from room : ℕ) where
+module _ (c : FuseConfig) (tabs : Tables) (p v rows : List Float) (h d e from room : ℕ) where
   abbrev forecastJudged : List Judged
-  forecastJudged = configJudged c ++ (chunkReasons h d e (length rows) ++ (lentJudged c p v rows h d e from room ++ (computed when not (eqb (placeOf (plan c p v rows h d e from)) 0) ∷ [])))
+  forecastJudged = configJudged binary64 c tabs ++ (chunkReasons h d e (length rows) ++ (lentJudged binary64 c p v rows h d from room ++ (computed when not (eqb (placeOf (plan binary64 c p v rows h d from)) 0) ∷ [])))
 
-  pub brake-feasible-exactly : Exactly (forecastNumber (forecastAnswer c p v rows h d e from room)) (among forecastJudged)
+  pub brake-feasible-exactly : Exactly (forecastNumber (forecastAnswer binary64 c tabs p v rows h d e from room)) (among forecastJudged)
   unfolding forecastAnswer forecastRefusal
   brake-feasible-exactly =
       let none = exactly-none (among forecastJudged) .1 in
       let last = exactly-first (among forecastJudged) computed .1 in
-      exactly _ (forecast-told (plan c p v rows h d e from) (refusal forecastJudged) (λ z. none z computed) (λ z. applied _ _ _ (last z)))
+      exactly _ (forecast-told (plan binary64 c p v rows h d from) (refusal forecastJudged) (λ z. none z computed) (λ z. applied _ _ _ (last z)))
 
 sent-told : (n : ℕ) → sentNumber (sentAt n) ≡ n
 unfolding sentNumber
@@ -220,36 +221,36 @@ sent-told zero = refl
 sent-told (suc k) = refl
 
 pub brake-action-exactly :
-    (c : FuseConfig) (p v : List Float) (room : ℕ)
-    → Exactly (sentNumber (brakeAnswer c p v room)) (among (configJudged c ++ (rowLent c (someNotFinite p || someNotFinite v) room ++ (computed when not (brakeSent c p v .sound) ∷ []))))
+    (c : FuseConfig) (tabs : Tables) (p v : List Float) (room : ℕ)
+    → Exactly (sentNumber (brakeAnswer binary64 c tabs p v room)) (among (configJudged binary64 c tabs ++ (rowLent c (someNotFinite p || someNotFinite v) room ++ (computed when not (brakeSent binary64 c p v .sound) ∷ []))))
 unfolding brakeAnswer brakeRefusal
-brake-action-exactly c p v room = exactly _ (sent-told _)
+brake-action-exactly c tabs p v room = exactly _ (sent-told _)
 
-pub hold-action-exactly : (c : FuseConfig) (p : List Float) (room : ℕ) → Exactly (sentNumber (holdAnswer c p room)) (among (configJudged c ++ rowLent c (someNotFinite p) room))
+pub hold-action-exactly : (c : FuseConfig) (tabs : Tables) (p : List Float) (room : ℕ) → Exactly (sentNumber (holdAnswer binary64 c tabs p room)) (among (configJudged binary64 c tabs ++ rowLent c (someNotFinite p) room))
 unfolding holdAnswer holdRefusal
-hold-action-exactly c p room = exactly _ (sent-told _)
+hold-action-exactly c tabs p room = exactly _ (sent-told _)
 
 -- ---- module 8
 
 -- what is judged of a calibration and scores, by whether each number that was computed is finite
-abbrev scoresJudged : Calibration → Scores → Bool → List Judged
-scoresJudged cal sc sound =
-    (size when not (calibration.sizesOk (cal .gate) (cal .mask)))
-    ∷ (number when not (calibration.numbersOk (cal .center) (cal .scale) (cal .tau)))
+abbrev scoresJudged : Calibration → Tables → Scores → Bool → List Judged
+scoresJudged cal tabs sc sound =
+    (size when not (calibration.sizesOk cal))
+    ∷ (number when not (calibration.numbersOk cal tabs))
     ∷ (notFinite when not (calibration.scoresOk sc))
     ∷ (computed when not sound) ∷ []
 
-pub standardise-exactly : (f : Format) (cal : Calibration) (bin : ℕ) (sc : Scores) → Exactly (standardised f cal bin sc .refusal .number) (among (scoresJudged cal sc (standardsOf f cal bin sc .sound)))
+pub standardise-exactly : (f : Format) (cal : Calibration) (tabs : Tables) (bin : ℕ) (sc : Scores) → Exactly (standardised f cal tabs bin sc .refusal .number) (among (scoresJudged cal tabs sc (standardsOf f cal tabs bin sc .sound)))
 unfolding standardised judged
-standardise-exactly f cal bin sc = exactly _ refl
+standardise-exactly f cal tabs bin sc = exactly _ refl
 
-pub aggregate-exactly : (cal : Calibration) (sc : Scores) → Exactly (aggregated cal sc .refusal .number) (among (scoresJudged cal sc true))
+pub aggregate-exactly : (cal : Calibration) (tabs : Tables) (sc : Scores) → Exactly (aggregated cal tabs sc .refusal .number) (among (scoresJudged cal tabs sc true))
 unfolding aggregated judged
-aggregate-exactly cal sc = exactly _ refl
+aggregate-exactly cal tabs sc = exactly _ refl
 
-pub trip-exactly : (cal : Calibration) (sc : Scores) → Exactly (verdictNumber (tripped cal sc)) (among (scoresJudged cal sc true))
+pub trip-exactly : (cal : Calibration) (tabs : Tables) (sc : Scores) → Exactly (verdictNumber (tripped cal tabs sc)) (among (scoresJudged cal tabs sc true))
 unfolding verdictNumber tripped judged
-trip-exactly cal sc = exactly _ (chosen verdictNumber (refusal (scoresJudged cal sc true)) _ _ refl refl)
+trip-exactly cal tabs sc = exactly _ (chosen verdictNumber (refusal (scoresJudged cal tabs sc true)) _ _ refl refl)
 
 pub time-bin-exactly : (t horizon : ℕ) → Exactly (binNumber (timeBinOf t horizon)) (among (steps when eqb horizon 0 ∷ []))
 unfolding binNumber timeBinOf

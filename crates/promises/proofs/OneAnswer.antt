@@ -45,25 +45,19 @@ use Rattle.window.proofs.Trail.path.Reads as trail-path
 use Rattle.window.proofs.Trail.clear.Reads as trail-clear
 use Rattle.window.proofs.Trail.len.Reads as trail-len
 use Rattle.window.proofs.Trail.is_empty.Reads as trail-is-empty
-use Rattle.envelope.proofs.settings_of.Reads as settings-of
-use Rattle.envelope.proofs.derive_from.Reads as derive-from
-use Rattle.envelope.proofs.derive.Reads as derive
 use Rattle.envelope.proofs.substeps_in.Reads as substeps-in
-use Rattle.envelope.proofs.settings_refusal.Reads as settings-refusal
-use Rattle.envelope.proofs.config_refusal.Reads as config-refusal
+use Rattle.envelope.proofs.compile.Reads as compile
 use Rattle.workspace.proofs.outside.Reads as outside
 use Rattle.workspace.proofs.inward.Reads as inward
 use Rattle.workspace.proofs.slack.Reads as slack
 use Rattle.workspace.proofs.slack_abreast.Reads as slack-abreast
 use Rattle.workspace.proofs.slack_within.Reads as slack-within
-use Rattle.tier0.proofs.check_action_with.Reads as check-action-with
 use Rattle.tier0.proofs.check_action.Reads as check-action
-use Rattle.tier0.proofs.check_chunk_with.Reads as check-chunk-with
 use Rattle.tier0.proofs.check_chunk.Reads as check-chunk
 use Rattle.tier1.proofs.Tier1Rt.new.Reads as tier1-rt-new
 use Rattle.tier1.proofs.Tier1Rt.reset.Reads as tier1-rt-reset
 use Rattle.tier1.proofs.features.Reads as features
-use Rattle.tier1.proofs.tick_with.Reads as tick-with
+use Rattle.tier1.proofs.one_tick.Reads as one-tick
 use Rattle.course.proofs.rows_left.Reads as rows-left
 use Rattle.rollout.proofs.rollout.Reads as rollout
 use Rattle.rollout.proofs.stop_distance.Reads as rollout-stop-distance
@@ -87,7 +81,6 @@ use Rattle.words.proofs.pair.Reads as pair
 use Rattle.words.proofs.word.Reads as word
 use Rattle.words.proofs.number.Reads as word-number
 use Rattle.words.proofs.pattern.Reads as pattern
-use Rattle.layout.proofs.config.settings_of.Reads as layout-settings-of
 use Rattle.layout.proofs.config.config_of.Reads as config-of
 use Rattle.layout.proofs.config.counts_fit.Reads as counts-fit
 use Rattle.layout.proofs.config.put_derived.Reads as layout-put-derived
@@ -276,23 +269,11 @@ one-trail-is-empty l a r s x y = unique
 
 -- ---- envelope (module 4)
 
-pub one-settings-of : One settings-of.Post (λ r x. r)
-one-settings-of l a r s x y = unique
-
-pub one-derive-from : One derive-from.Post (λ r x. r)
-one-derive-from l a r s x y = unique
-
-pub one-derive : One derive.Post (λ r x. r)
-one-derive l a r s x y = unique
-
 pub one-substeps-in : One substeps-in.Post (λ r x. r)
 one-substeps-in l a r s x y = unique
 
-pub one-settings-refusal : One settings-refusal.Post (λ r x. r)
-one-settings-refusal l a r s x y = unique
-
-pub one-config-refusal : One config-refusal.Post (λ r x. r)
-one-config-refusal l a r s x y = unique
+pub one-compile : One compile.Post (λ r x. r)
+one-compile l a r s x y = unique
 
 -- ---- workspace (modules 5 and 7)
 
@@ -313,16 +294,10 @@ one-slack-within l a r s x y = unique
 
 -- ---- tier0 (module 5)
 
-pub one-check-action-with : OneWithLent check-action-with.Post (λ x. x .1 .1 .1 .1 .1 .1 .1 .0 .now)
-one-check-action-with l a r s x y = both
-
-pub one-check-action : OneWithLent check-action.Post (λ x. x .1 .1 .1 .1 .1 .0 .now)
+pub one-check-action : OneWithLent check-action.Post (λ x. x .1 .1 .1 .1 .1 .1 .1 .0 .now)
 one-check-action l a r s x y = both
 
-pub one-check-chunk-with : OneWithLent check-chunk-with.Post (λ x. x .1 .1 .1 .1 .1 .1 .1 .1 .1 .0 .now)
-one-check-chunk-with l a r s x y = both
-
-pub one-check-chunk : OneWithLent check-chunk.Post (λ x. x .1 .1 .1 .1 .1 .1 .1 .0 .now)
+pub one-check-chunk : OneWithLent check-chunk.Post (λ x. x .1 .1 .1 .1 .1 .1 .1 .1 .1 .0 .now)
 one-check-chunk l a r s x y = both
 
 -- ---- tier1 (module 6)
@@ -336,8 +311,8 @@ one-tier1-rt-reset l a r s x y = unique
 pub one-features : One features.Post (λ r x. r)
 one-features l a r s x y = unique
 
-pub one-tick-with : One tick-with.Post (λ r x. r)
-one-tick-with l a r s x y = unique
+pub one-one-tick : One one-tick.Post (λ r x. r)
+one-one-tick l a r s x y = unique
 
 -- ---- rollout (module 7)
 
@@ -360,13 +335,13 @@ one-stopping-stop-distance l a r s x y = unique
 
 -- ---- brake (module 7)
 
-pub one-brake-feasible : OneWithLent brake-feasible.Post (λ x. x .1 .1 .1 .1 .1 .1 .1 .1 .0 .now)
+pub one-brake-feasible : OneWithLent brake-feasible.Post (λ x. x .1 .1 .1 .1 .1 .1 .1 .1 .1 .1 .0 .now)
 one-brake-feasible l a r s x y = both
 
-pub one-brake-action : OneWithLent brake-action.Post (λ x. x .1 .1 .1 .0 .now)
+pub one-brake-action : OneWithLent brake-action.Post (λ x. x .1 .1 .1 .1 .1 .0 .now)
 one-brake-action l a r s x y = both
 
-pub one-hold-action : OneWithLent hold-action.Post (λ x. x .1 .1 .0 .now)
+pub one-hold-action : OneWithLent hold-action.Post (λ x. x .1 .1 .1 .1 .0 .now)
 one-hold-action l a r s x y = both
 
 -- ---- conformal (module 8)
@@ -421,9 +396,6 @@ pub one-pattern : One pattern.Post (λ r x. r)
 one-pattern l a r s x y = unique
 
 -- ---- layout
-
-pub one-layout-settings-of : One layout-settings-of.Post (λ r x. r)
-one-layout-settings-of l a r s x y = unique
 
 pub one-config-of : One config-of.Post (λ r x. r)
 one-config-of l a r s x y = unique

@@ -20,6 +20,7 @@ use Rattle.window.specs.Of.{pushOf, clearOf}
 use Rattle.conformal.specs.declared.Calibration.{Calibration}
 use Rattle.conformal.specs.declared.Scores.{Scores}
 use Rattle.conformal.specs.Answer.{judged, scored, standardsOf, standardised, aggregated}
+use Rattle.conformal.specs.Rule.{Tables}
 use Rattle.envelope.specs.declared.FuseConfig.{FuseConfig}
 use Rattle.tier0.specs.Rule.{Judgement}
 use Rattle.tier0.specs.Refusals as checks
@@ -59,13 +60,13 @@ clear-kept t = chosen-kept (λ (x : Recorded). x .number) (λ (x : Recorded). x 
 scored-kept : (n : ℕ) (old new : Scores) → Refuses n → scored n old new .scores ≡ old
 scored-kept n old new is = rw (ne-eqb n 0 is)
 
-standardise-kept : (cal : Calibration) (bin : ℕ) (sc : Scores) → Refuses (standardised binary64 cal bin sc .refusal .number) → standardised binary64 cal bin sc .scores ≡ sc
+standardise-kept : (cal : Calibration) (tabs : Tables) (bin : ℕ) (sc : Scores) → Refuses (standardised binary64 cal tabs bin sc .refusal .number) → standardised binary64 cal tabs bin sc .scores ≡ sc
 unfolding standardised
-standardise-kept cal bin sc = scored-kept (judged cal sc (standardsOf binary64 cal bin sc .sound)) sc _
+standardise-kept cal tabs bin sc = scored-kept (judged cal tabs sc (standardsOf binary64 cal tabs bin sc .sound)) sc _
 
-aggregate-kept : (cal : Calibration) (sc : Scores) → Refuses (aggregated cal sc .refusal .number) → aggregated cal sc .scores ≡ sc
+aggregate-kept : (cal : Calibration) (tabs : Tables) (sc : Scores) → Refuses (aggregated cal tabs sc .refusal .number) → aggregated cal tabs sc .scores ≡ sc
 unfolding aggregated
-aggregate-kept cal sc = scored-kept (judged cal sc true) sc _
+aggregate-kept cal tabs sc = scored-kept (judged cal tabs sc true) sc _
 
 -- ---- chosen by the number itself
 
@@ -74,22 +75,22 @@ unfolding checkNumber
 checked-kept zero j k l is = absurd (is refl)
 checked-kept (suc n) j k l is = refl
 
-chunk-kept : (c : FuseConfig) (p aux rows : List Float) (h d e : ℕ) (l : List Float) → Refuses (checkNumber (chunkAnswer c p aux rows h d e (length l))) → chunkOut c p aux rows h d e l ≡ l
+chunk-kept : (c : FuseConfig) (tabs : Tables) (p aux rows : List Float) (h d e : ℕ) (l : List Float) → Refuses (checkNumber (chunkAnswer binary64 c tabs p aux rows h d e (length l))) → chunkOut binary64 c tabs p aux rows h d e l ≡ l
 unfolding chunkAnswer chunkOut
-chunk-kept c p aux rows h d e l = checked-kept (chunkRefusal c p aux rows h d e (length l)) (chunkRuling c p aux rows h d e .value) _ l
+chunk-kept c tabs p aux rows h d e l = checked-kept (chunkRefusal binary64 c tabs p aux rows h d e (length l)) (chunkRuling binary64 c p aux rows h .value) _ l
 
-action-kept : (c : FuseConfig) (p aux prev a l : List Float) → Refuses (checkNumber (actionAnswer c p aux prev a (length l))) → actionOut c p aux prev a l ≡ l
+action-kept : (c : FuseConfig) (tabs : Tables) (p aux prev a l : List Float) → Refuses (checkNumber (actionAnswer binary64 c tabs p aux prev a (length l))) → actionOut binary64 c tabs p aux prev a l ≡ l
 unfolding actionAnswer actionOut
-action-kept c p aux prev a l = checked-kept (actionRefusal c p aux prev a (length l)) (actionRuling c p aux prev a .value) (c .dim) l
+action-kept c tabs p aux prev a l = checked-kept (actionRefusal binary64 c tabs p aux prev a (length l)) (actionRuling binary64 c p aux prev a .value) (c .dim) l
 
 featured-kept : (n : ℕ) (x : Tick) (rt : Tier1Rt) (sc : Scores) → Refuses (featuredAt n x rt sc .refusal .number) → (featuredAt n x rt sc .rt ≡ rt) × (featuredAt n x rt sc .scores ≡ sc)
 featured-kept zero x rt sc is = absurd (is refl)
 featured-kept (suc n) x rt sc is = (refl, refl)
 
-features-kept : (c : FuseConfig) (p ext : List Float) (there : Bool) (k : Head) (rows : List Float) (rt : Tier1Rt) (sc : Scores) → Refuses (featuresOf c p ext there k rows rt sc .refusal .number)
-    → (featuresOf c p ext there k rows rt sc .rt ≡ rt) × (featuresOf c p ext there k rows rt sc .scores ≡ sc)
+features-kept : (c : FuseConfig) (tabs : Tables) (p ext : List Float) (there : Bool) (k : Head) (rows : List Float) (rt : Tier1Rt) (sc : Scores) → Refuses (featuresOf binary64 c tabs p ext there k rows rt sc .refusal .number)
+    → (featuresOf binary64 c tabs p ext there k rows rt sc .rt ≡ rt) × (featuresOf binary64 c tabs p ext there k rows rt sc .scores ≡ sc)
 unfolding featuresOf
-features-kept c p ext there k rows rt sc = featured-kept (featuresRefusal c p ext there k rows rt sc) (ticked c p ext there k rows rt sc .value) rt sc
+features-kept c tabs p ext there k rows rt sc = featured-kept (featuresRefusal binary64 c tabs p ext there k rows rt sc) (ticked binary64 c tabs p ext there k rows rt sc .value) rt sc
 
 cleared-kept : (n : ℕ) (rt : Tier1Rt) → Refuses (clearedAt n rt .refusal .number) → clearedAt n rt .rt ≡ rt
 cleared-kept zero rt is = absurd (is refl)
@@ -104,13 +105,13 @@ unfolding sentNumber
 row-kept zero row k l is = absurd (is refl)
 row-kept (suc n) row k l is = refl
 
-brake-kept : (c : FuseConfig) (p v l : List Float) → Refuses (sentNumber (brakeAnswer c p v (length l))) → brakeOutput c p v l ≡ l
+brake-kept : (c : FuseConfig) (tabs : Tables) (p v l : List Float) → Refuses (sentNumber (brakeAnswer binary64 c tabs p v (length l))) → brakeOutput binary64 c tabs p v l ≡ l
 unfolding brakeAnswer brakeOutput
-brake-kept c p v l = row-kept (brakeRefusal c p v (length l)) (brakeSent c p v .value) (c .dim) l
+brake-kept c tabs p v l = row-kept (brakeRefusal binary64 c tabs p v (length l)) (brakeSent binary64 c p v .value) (c .dim) l
 
-hold-kept : (c : FuseConfig) (p l : List Float) → Refuses (sentNumber (holdAnswer c p (length l))) → holdOutput c p l ≡ l
+hold-kept : (c : FuseConfig) (tabs : Tables) (p l : List Float) → Refuses (sentNumber (holdAnswer binary64 c tabs p (length l))) → holdOutput binary64 c tabs p l ≡ l
 unfolding holdAnswer holdOutput
-hold-kept c p l = row-kept (holdRefusal c p (length l)) _ (c .dim) l
+hold-kept c tabs p l = row-kept (holdRefusal binary64 c tabs p (length l)) _ (c .dim) l
 
 -- ---- a forecast: what it comes to is accepted or 13
 
@@ -130,10 +131,10 @@ slacks-kept n t l = go (eqb n 0 || eqb n 13)
     go true is not-13 = absurd (not-13 (comes-to t is))
     go false is not-13 = refl
 
-forecast-kept : (c : FuseConfig) (p v rows : List Float) (h d e from : ℕ) (l : List Float) → Refuses (forecastNumber (forecastAnswer c p v rows h d e from (length l)))
-    → (forecastNumber (forecastAnswer c p v rows h d e from (length l)) ≡ 13 → ⊥) → forecastSlacks c p v rows h d e from l ≡ l
+forecast-kept : (c : FuseConfig) (tabs : Tables) (p v rows : List Float) (h d e from : ℕ) (l : List Float) → Refuses (forecastNumber (forecastAnswer binary64 c tabs p v rows h d e from (length l)))
+    → (forecastNumber (forecastAnswer binary64 c tabs p v rows h d e from (length l)) ≡ 13 → ⊥) → forecastSlacks binary64 c tabs p v rows h d e from l ≡ l
 unfolding forecastAnswer forecastSlacks
-forecast-kept c p v rows h d e from l = slacks-kept (forecastRefusal c p v rows h d e from (length l)) (plan c p v rows h d e from) l
+forecast-kept c tabs p v rows h d e from l = slacks-kept (forecastRefusal binary64 c tabs p v rows h d e from (length l)) (plan binary64 c p v rows h d from) l
 
 pub refusal-changes-nothing : RefusalChangesNothing
 refusal-changes-nothing = record {

@@ -3,10 +3,11 @@ use Prim.Native.Nat.{ℕ, suc, _<_}
 use mathlib.Core.Path.{_≡_}
 use mathlib.Core.Bool.{Bool, true, false}
 use mathlib.Core.List.{List}
-use lib.Ieee.{Float, lt}
+use lib.Ieee.{Float, lt, binary64}
 use Rattle.refusal.specs.Order.{refusal, refusedFor}
 use Rattle.checked.specs.Finite.{+0}
-use Rattle.envelope.specs.Refusals.{numbersOk, sizesFit, stepsFit, configJudged}
+use Rattle.conformal.specs.Rule.{Tables}
+use Rattle.envelope.specs.Refusals.{sizesOk, numbersOk, stepsOk, configJudged}
 use Rattle.envelope.specs.declared.Contact.the-variants.{None, Zone}
 use Rattle.envelope.specs.declared.FuseConfig.{FuseConfig}
 use Rattle.tier0.specs.Rule.{CONTACT}
@@ -21,29 +22,29 @@ use Rattle.brake.specs.declared.Sent.the-variants as sent
 
 -- "An empty contact box means slow everywhere": with no contact configured CONTACT is never raised, and a call answers and writes what it does with CONTACT unarmed
 pub record EmptyBoxSlowsNothing : Type 0 where
-  pub chunk-not-raised : (c : FuseConfig) → c .contact ≡ None → (p aux rows : List Float) (h d e room : ℕ) → raised CONTACT (tripsIn (chunkAnswer c p aux rows h d e room)) ≡ false
-  pub chunk-answer : (c : FuseConfig) → c .contact ≡ None → (p aux rows : List Float) (h d e room : ℕ) → chunkAnswer (contactUnarmed c) p aux rows h d e room ≡ chunkAnswer c p aux rows h d e room
-  pub chunk-rows : (c : FuseConfig) → c .contact ≡ None → (p aux rows : List Float) (h d e : ℕ) (l : List Float) → chunkOut (contactUnarmed c) p aux rows h d e l ≡ chunkOut c p aux rows h d e l
-  pub action-not-raised : (c : FuseConfig) → c .contact ≡ None → (p aux prev a : List Float) (room : ℕ) → raised CONTACT (tripsIn (actionAnswer c p aux prev a room)) ≡ false
-  pub action-answer : (c : FuseConfig) → c .contact ≡ None → (p aux prev a : List Float) (room : ℕ) → actionAnswer (contactUnarmed c) p aux prev a room ≡ actionAnswer c p aux prev a room
-  pub action-row : (c : FuseConfig) → c .contact ≡ None → (p aux prev a l : List Float) → actionOut (contactUnarmed c) p aux prev a l ≡ actionOut c p aux prev a l
+  pub chunk-not-raised : (c : FuseConfig) (tabs : Tables) → c .contact ≡ None → (p aux rows : List Float) (h d e room : ℕ) → raised CONTACT (tripsIn (chunkAnswer binary64 c tabs p aux rows h d e room)) ≡ false
+  pub chunk-answer : (c : FuseConfig) (tabs : Tables) → c .contact ≡ None → (p aux rows : List Float) (h d e room : ℕ) → chunkAnswer binary64 (contactUnarmed c) tabs p aux rows h d e room ≡ chunkAnswer binary64 c tabs p aux rows h d e room
+  pub chunk-rows : (c : FuseConfig) (tabs : Tables) → c .contact ≡ None → (p aux rows : List Float) (h d e : ℕ) (l : List Float) → chunkOut binary64 (contactUnarmed c) tabs p aux rows h d e l ≡ chunkOut binary64 c tabs p aux rows h d e l
+  pub action-not-raised : (c : FuseConfig) (tabs : Tables) → c .contact ≡ None → (p aux prev a : List Float) (room : ℕ) → raised CONTACT (tripsIn (actionAnswer binary64 c tabs p aux prev a room)) ≡ false
+  pub action-answer : (c : FuseConfig) (tabs : Tables) → c .contact ≡ None → (p aux prev a : List Float) (room : ℕ) → actionAnswer binary64 (contactUnarmed c) tabs p aux prev a room ≡ actionAnswer binary64 c tabs p aux prev a room
+  pub action-row : (c : FuseConfig) (tabs : Tables) → c .contact ≡ None → (p aux prev a l : List Float) → actionOut binary64 (contactUnarmed c) tabs p aux prev a l ≡ actionOut binary64 c tabs p aux prev a l
 
 -- "Two arms may share camera channels": where 1, 2 and 3 do not apply, one channel for both coordinates of a zone is refused with 4 by the configuration's own judging, the checks, the forecast, brake and hold
-pub record OneChannelIs4 (c : FuseConfig) : Type 0 where
-  pub configuration-is-4 : refusal (configJudged c) ≡ 4
-  pub chunk-is-4 : (p aux rows : List Float) (h d e room : ℕ) → chunkAnswer c p aux rows h d e room ≡ check.Refused (refusedFor 4)
-  pub action-is-4 : (p aux prev a : List Float) (room : ℕ) → actionAnswer c p aux prev a room ≡ check.Refused (refusedFor 4)
-  pub forecast-is-4 : (p v rows : List Float) (h d e from room : ℕ) → forecastAnswer c p v rows h d e from room ≡ forecast.Refused (refusedFor 4)
-  pub brake-is-4 : (p v : List Float) (room : ℕ) → brakeAnswer c p v room ≡ sent.Refused (refusedFor 4)
-  pub hold-is-4 : (p : List Float) (room : ℕ) → holdAnswer c p room ≡ sent.Refused (refusedFor 4)
+pub record OneChannelIs4 (c : FuseConfig) (tabs : Tables) : Type 0 where
+  pub configuration-is-4 : refusal (configJudged binary64 c tabs) ≡ 4
+  pub chunk-is-4 : (p aux rows : List Float) (h d e room : ℕ) → chunkAnswer binary64 c tabs p aux rows h d e room ≡ check.Refused (refusedFor 4)
+  pub action-is-4 : (p aux prev a : List Float) (room : ℕ) → actionAnswer binary64 c tabs p aux prev a room ≡ check.Refused (refusedFor 4)
+  pub forecast-is-4 : (p v rows : List Float) (h d e from room : ℕ) → forecastAnswer binary64 c tabs p v rows h d e from room ≡ forecast.Refused (refusedFor 4)
+  pub brake-is-4 : (p v : List Float) (room : ℕ) → brakeAnswer binary64 c tabs p v room ≡ sent.Refused (refusedFor 4)
+  pub hold-is-4 : (p : List Float) (room : ℕ) → holdAnswer binary64 c tabs p room ≡ sent.Refused (refusedFor 4)
 
 abbrev pub OneChannelIsRefused : Type 0
-OneChannelIsRefused = (c : FuseConfig) (radius speed : Float) (i : ℕ) → c .contact ≡ Zone radius speed i i → sizesFit c ≡ true → numbersOk c ≡ true → stepsFit c ≡ true → OneChannelIs4 c
+OneChannelIsRefused = (c : FuseConfig) (tabs : Tables) (radius speed : Float) (i : ℕ) → c .contact ≡ Zone radius speed i i → sizesOk c ≡ true → numbersOk binary64 c tabs ≡ true → stepsOk c ≡ true → OneChannelIs4 c tabs
 
 -- "Touching a limit trips it": where no limit is strictly exceeded nothing is raised, however many are touched
 pub record TouchingTripsNothing : Type 0 where
-  pub chunk-raises-nothing : (c : FuseConfig) (p aux rows : List Float) (h d e room : ℕ) → ChunkWithin c p aux rows h → tripsIn (chunkAnswer c p aux rows h d e room) ≡ 0
-  pub action-raises-nothing : (c : FuseConfig) (p aux prev a : List Float) (room : ℕ) → ActionWithin c p aux prev a → tripsIn (actionAnswer c p aux prev a room) ≡ 0
+  pub chunk-raises-nothing : (c : FuseConfig) (tabs : Tables) (p aux rows : List Float) (h d e room : ℕ) → ChunkWithin binary64 c p aux rows h → tripsIn (chunkAnswer binary64 c tabs p aux rows h d e room) ≡ 0
+  pub action-raises-nothing : (c : FuseConfig) (tabs : Tables) (p aux prev a : List Float) (room : ℕ) → ActionWithin binary64 c p aux prev a → tripsIn (actionAnswer binary64 c tabs p aux prev a room) ≡ 0
 
 -- "The stopping forecast inspects where the arm stands now": an accepted one is feasible exactly when no slack after k substeps is negative, with k at least 1
 pub record StartIsNotInspected : Type 0 where

@@ -13,6 +13,7 @@ use Rattle.window.specs.Of.{pushOf, clearOf}
 use Rattle.conformal.specs.declared.Calibration.{Calibration}
 use Rattle.conformal.specs.declared.Scores.{Scores}
 use Rattle.conformal.specs.Answer.{standardised, aggregated}
+use Rattle.conformal.specs.Rule.{Tables}
 use Rattle.envelope.specs.declared.FuseConfig.{FuseConfig}
 use Rattle.tier0.specs.Of.{actionAnswer, actionOut, chunkAnswer, chunkOut}
 use Rattle.tier1.specs.declared.Head.{Head}
@@ -30,14 +31,14 @@ pub record RefusalChangesNothing : Type 0 where
   pub after-chunk-clear : (b : ChunkBuf) → Refuses (chunkClearOf b .number) → chunkClearOf b .buf ≡ b
   pub after-push : (t : Trail) (p : List Float) (d : ℕ) → Refuses (pushOf t p d .number) → pushOf t p d .trail ≡ t
   pub after-clear : (t : Trail) → Refuses (clearOf t .number) → clearOf t .trail ≡ t
-  pub after-standardise : (cal : Calibration) (bin : ℕ) (sc : Scores) → Refuses (standardised binary64 cal bin sc .refusal .number) → standardised binary64 cal bin sc .scores ≡ sc
-  pub after-aggregate : (cal : Calibration) (sc : Scores) → Refuses (aggregated cal sc .refusal .number) → aggregated cal sc .scores ≡ sc
-  pub after-check-chunk : (c : FuseConfig) (p aux rows : List Float) (h d e : ℕ) (l : List Float) → Refuses (checkNumber (chunkAnswer c p aux rows h d e (length l))) → chunkOut c p aux rows h d e l ≡ l
-  pub after-check-action : (c : FuseConfig) (p aux prev a l : List Float) → Refuses (checkNumber (actionAnswer c p aux prev a (length l))) → actionOut c p aux prev a l ≡ l
-  pub after-features : (c : FuseConfig) (p ext : List Float) (there : Bool) (k : Head) (rows : List Float) (rt : Tier1Rt) (sc : Scores) → Refuses (featuresOf c p ext there k rows rt sc .refusal .number)
-      → (featuresOf c p ext there k rows rt sc .rt ≡ rt) × (featuresOf c p ext there k rows rt sc .scores ≡ sc)
+  pub after-standardise : (cal : Calibration) (tabs : Tables) (bin : ℕ) (sc : Scores) → Refuses (standardised binary64 cal tabs bin sc .refusal .number) → standardised binary64 cal tabs bin sc .scores ≡ sc
+  pub after-aggregate : (cal : Calibration) (tabs : Tables) (sc : Scores) → Refuses (aggregated cal tabs sc .refusal .number) → aggregated cal tabs sc .scores ≡ sc
+  pub after-check-chunk : (c : FuseConfig) (tabs : Tables) (p aux rows : List Float) (h d e : ℕ) (l : List Float) → Refuses (checkNumber (chunkAnswer binary64 c tabs p aux rows h d e (length l))) → chunkOut binary64 c tabs p aux rows h d e l ≡ l
+  pub after-check-action : (c : FuseConfig) (tabs : Tables) (p aux prev a l : List Float) → Refuses (checkNumber (actionAnswer binary64 c tabs p aux prev a (length l))) → actionOut binary64 c tabs p aux prev a l ≡ l
+  pub after-features : (c : FuseConfig) (tabs : Tables) (p ext : List Float) (there : Bool) (k : Head) (rows : List Float) (rt : Tier1Rt) (sc : Scores) → Refuses (featuresOf binary64 c tabs p ext there k rows rt sc .refusal .number)
+      → (featuresOf binary64 c tabs p ext there k rows rt sc .rt ≡ rt) × (featuresOf binary64 c tabs p ext there k rows rt sc .scores ≡ sc)
   pub after-reset : (rt : Tier1Rt) → Refuses (resetOf rt .refusal .number) → resetOf rt .rt ≡ rt
-  pub after-brake-feasible : (c : FuseConfig) (p v rows : List Float) (h d e from : ℕ) (l : List Float) → Refuses (forecastNumber (forecastAnswer c p v rows h d e from (length l)))
-      → (forecastNumber (forecastAnswer c p v rows h d e from (length l)) ≡ 13 → ⊥) → forecastSlacks c p v rows h d e from l ≡ l
-  pub after-brake-action : (c : FuseConfig) (p v l : List Float) → Refuses (sentNumber (brakeAnswer c p v (length l))) → brakeOutput c p v l ≡ l
-  pub after-hold-action : (c : FuseConfig) (p l : List Float) → Refuses (sentNumber (holdAnswer c p (length l))) → holdOutput c p l ≡ l
+  pub after-brake-feasible : (c : FuseConfig) (tabs : Tables) (p v rows : List Float) (h d e from : ℕ) (l : List Float) → Refuses (forecastNumber (forecastAnswer binary64 c tabs p v rows h d e from (length l)))
+      → (forecastNumber (forecastAnswer binary64 c tabs p v rows h d e from (length l)) ≡ 13 → ⊥) → forecastSlacks binary64 c tabs p v rows h d e from l ≡ l
+  pub after-brake-action : (c : FuseConfig) (tabs : Tables) (p v l : List Float) → Refuses (sentNumber (brakeAnswer binary64 c tabs p v (length l))) → brakeOutput binary64 c tabs p v l ≡ l
+  pub after-hold-action : (c : FuseConfig) (tabs : Tables) (p l : List Float) → Refuses (sentNumber (holdAnswer binary64 c tabs p (length l))) → holdOutput binary64 c tabs p l ≡ l

@@ -1,5 +1,6 @@
 // Records of tier 0: the check of an action, and of a chunk.
 use crate::config::config;
+use crate::config::unread;
 use crate::record::Numbers;
 use crate::record::Words;
 use crate::record::exact;
@@ -26,23 +27,25 @@ fn is_check(a: Check, trips: u64, dims: u64, peak: f64) -> bool {
 
 pub(crate) fn check_action_agrees(w: &Words, x: &Numbers) -> bool {
     let c = config(w, x);
+    let t = unread();
     let pos = part(x, 58, w[57]);
     let aux = part(x, 67, w[66]);
     let prev = part(x, 75, w[0]);
     let act = part(x, 83, w[0]);
     let mut out = [0.0; 8];
-    let a = tier0::check_action(c, pos, aux, prev, act, &mut out);
+    let a = tier0::check_action(c, &t, &t, pos, aux, prev, act, &mut out);
     is_check(a, w[91], w[92], x[93]) & agrees(part(x, 94, 8), &out)
 }
 
 pub(crate) fn check_chunk_agrees(w: &Words, x: &Numbers) -> bool {
     let c = config(w, x);
+    let t = unread();
     let pos = part(x, 58, w[57]);
     let aux = part(x, 67, w[66]);
     let h = to_u16(w[76]);
     let d = to_u16(w[0]);
     let rows = held_rows(part(x, 77, 32), h, d, true);
     let mut out = [0.0; 32];
-    let a = tier0::check_chunk(c, pos, aux, rows, h, d, 0, &mut out);
+    let a = tier0::check_chunk(c, &t, &t, pos, aux, rows, h, d, 0, &mut out);
     is_check(a, w[109], w[110], x[111]) & agrees(part(x, 112, 32), &out)
 }

@@ -48,12 +48,16 @@ fn counts(w: &Words) -> [u64; 26] {
     ]
 }
 
+// Either table of a calibration that is not there.
+pub(crate) fn unread() -> [f64; 192] {
+    [0.0; 192]
+}
+
 // The configuration that a record begins with. It has no calibration.
 pub(crate) fn config(w: &Words, x: &Numbers) -> FuseConfig {
     let n = numbers(x);
     let c = counts(w);
-    let unread = [0.0; 192];
-    layout::config::config_of(&n, &c, &unread, &unread)
+    layout::config::config_of(&n, &c)
 }
 
 // Whether a configuration is accepted, and these are the numbers kept as derived from it.
@@ -63,7 +67,9 @@ fn is_derived(refusal: u8, derived: &[f64; 29], x: &Numbers) -> bool {
 
 pub(crate) fn derive_agrees(w: &Words, x: &Numbers) -> bool {
     let c = config(w, x);
+    let t = unread();
+    let compiled = envelope::compile(c, &t, &t);
     let mut derived = [0.0; 29];
-    layout::config::put_derived(envelope::derive(c), &mut derived);
-    is_derived(envelope::config_refusal(c), &derived, x)
+    layout::config::put_derived(compiled.derived, &mut derived);
+    is_derived(compiled.number, &derived, x)
 }

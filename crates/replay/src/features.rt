@@ -1,5 +1,6 @@
 // Records of tier 1: the features of a tick with a new chunk.
 use crate::config::config;
+use crate::config::unread;
 use crate::record::Numbers;
 use crate::record::Words;
 use crate::record::exact;
@@ -75,6 +76,7 @@ fn is_featured(sc: Scores, rt: Tier1Rt, w: &Words, x: &Numbers) -> bool {
 
 pub(crate) fn features_agree(w: &Words, x: &Numbers) -> bool {
     let c = config(w, x);
+    let t = unread();
     let rt = state(w, x);
     let pos = part(x, 287, w[286]);
     let ext = part(x, 296, w[295]);
@@ -93,6 +95,6 @@ pub(crate) fn features_agree(w: &Words, x: &Numbers) -> bool {
         valid: 0,
         fired: 0,
     };
-    let a = tier1::features(c, rt, pos, ext, true, head, rows, none);
+    let a = tier1::features(c, &t, &t, rt, pos, ext, true, head, rows, none);
     (a.refusal.number == 0) & is_featured(a.scores, a.rt, w, x)
 }

@@ -43,12 +43,8 @@ fn gate(w: &Words) -> GateSpec {
 }
 
 fn calibration(w: &Words, x: &Numbers) -> Calibration {
-    let center = table(x, 0);
-    let scale = table(x, 12);
     let gate = gate(w);
     Calibration {
-        center,
-        scale,
         mask: to_u32(w[25]),
         gate,
         tau: x[24],
@@ -84,8 +80,10 @@ fn is_trip(sc: Scores, v: Verdict, w: &Words, x: &Numbers) -> bool {
 
 pub(crate) fn gate_agrees(w: &Words, x: &Numbers) -> bool {
     let cal = calibration(w, x);
-    let one = conformal::standardise(cal, w[35] as usize, scores(w, x));
-    let two = conformal::aggregate(cal, one.scores);
-    let v = conformal::trip(cal, two.scores);
+    let center = table(x, 0);
+    let scale = table(x, 12);
+    let one = conformal::standardise(cal, &center, &scale, w[35] as usize, scores(w, x));
+    let two = conformal::aggregate(cal, &center, &scale, one.scores);
+    let v = conformal::trip(cal, &center, &scale, two.scores);
     (one.refusal.number == 0) & (two.refusal.number == 0) & is_trip(two.scores, v, w, x)
 }

@@ -1,5 +1,6 @@
 // Records of the brake: the forecast, and the rows that brake and hold.
 use crate::config::config;
+use crate::config::unread;
 use crate::record::Numbers;
 use crate::record::Words;
 use crate::record::exact;
@@ -33,6 +34,7 @@ fn is_forecast(a: BrakeOut, w: &Words, x: &Numbers) -> bool {
 
 pub(crate) fn forecast_agrees(w: &Words, x: &Numbers) -> bool {
     let c = config(w, x);
+    let t = unread();
     let pos = part(x, 58, w[57]);
     let vel = part(x, 67, w[66]);
     let h = to_u16(w[76]);
@@ -40,7 +42,7 @@ pub(crate) fn forecast_agrees(w: &Words, x: &Numbers) -> bool {
     let rows = held_rows(part(x, 77, 32), h, d, true);
     let from = w[109] as usize;
     let mut slack = [0.0; 32];
-    let a = brake::brake_feasible(c, pos, vel, rows, h, d, 0, from, &mut slack);
+    let a = brake::brake_feasible(c, &t, &t, pos, vel, rows, h, d, 0, from, &mut slack);
     is_forecast(a, w, x) & agrees(part(x, 114, 32), &slack)
 }
 
@@ -54,11 +56,12 @@ fn is_sent(s: Sent, out: &[f64], kept: &[f64]) -> bool {
 
 pub(crate) fn rows_agree(w: &Words, x: &Numbers) -> bool {
     let c = config(w, x);
+    let t = unread();
     let pos = part(x, 58, w[57]);
     let vel = part(x, 67, w[66]);
     let mut braked = [0.0; 8];
     let mut held = [0.0; 8];
-    let brake = brake::brake_action(c, pos, vel, &mut braked);
-    let hold = brake::hold_action(c, pos, &mut held);
+    let brake = brake::brake_action(c, &t, &t, pos, vel, &mut braked);
+    let hold = brake::hold_action(c, &t, &t, pos, &mut held);
     is_sent(brake, &braked, part(x, 75, 8)) & is_sent(hold, &held, part(x, 83, 8))
 }
