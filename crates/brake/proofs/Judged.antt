@@ -22,7 +22,8 @@ use Rattle.envelope.specs.Refusals.{configJudged}
 use Rattle.envelope.specs.declared.BrakeKind.{BrakeKind}
 use Rattle.envelope.specs.declared.BrakeKind.the-variants.{PdSecondOrder, FirstOrderDecay, BoundedAccel, JerkLimited, ZeroVelocityHold}
 use Rattle.envelope.specs.declared.FuseConfig.{FuseConfig}
-use Rattle.envelope.proofs.Accepted.{Fit, accepted, dim-most, substeps-least, commit-most, substeps-in-all}
+use Rattle.envelope.specs.Promises.{Fit}
+use Rattle.envelope.proofs.Accepted.{accepted, dim-most, substeps-least, commit-most, substeps-in-all}
 use Rattle.course.specs.Forecast.{placeOf, writtenOf}
 use Rattle.course.specs.Rows.{rowsLeft}
 use Rattle.brake.specs.declared.BrakeOut.{BrakeOut}

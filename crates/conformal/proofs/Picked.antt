@@ -11,16 +11,7 @@ use Rattle.checked.specs.Least.{lesser, greater}
 use Rattle.checked.proofs.Extremes.{not-above-inf}
 use Rattle.checked.proofs.Ordered.{Real}
 use Rattle.conformal.specs.Rule.{joinWhere}
-
--- an index below n of which p and Q hold
-pub record Among (p : ℕ → Bool) (n : ℕ) (Q : ℕ → Type 0) : Type 0 where
-  pub index : ℕ
-  pub within : index < n
-  pub holds : p index ≡ true
-  pub such : Q index
-
-abbrev pub NoneOf : (ℕ → Bool) → ℕ → Type 0
-NoneOf p n = (j : ℕ) → j < n → p j ≡ false
+use Rattle.conformal.specs.Promises.{Among, NoneOf}
 
 -- ---- a fold that picks one of two at each step
 

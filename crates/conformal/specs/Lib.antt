@@ -3,3 +3,4 @@ pub mod Rule
 pub mod Refusals
 pub mod Answer
 pub mod Of
+pub mod Promises

@@ -13,6 +13,7 @@ use Rattle.conformal.specs.Rule.{Tables}
 use Rattle.envelope.specs.Derive.{derived}
 use Rattle.envelope.specs.Steps.{substepsIn}
 use Rattle.envelope.specs.Refusals.{sizesOk, zoneOk, ordered, derivedOk, numbersFrom, numbersOk, countsOk, stepsOk, channelsFit, configJudged}
+use Rattle.envelope.specs.Promises.{Fit}
 use Rattle.envelope.specs.declared.Compiled.{Compiled}
 use Rattle.envelope.specs.declared.FuseConfig.{FuseConfig}
 
@@ -25,13 +26,6 @@ pub compiled-derived : {k m : Compiled} → k ≡ m → k .derived ≡ m .derive
 compiled-derived = ap (λ (x : Compiled). x .derived)
 
 -- ---- what is accepted
-
--- the four conditions
-pub record Fit (f : Format) (c : FuseConfig) (t : Tables) : Type 0 where
-  pub sizes : sizesOk c ≡ true
-  pub numbers : numbersOk f c t ≡ true
-  pub counts : stepsOk c ≡ true
-  pub apart : channelsFit c ≡ true
 
 pub accepted : (f : Format) (c : FuseConfig) (t : Tables) → refusal (configJudged f c t) ≡ 0 → Fit f c t
 accepted f c t h =

@@ -1,4 +1,4 @@
--- What document 01 promises of a configuration's refusal, from its conditions: what is not looked at cannot change it.
+-- What is promised of a configuration's refusal: each condition reads only entries that are in use, so that two configurations that agree there are judged alike.
 use Prim.Native.Nat.{ℕ, zero, suc, _<_, min}
 use mathlib.Core.Path.{_≡_, refl, ap}
 use mathlib.Core.Bool.{Bool, true, false}
@@ -13,78 +13,13 @@ use Rattle.checked.specs.Each.{at, all, every, table}
 use Rattle.checked.specs.Finite.{finite, aboveZero, allFinite, allAboveZero}
 use Rattle.checked.specs.Least.{least}
 use Rattle.conformal.specs.Rule.{Tables}
-use Rattle.conformal.specs.declared.Calibration.{Calibration}
 use Rattle.envelope.specs.Derive.{kept, lowWalls, highWalls, inverses, isotropic, derivedFrom, derived}
 use Rattle.envelope.specs.Refusals.{sizesOk, numbersFrom, countsOk, stepsOk, normOk, boxOk, configJudged}
 use Rattle.envelope.specs.declared.FuseConfig.{FuseConfig}
-use Rattle.envelope.specs.declared.BrakeModel.{BrakeModel}
 use Rattle.envelope.specs.declared.Norm.{Norm}
 use Rattle.envelope.specs.declared.Box.{Box}
-use Rattle.envelope.proofs.Accepted.{Fit}
-
--- ---- exactly when
-
--- a configuration is accepted where its four conditions hold; `Accepted.accepted` is the other way
-pub fit-accepted : (f : Format) (c : FuseConfig) (t : Tables) → Fit f c t → refusal (configJudged f c t) ≡ 0
-fit-accepted f c t fit = rw (fit .sizes, fit .numbers, fit .counts, fit .apart)
-
--- ---- the flag, and the armed bits
-
--- c with other norms, walls, armed bits, calibration and horizon
-abbrev pub altered : FuseConfig → Norm → Box → ℕ → Calibration → ℕ → FuseConfig
-altered c n w bits cal ticks = record {
-  kind = c .kind;
-  dim = c .dim;
-  «pos_dim» = c .«pos_dim»;
-  limits = c .limits;
-  norm = n;
-  walls = w;
-  contact = c .contact;
-  brake = c .brake;
-  clamp = c .clamp;
-  armed = bits;
-  «aux_count» = c .«aux_count»;
-  calibrated = c .calibrated;
-  calib = cal;
-  «horizon_ticks» = ticks;
-}
-
-abbrev pub calibratedBy : FuseConfig → Calibration → ℕ → FuseConfig
-calibratedBy c cal ticks = altered c (c .norm) (c .walls) (c .armed) cal ticks
-
-abbrev pub armedBy : FuseConfig → ℕ → FuseConfig
-armedBy c bits = altered c (c .norm) (c .walls) bits (c .calib) (c .«horizon_ticks»)
-
-abbrev pub measuredBy : FuseConfig → Norm → Box → FuseConfig
-measuredBy c n w = altered c n w (c .armed) (c .calib) (c .«horizon_ticks»)
-
--- with the flag clear nothing of the calibration or its tables is judged, nor horizon_ticks
-pub flag-clear : (f : Format) (c : FuseConfig) (t u : Tables) (cal : Calibration) (ticks : ℕ) → c .calibrated ≡ false → refusal (configJudged f (calibratedBy c cal ticks) u) ≡ refusal (configJudged f c t)
-unfolding sizesOk numbersFrom stepsOk
-flag-clear f c t u cal ticks e = rw e
-
--- what is armed changes nothing: a contact that is configured is judged all the same
-pub armed-or-not : (f : Format) (c : FuseConfig) (t : Tables) (bits : ℕ) → refusal (configJudged f (armedBy c bits) t) ≡ refusal (configJudged f c t)
-unfolding sizesOk numbersFrom stepsOk
-armed-or-not f c t bits = refl
-
--- ---- counts
-
--- commit 64, brake_steps 0, substeps 64: accepted; brake_steps 1: refused
-module _ (b : BrakeModel) (sub : b .substeps .0 ≡ 64) (commit : b .commit .0 ≡ 64) where
-  pub exactly-4096 : b .«brake_steps» .0 ≡ 0 → countsOk b ≡ true
-  unfolding countsOk every
-  exactly-4096 e = rw (sub, commit, e)
-
-  pub one-step-more : b .«brake_steps» .0 ≡ 1 → countsOk b ≡ false
-  unfolding countsOk every
-  one-step-more e = rw (sub, commit, e)
-
--- ---- entries past dim and pos_dim
-
--- two lists that agree on the first n entries
-abbrev pub Agree : ℕ → List Float → List Float → Type 0
-Agree n a b = (i : ℕ) → i < n → at a i ≡ at b i
+use Rattle.envelope.specs.Promises.{measuredBy, Agree, AgreeWithin, Promised}
+use Rattle.envelope.proofs.Accepted.{accepted}
 
 all-same : (p q : ℕ → Bool) (n : ℕ) → ((i : ℕ) → i < n → p i ≡ q i) → all p n ≡ all q n
 unfolding all
@@ -119,22 +54,33 @@ module _ (a b : List Float) (n : ℕ) (same : Agree n a b) where
   least-each : least (at a) (min n 8) ≡ least (at b) (min n 8)
   least-each = least-same (at a) (at b) (min n 8) (λ i l. same i (omega arith))
 
-module _ (c : FuseConfig) (n : Norm) (w : Box) (scales : Agree (c .dim) (n .scale) (c .norm .scale)) (lows : Agree (c .«pos_dim») (w .lo) (c .walls .lo)) (highs : Agree (c .«pos_dim») (w .hi) (c .walls .hi)) where
-  -- entries past dim and pos_dim are unread
-  pub unread-past : (f : Format) → derived f (measuredBy c n w) ≡ derived f c
+module _ (f : Format) (c : FuseConfig) (n : Norm) (w : Box) (same : AgreeWithin c n w) where
+  unread-past : derived f (measuredBy c n w) ≡ derived f c
   unfolding derivedFrom lowWalls highWalls inverses isotropic
-  unread-past f =
-      let lo-same = kept-each (w .lo) (c .walls .lo) (c .«pos_dim») lows (λ (x : Float). add f x (c .limits .margin)) in
-      let hi-same = kept-each (w .hi) (c .walls .hi) (c .«pos_dim») highs (λ (x : Float). sub f x (c .limits .margin)) in
-      let inv-same = kept-each (n .scale) (c .norm .scale) (c .dim) scales (div f 1!) in
-      rw (lo-same, hi-same, inv-same, least-each (n .scale) (c .norm .scale) (c .dim) scales)
+  unread-past =
+      let lo-same = kept-each (w .lo) (c .walls .lo) (c .«pos_dim») (same .lows) (λ (x : Float). add f x (c .limits .margin)) in
+      let hi-same = kept-each (w .hi) (c .walls .hi) (c .«pos_dim») (same .highs) (λ (x : Float). sub f x (c .limits .margin)) in
+      let inv-same = kept-each (n .scale) (c .norm .scale) (c .dim) (same .scales) (div f 1!) in
+      rw (lo-same, hi-same, inv-same, least-each (n .scale) (c .norm .scale) (c .dim) (same .scales))
 
-  -- .. and unjudged
-  pub unjudged-past : (f : Format) (t : Tables) → Agree (c .dim) (n .center) (c .norm .center) → refusal (configJudged f (measuredBy c n w) t) ≡ refusal (configJudged f c t)
+  unjudged-past : (t : Tables) → Agree (c .dim) (n .center) (c .norm .center) → refusal (configJudged f (measuredBy c n w) t) ≡ refusal (configJudged f c t)
   unfolding sizesOk numbersFrom stepsOk normOk boxOk allFinite allAboveZero
-  unjudged-past f t centers =
+  unjudged-past t centers =
       let center-same = tested-each (n .center) (c .norm .center) (c .dim) centers finite in
-      let scale-same = tested-each (n .scale) (c .norm .scale) (c .dim) scales aboveZero in
-      let lo-same = tested-each (w .lo) (c .walls .lo) (c .«pos_dim») lows finite in
-      let hi-same = tested-each (w .hi) (c .walls .hi) (c .«pos_dim») highs finite in
-      rw (unread-past f, center-same, scale-same, lo-same, hi-same)
+      let scale-same = tested-each (n .scale) (c .norm .scale) (c .dim) (same .scales) aboveZero in
+      let lo-same = tested-each (w .lo) (c .walls .lo) (c .«pos_dim») (same .lows) finite in
+      let hi-same = tested-each (w .hi) (c .walls .hi) (c .«pos_dim») (same .highs) finite in
+      rw (unread-past, center-same, scale-same, lo-same, hi-same)
+
+pub promised : Promised
+unfolding sizesOk numbersFrom stepsOk countsOk every
+promised = record {
+  fit-accepted = λ f c t fit. rw (fit .sizes, fit .numbers, fit .counts, fit .apart);
+  accepted-fit = accepted;
+  flag-clear = λ f c t u cal ticks e. rw e;
+  armed-or-not = λ f c t bits. refl;
+  exactly-4096 = λ b sub commit e. rw (sub, commit, e);
+  one-step-more = λ b sub commit e. rw (sub, commit, e);
+  unread-past = unread-past;
+  unjudged-past = unjudged-past;
+}

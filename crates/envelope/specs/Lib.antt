@@ -1,3 +1,4 @@
 pub mod Derive
 pub mod Steps
 pub mod Refusals
+pub mod Promises

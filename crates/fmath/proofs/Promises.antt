@@ -17,6 +17,7 @@ use Rattle.fmath.specs.declared.Number.{Number}
 use Rattle.fmath.specs.declared.Number.the-variants.{Value, Refused}
 use Rattle.checked.specs.Finite.{finite, +0}
 use Rattle.fmath.specs.Answer.{noRoot, numberOr, sqrtAnswer}
+use Rattle.fmath.specs.Promises.{Promised}
 
 odd-fine : (d : ℕ) (s : Bool) (q k l : ℕ) → finite (odd d s q k l) ≡ true
 unfolding finite odd
@@ -54,7 +55,7 @@ answers : (none g : Bool) (x : Float) → g ≡ not none → numberOr (refusal (
 answers true g x e = rw e
 answers false g x e = rw e
 
-pub sqrt-answer : (f : Format) (x : Float) → sqrtAnswer f x ≡ (if noRoot x then Refused (refusedFor 13) else Value (rootOf f x))
+sqrt-answer : (f : Format) (x : Float) → sqrtAnswer f x ≡ (if noRoot x then Refused (refusedFor 13) else Value (rootOf f x))
 sqrt-answer f x = answers (noRoot x) (finite (rootOf f x)) (rootOf f x) (fine-exactly f x)
 
 unfoldable refused : Number → Bool
@@ -66,6 +67,9 @@ unfolding refused
 only-then true x a e h = refl
 only-then false x a e h = ap refused (sym e ∙ h)
 
--- 13 exactly below zero, at an infinity and at a NaN
-pub sqrt-refused-exactly : (f : Format) (x : Float) → (noRoot x ≡ true → sqrtAnswer f x ≡ Refused (refusedFor 13)) × (sqrtAnswer f x ≡ Refused (refusedFor 13) → noRoot x ≡ true)
-sqrt-refused-exactly f x = (λ e. sqrt-answer f x ∙ rw e, only-then (noRoot x) (rootOf f x) (sqrtAnswer f x) (sqrt-answer f x))
+pub promised : Promised
+promised = record {
+  sqrt-answer = sqrt-answer;
+  sqrt-refused-where = λ f x e. sqrt-answer f x ∙ rw e;
+  sqrt-refused-only = λ f x. only-then (noRoot x) (rootOf f x) (sqrtAnswer f x) (sqrt-answer f x);
+}

@@ -1,3 +1,4 @@
 pub mod Clamp
 pub mod Norm
 pub mod Answer
+pub mod Promises

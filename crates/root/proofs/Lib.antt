@@ -8,3 +8,4 @@ pub mod Rule
 pub mod Nearest
 pub mod Patterns
 pub mod Written
+pub mod Promises

@@ -2,3 +2,4 @@ pub mod Root
 pub mod Rule
 pub mod Of
 pub mod Worked
+pub mod Promises

@@ -1,0 +1,78 @@
+-- What is promised of a configuration's refusal: it is accepted exactly where its four conditions hold, and what is not looked at cannot change it. The proof is
+-- `proofs/Promises.promised`.
+use Prim.Native.Nat.{ℕ, _<_}
+use mathlib.Core.Path.{_≡_}
+use mathlib.Core.Bool.{true, false}
+use mathlib.Core.List.{List}
+use lib.Ieee.{Float, Format}
+use Rattle.refusal.specs.Order.{refusal}
+use Rattle.checked.specs.Each.{at}
+use Rattle.conformal.specs.Rule.{Tables}
+use Rattle.conformal.specs.declared.Calibration.{Calibration}
+use Rattle.envelope.specs.Derive.{derived}
+use Rattle.envelope.specs.Refusals.{sizesOk, numbersOk, countsOk, stepsOk, channelsFit, configJudged}
+use Rattle.envelope.specs.declared.FuseConfig.{FuseConfig}
+use Rattle.envelope.specs.declared.BrakeModel.{BrakeModel}
+use Rattle.envelope.specs.declared.Norm.{Norm}
+use Rattle.envelope.specs.declared.Box.{Box}
+
+-- the four conditions
+pub record Fit (f : Format) (c : FuseConfig) (t : Tables) : Type 0 where
+  pub sizes : sizesOk c ≡ true
+  pub numbers : numbersOk f c t ≡ true
+  pub counts : stepsOk c ≡ true
+  pub apart : channelsFit c ≡ true
+
+-- c with other norms, walls, armed bits, calibration and horizon
+abbrev pub altered : FuseConfig → Norm → Box → ℕ → Calibration → ℕ → FuseConfig
+altered c n w bits cal ticks = record {
+  kind = c .kind;
+  dim = c .dim;
+  «pos_dim» = c .«pos_dim»;
+  limits = c .limits;
+  norm = n;
+  walls = w;
+  contact = c .contact;
+  brake = c .brake;
+  clamp = c .clamp;
+  armed = bits;
+  «aux_count» = c .«aux_count»;
+  calibrated = c .calibrated;
+  calib = cal;
+  «horizon_ticks» = ticks;
+}
+
+abbrev pub calibratedBy : FuseConfig → Calibration → ℕ → FuseConfig
+calibratedBy c cal ticks = altered c (c .norm) (c .walls) (c .armed) cal ticks
+
+abbrev pub armedBy : FuseConfig → ℕ → FuseConfig
+armedBy c bits = altered c (c .norm) (c .walls) bits (c .calib) (c .«horizon_ticks»)
+
+abbrev pub measuredBy : FuseConfig → Norm → Box → FuseConfig
+measuredBy c n w = altered c n w (c .armed) (c .calib) (c .«horizon_ticks»)
+
+-- two lists that agree on the first n entries
+abbrev pub Agree : ℕ → List Float → List Float → Type 0
+Agree n a b = (i : ℕ) → i < n → at a i ≡ at b i
+
+-- other norms and walls, which agree on the entries that are looked at
+pub record AgreeWithin (c : FuseConfig) (n : Norm) (w : Box) : Type 0 where
+  pub scales : Agree (c .dim) (n .scale) (c .norm .scale)
+  pub lows : Agree (c .«pos_dim») (w .lo) (c .walls .lo)
+  pub highs : Agree (c .«pos_dim») (w .hi) (c .walls .hi)
+
+pub record Promised : Type 0 where
+  pub fit-accepted : (f : Format) (c : FuseConfig) (t : Tables) → Fit f c t → refusal (configJudged f c t) ≡ 0
+  pub accepted-fit : (f : Format) (c : FuseConfig) (t : Tables) → refusal (configJudged f c t) ≡ 0 → Fit f c t
+  -- with the flag clear nothing of the calibration or its tables is judged, nor horizon_ticks
+  pub flag-clear : (f : Format) (c : FuseConfig) (t u : Tables) (cal : Calibration) (ticks : ℕ) → c .calibrated ≡ false
+      → refusal (configJudged f (calibratedBy c cal ticks) u) ≡ refusal (configJudged f c t)
+  -- what is armed changes nothing: a contact that is configured is judged all the same
+  pub armed-or-not : (f : Format) (c : FuseConfig) (t : Tables) (bits : ℕ) → refusal (configJudged f (armedBy c bits) t) ≡ refusal (configJudged f c t)
+  -- commit 64, brake_steps 0, substeps 64: accepted; brake_steps 1: refused
+  pub exactly-4096 : (b : BrakeModel) → b .substeps .0 ≡ 64 → b .commit .0 ≡ 64 → b .«brake_steps» .0 ≡ 0 → countsOk b ≡ true
+  pub one-step-more : (b : BrakeModel) → b .substeps .0 ≡ 64 → b .commit .0 ≡ 64 → b .«brake_steps» .0 ≡ 1 → countsOk b ≡ false
+  -- entries past dim and pos_dim are unread, and unjudged
+  pub unread-past : (f : Format) (c : FuseConfig) (n : Norm) (w : Box) → AgreeWithin c n w → derived f (measuredBy c n w) ≡ derived f c
+  pub unjudged-past : (f : Format) (c : FuseConfig) (n : Norm) (w : Box) → AgreeWithin c n w → (t : Tables) → Agree (c .dim) (n .center) (c .norm .center)
+      → refusal (configJudged f (measuredBy c n w) t) ≡ refusal (configJudged f c t)
