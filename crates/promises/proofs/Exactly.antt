@@ -42,7 +42,7 @@ use Rattle.tier1.specs.Refusals.{none, prevJudged, stateJudged}
 use Rattle.tier1.specs.Of as tier1
 use Rattle.course.specs.Forecast.{Forecast, placeOf}
 use Rattle.brake.specs.declared.BrakeOut.the-variants as out
-use Rattle.brake.specs.Answer.{plan, lentJudged, rowLent, outcome, answerAt, sentAt, forecastRefusal, forecastAnswer, brakeSent, brakeRefusal, brakeAnswer, holdRefusal, holdAnswer}
+use Rattle.brake.specs.Answer.{plan, lentJudged, rowLent, outcome, answerAt, sentAt, forecastRefusal, forecastAnswer, brakeSent, brakeRefusal, brakeAnswer, holdSent, holdRefusal, holdAnswer}
 use Rattle.lictor.specs.Answer.{numberOf as numberIn, maskNumber, countNumber, emptinessNumber, verdictNumber, binNumber, checkNumber, forecastNumber, sentNumber}
 
 -- n is the number of a call to which these reasons apply
@@ -226,7 +226,7 @@ pub brake-action-exactly :
 unfolding brakeAnswer brakeRefusal
 brake-action-exactly c tabs p v room = exactly _ (sent-told _)
 
-pub hold-action-exactly : (c : FuseConfig) (tabs : Tables) (p : List Float) (room : ℕ) → Exactly (sentNumber (holdAnswer binary64 c tabs p room)) (among (configJudged binary64 c tabs ++ rowLent c (someNotFinite p) room))
+pub hold-action-exactly : (c : FuseConfig) (tabs : Tables) (p : List Float) (room : ℕ) → Exactly (sentNumber (holdAnswer binary64 c tabs p room)) (among (configJudged binary64 c tabs ++ (rowLent c (someNotFinite p) room ++ (computed when not (holdSent binary64 c p .sound) ∷ []))))
 unfolding holdAnswer holdRefusal
 hold-action-exactly c tabs p room = exactly _ (sent-told _)
 

@@ -47,8 +47,10 @@ use Rattle.window.proofs.Trail.len.Reads as trail-len
 use Rattle.window.proofs.Trail.is_empty.Reads as trail-is-empty
 use Rattle.envelope.proofs.substeps_in.Reads as substeps-in
 use Rattle.envelope.proofs.compile.Reads as compile
+use Rattle.pull.proofs.pulled.Reads as pulled
 use Rattle.workspace.proofs.outside.Reads as outside
 use Rattle.workspace.proofs.inward.Reads as inward
+use Rattle.workspace.proofs.setpoint.Reads as setpoint
 use Rattle.workspace.proofs.slack.Reads as slack
 use Rattle.workspace.proofs.slack_abreast.Reads as slack-abreast
 use Rattle.workspace.proofs.slack_within.Reads as slack-within
@@ -275,13 +277,19 @@ one-substeps-in l a r s x y = unique
 pub one-compile : One compile.Post (λ r x. r)
 one-compile l a r s x y = unique
 
--- ---- workspace (modules 5 and 7)
+-- ---- pull and workspace (modules 5 and 7)
+
+pub one-pulled : One pulled.Post (λ r x. r)
+one-pulled l a r s x y = unique
 
 pub one-outside : One outside.Post (λ r x. r)
 one-outside l a r s x y = unique
 
 pub one-inward : One inward.Post (λ r x. r)
 one-inward l a r s x y = unique
+
+pub one-setpoint : One setpoint.Post (λ r x. r)
+one-setpoint l a r s x y = unique
 
 pub one-slack : One slack.Post (λ r x. r)
 one-slack l a r s x y = unique

@@ -8,7 +8,7 @@ ghost use Rattle.checked.specs.Of.{rowFrom};
 ghost use Rattle.pull.specs.Rule.{towards, shortened, pulled};
 use checked::Row;
 
-// The factor lands a row inside its limit by 2^-36 of it, so that rounding does not put it outside again.
+// The factor aims inside the limit by 2^-36 of it, to leave room for rounding. That the row then passes is not promised (R5.12).
 const LEASH_SHRINK: f64 = 1.0 - 1.0 / 68719476736.0;
 
 // The row, each of its first n coordinates the part s of the way from q to it.

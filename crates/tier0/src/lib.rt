@@ -251,8 +251,8 @@ fn judge_chunk(
         z.inside & t.close,
     );
     let p = projected_rows(s, z, pos, rows, q, h, out);
-    let differences = bent.sound & (jolted.sound & (far.sound & p.sound));
-    let judged = t.sound & (fine & (t.out.sound & differences));
+    let rest = bent.sound & (jolted.sound & (far.sound & p.sound));
+    let judged = t.sound & (fine & (t.out.sound & rest));
     Ruling {
         trips,
         mask: p.mask,
