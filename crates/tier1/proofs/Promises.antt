@@ -20,7 +20,7 @@ use Rattle.window.specs.declared.Trail.{Trail}
 use Rattle.envelope.specs.declared.FuseConfig.{FuseConfig}
 use Rattle.tier1.specs.declared.Head.{Head}
 use Rattle.tier1.specs.declared.Tier1Rt.{Tier1Rt}
-use Rattle.tier1.specs.Rule.{shared, boundaryAt, boundaryBits, moving, validAt, valueAt, twelve}
+use Rattle.tier1.specs.Rule.{boxDims, boundaryAt, boundaryBits, moving, validAt, valueAt, twelve}
 use Rattle.tier1.proofs.Ticks.{chunk-keeps-trail}
 use Rattle.tier1.specs.Of.{manifestOf, afterChunk, Tick, tick, scoresWith, featuredAt, ticked, featuresRefusal, featuresOf}
 use Rattle.tier1.specs.Promises.{Given, answer, number, common, Always, Passed, Held, quiet, Promised}
@@ -113,7 +113,7 @@ module _ (fm : Format) (x : Given) (rt : Tier1Rt) (sc : Scores) where
 
 module _ (fm : Format) (x : Given) (rt : Tier1Rt) (sc : Scores) (there : x .came ≡ true) (e : number fm x rt sc ≡ 0) where
   abbrev holds : ℕ → Bool
-  holds = boundaryAt (common fm x rt sc) (x .head .horizon) (shared (manifestOf fm (x .config)) (x .position))
+  holds = boundaryAt (common fm x rt sc) (x .head .horizon) (boxDims (manifestOf fm (x .config)) (x .position))
 
   chunk-bit : (j : ℕ) → j < 6 → bit (answer fm x rt sc .scores .valid) j ≡ holds j
   unfolding validAt ticked tick afterChunk boundaryBits

@@ -18,7 +18,7 @@ use Rattle.envelope.specs.declared.FuseConfig.{FuseConfig}
 use Rattle.tier1.specs.declared.Head.{Head}
 use Rattle.tier1.specs.declared.Tier1Rt.{Tier1Rt}
 use Rattle.tier1.specs.declared.Featured.{Featured}
-use Rattle.tier1.specs.Rule.{shared, overlap, boundary, validAt}
+use Rattle.tier1.specs.Rule.{boxDims, overlap, boundary, validAt}
 use Rattle.tier1.specs.Of.{keptOf, manifestOf, featuresRefusal, featuresOf}
 
 -- all that a call is given besides its state and scores, and whether a chunk came
@@ -73,7 +73,7 @@ module _ (f : Format) (x : Given) (rt : Tier1Rt) (sc : Scores) where
     pub acc-exactly : validBit ACC ≡ leb 2 common
     pub acm-neg-exactly : validBit ACM-NEG ≡ leb 2 (x .head .horizon)
     pub njr-exactly : validBit NJR ≡ leb 4 (x .head .horizon)
-    pub reach-exactly : validBit REACH ≡ ltb 0 (shared (manifestOf f (x .config)) (x .position))
+    pub reach-exactly : validBit REACH ≡ ltb 0 (boxDims (manifestOf f (x .config)) (x .position))
     pub speed-peak-always : validBit SPEED-PEAK ≡ true
     pub held-replaced : answer .rt .held ≡ boundary f (manifestOf f (x .config)) (keptOf rt) (rt .prev .«data») (x .position) (x .head .«t_emit») (x .head .horizon) (x .rows) .value
 
