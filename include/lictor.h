@@ -390,7 +390,7 @@ uint64_t lictor_brake_action(const struct lictor_numbers *numbers, const struct 
                              size_t out_count);
 
 /* The row that holds, over the first dim numbers of out: the latched position inside its box, or no velocity.
-   LICTOR_MISFIT, LICTOR_SIZE to LICTOR_CHANNELS, LICTOR_SHORT, LICTOR_NOT_FINITE. */
+   LICTOR_MISFIT, LICTOR_SIZE to LICTOR_CHANNELS, LICTOR_SHORT to LICTOR_COMPUTED, the last never at a box. */
 uint64_t lictor_hold_action(const struct lictor_numbers *numbers, const struct lictor_counts *counts,
                             const double center[192], const double scale[192], const double *position,
                             size_t position_count, double *out, size_t out_count);

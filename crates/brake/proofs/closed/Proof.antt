@@ -25,7 +25,7 @@ stop-distance-requires c κs = search needs
 abbrev task : tie.Start → Task
 task s = taskOf (s .args .arm) (s .args .react) (s .args .w) (s .args .c) (s .args .start) (now (s .args .rows))
 
-runs : (c : tie.After-stopping) → c .closed-form .result ≡ runOf (forecast binary64 (task (c .before .before .before .before))) (stand binary64 (task (c .before .before .before .before)))
+runs : (c : tie.After-closed-form) → c .closed-form .result ≡ runOf (forecast binary64 (task (c .before .before .before .before))) (stand binary64 (task (c .before .before .before .before)))
 runs c = rw (c .before .before .before .before .pre .0) at (c .closed-form .ensures .0)
 
 settled-requires : tie.Need-settled-requires
