@@ -43,7 +43,7 @@ static void chunks(void) {
     EXPECT(numbers[0] == 3.0 && numbers[1] == 4.0);
 }
 
-/* document 01: n 3, pushes true, false, true, true: bits 3, hits 2 */
+/* the scope document: n 3, pushes true, false, true, true: bits 3, hits 2 */
 static void windows(void) {
     uint64_t mask = 0, bits = 0;
     EXPECT(lictor_mask(64, &mask) == LICTOR_SIZE && mask == 0);
@@ -244,7 +244,7 @@ static void held_widths(void) {
     }
 }
 
-/* document 01: from (0,0), row (6,8), step 5, SPEED alone armed: SPEED, projected to (3 - 3 x 2^-36, 4 - 4 x 2^-36); row
+/* the scope document: from (0,0), row (6,8), step 5, SPEED alone armed: SPEED, projected to (3 - 3 x 2^-36, 4 - 4 x 2^-36); row
    (3,4): no trip, same row */
 static void checks(void) {
     struct lictor_numbers n = {0};
@@ -316,7 +316,7 @@ static void features(void) {
 #undef TICK
 }
 
-/* document 01's cards F1, F2, F1 with hi 1.25, and F3; a place; and the rows that brake and hold */
+/* the scope document's cards F1, F2, F1 with hi 1.25, and F3; a place; and the rows that brake and hold */
 static void brakes(void) {
     struct lictor_numbers n = {0};
     struct lictor_counts c = {0};
@@ -350,7 +350,7 @@ static void brakes(void) {
     EXPECT(lictor_hold_action(&n, &c, center, scale, far, 1, out, 2) == LICTOR_MISFIT && out[0] == 0.0);
 }
 
-/* document 01: z (2,1), terms {0,1} and {0}: s = 2; tau 2 doesn't trip */
+/* the scope document: z (2,1), terms {0,1} and {0}: s = 2; tau 2 doesn't trip */
 static void gate(void) {
     const uint32_t terms[8] = {3, 1, 0, 0, 0, 0, 0, 0};
     struct lictor_scores s = {{2.0, 1.0}, {0.0}, 0.0};

@@ -27,7 +27,7 @@ pub bits-more : (p : ℕ → Bool) (j b w v : ℕ) → b ≡ bitsWhere p j → w
 unfolding bitsWhere
 bits-more p j b w v h g e = rw (e, h, g, add-one)
 
--- .. of at most twelve, whose numbers stay small
+-- one turn of a loop over at most twelve bits, whose numbers stay small
 pub record Turned (p : ℕ → Bool) (j v w x : ℕ) : Type 0 where
   pub so-far : v + x ≡ bitsWhere p (j + 1)
   pub next : w * 2 ≡ 2 ^ (j + 1)
@@ -52,7 +52,7 @@ pub bit-above : (w j : ℕ) → w < 2 ^ j → bit w j ≡ false
 unfolding bit
 bit-above w j h = rw (div-eq-of-lt h)
 
--- .. and has it with the weight added
+-- with its weight added the word has bit j
 top-bit : (w j : ℕ) → w < 2 ^ j → bit (w + 2 ^ j) j ≡ true
 unfolding bit
 top-bit w j h = rw (add-div-right w (pow-pos j), div-eq-of-lt h)

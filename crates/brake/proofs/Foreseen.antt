@@ -16,7 +16,7 @@ use Rattle.envelope.specs.declared.BrakeKind.the-variants.{PdSecondOrder}
 use Rattle.envelope.specs.declared.FuseConfig.{FuseConfig}
 use Rattle.course.specs.Forecast.{Forecast, fine, slackAt, placeOf, marginOf, feasibleOf, writtenOf}
 use Rattle.rollout.specs.Rule.{forecast}
-use Rattle.course.proofs.Entries.{Whole, whole-reached, written-in-order, others-kept, first-failing-place, failing-at-the-end}
+use Rattle.course.proofs.Entries.{Whole, whole-leads, written-in-order, others-kept, first-failing-place, failing-at-the-end}
 use Rattle.brake.specs.declared.BrakeOut.{BrakeOut}
 use Rattle.brake.specs.declared.BrakeOut.the-variants as out
 use Rattle.brake.specs.Rule.{secondOrder, forecastBy}
@@ -48,12 +48,12 @@ module _ (f : Format) (c : FuseConfig) (tabs : Tables) (p v rows : List Float) (
   unfolding outcome placeOf
   accepted-answer w s = answer-is ∙ rw (w, s)
 
-  -- .. each entry is written, and all others are kept
+  -- each entry is written, and all others are kept
   pub accepted-entries : Whole t → (k : ℕ) → k < t .count → k < length l → at slacks k ≡ slackAt t k
-  accepted-entries w k b r = ap (λ (m : List Float). at m k) slacks-are ∙ written-in-order t l k (rw (← whole-reached t w) at b) r
+  accepted-entries w k b r = ap (λ (m : List Float). at m k) slacks-are ∙ written-in-order t l k (rw (← whole-leads t w) at b) r
 
   pub accepted-rest : Whole t → (k : ℕ) → t .count ≤ k → at slacks k ≡ at l k
-  accepted-rest w k b = ap (λ (m : List Float). at m k) slacks-are ∙ others-kept t l k (rw (← whole-reached t w) at b)
+  accepted-rest w k b = ap (λ (m : List Float). at m k) slacks-are ∙ others-kept t l k (rw (← whole-leads t w) at b)
 
   -- if place k + 1 is the first with a number that isn't finite, it is refused naming that place, with exactly the k entries before it written
   module _ (k : ℕ) (in-it : k < t .count) (before : all (fine t) k ≡ true) (there : fine t k ≡ false) where

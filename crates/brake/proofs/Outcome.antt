@@ -9,12 +9,12 @@ use lib.Ieee.{le}
 use Rattle.checked.specs.Each.{all}
 use Rattle.checked.specs.Finite.{+0}
 use Rattle.course.specs.Plant.{State}
-use Rattle.course.specs.Forecast.{Forecast, fine, reached, placeOf, marginOf}
+use Rattle.course.specs.Forecast.{Forecast, fine, leadingIn, placeOf, marginOf}
 use Rattle.course.specs.Of.{runOf}
 use Rattle.checked.specs.Of.{reckonedFrom}
 use Rattle.checked.specs.declared.Reckoned.{Reckoned}
 use Rattle.course.specs.declared.Run.{Run}
-use Rattle.course.proofs.Reach.{reach-whole, reach-le}
+use Rattle.course.proofs.Leading.{leading-whole, leading-le}
 use Rattle.brake.specs.declared.BrakeOut.the-variants as out
 use Rattle.brake.specs.Answer.{outcome}
 
@@ -22,7 +22,7 @@ module _ (t : Forecast) (stand : ℕ → State) (run : Run) (stop : Reckoned) (i
   whole : run .sound ≡ all (fine t) (t .count)
   whole = ap (λ (r : Run). r .sound) is
 
-  done : run .done ≡ reached t
+  done : run .done ≡ leadingIn t
   done = ap (λ (r : Run). r .done) is
 
   stops-at : (b s : Bool) → run .sound ≡ b → stop .sound ≡ s → (not b || not s) ≡ true → placeOf t ≡ suc (run .done)
@@ -31,7 +31,7 @@ module _ (t : Forecast) (stand : ℕ → State) (run : Run) (stop : Reckoned) (i
   stops-at true true h g e = absurd (false≢true e)
   stops-at true false h g e =
       let w : all (fine t) (t .count) ≡ true = sym whole ∙ h in
-      let d : run .done ≡ t .count = done ∙ reach-whole (fine t) (t .count) w in
+      let d : run .done ≡ t .count = done ∙ leading-whole (fine t) (t .count) w in
       rw (w, sym (ap (λ (r : Reckoned). r .sound) (ends h)) ∙ g, d)
 
   pub fails : (not (run .sound) || not (stop .sound)) ≡ true → out.Refused (record { number = 13; place = run .done + 1 }) ≡ outcome t
@@ -48,9 +48,9 @@ module _ (t : Forecast) (stand : ℕ → State) (run : Run) (stop : Reckoned) (i
   passes e =
       let b = both (run .sound) (stop .sound) e in
       let w : all (fine t) (t .count) ≡ true = sym whole ∙ b .0 in
-      let r : reached t ≡ t .count = reach-whole (fine t) (t .count) w in
+      let r : leadingIn t ≡ t .count = leading-whole (fine t) (t .count) w in
       let x = ends (b .0) in
       rw (is, x, w, r, sym (ap (λ (r : Reckoned). r .sound) x) ∙ b .1)
 
 pub done-few : (t : Forecast) (stand : ℕ → State) (run : Run) → run ≡ runOf t stand → t .count ≤ 4096 → run .done ≤ 4096
-done-few t stand run is few = let e : run .done ≡ reached t = ap (λ (r : Run). r .done) is in let b = reach-le (fine t) (t .count) in omega arith
+done-few t stand run is few = let e : run .done ≡ leadingIn t = ap (λ (r : Run). r .done) is in let b = leading-le (fine t) (t .count) in omega arith

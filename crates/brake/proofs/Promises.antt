@@ -21,10 +21,10 @@ use Rattle.envelope.specs.Refusals.{configJudged}
 use Rattle.envelope.specs.declared.ControlSteps.{ControlSteps}
 use Rattle.envelope.proofs.Walls.{low-wall-fits, high-wall-fits}
 use Rattle.rollout.specs.Plant.{Gains}
-use Rattle.course.specs.Forecast.{Forecast, fine, slackAt, reached, marginOf, feasibleOf, writtenOf}
+use Rattle.course.specs.Forecast.{Forecast, fine, slackAt, leadingIn, marginOf, feasibleOf, writtenOf}
 use Rattle.rollout.specs.Rule.{forecast, stop}
-use Rattle.course.proofs.Reach.{reach-le, first-or-all}
-use Rattle.course.proofs.Entries.{Whole, whole-reached, written-in-order, others-kept, first-failing-place, empty-margin, margin-attained, margin-least, feasible-none-negative, none-negative-feasible}
+use Rattle.course.proofs.Leading.{leading-le, first-or-all}
+use Rattle.course.proofs.Entries.{Whole, whole-leads, written-in-order, others-kept, first-failing-place, empty-margin, margin-attained, margin-least, feasible-none-negative, none-negative-feasible}
 use Rattle.rollout.proofs.Promises.{entry-is-slack, entries-real, braking, shorter-begins-longer, feasible-inside}
 use Rattle.brake.specs.declared.BrakeOut.{BrakeOut}
 use Rattle.brake.specs.declared.BrakeOut.the-variants.{Accepted, Refused}
@@ -99,11 +99,11 @@ module _ (x : Call) (g : Gains) (is : SecondOrder x g) (only : OnlyThirteen x) w
 
   wrote-length : length (entries x) ≡ length (x .lent)
   unfolding writtenOf
-  wrote-length = ap length entries-are ∙ length-over (slackAt f) (x .lent) (reached f)
+  wrote-length = ap length entries-are ∙ length-over (slackAt f) (x .lent) (leadingIn f)
 
-  wrote : (n : ℕ) → reached f ≡ n → Wrote x g n
+  wrote : (n : ℕ) → leadingIn f ≡ n → Wrote x g n
   wrote n e =
-      let enough : n ≤ length (x .lent) = le-trans (rw (← e) (reach-le (fine f) (f .count))) room in
+      let enough : n ≤ length (x .lent) = le-trans (rw (← e) (leading-le (fine f) (f .count))) room in
       record {
         enough-room = enough;
         kth = λ k b. ap (λ (l : List Float). at l k) entries-are ∙ written-in-order f (x .lent) k (rw e b) (omega arith) ∙ slack-is k;
@@ -112,7 +112,7 @@ module _ (x : Call) (g : Gains) (is : SecondOrder x g) (only : OnlyThirteen x) w
       }
 
   wrote-all : Whole f → Wrote x g (N x)
-  wrote-all w = wrote (N x) (whole-reached f w ∙ is-N)
+  wrote-all w = wrote (N x) (whole-leads f w ∙ is-N)
 
   report : Whole f → f .stop .sound ≡ true → answer x ≡ Accepted (f .count) (marginOf f) (feasibleOf f) (f .stop .value)
   report w s = accepted-answer binary64 (x .config) (x .tables) (x .position) (x .velocity) (x .rows) (x .horizon) (x .dim) (x .exec) (x .from) (x .lent) clear w s

@@ -101,7 +101,7 @@ module _ (f : Format) (c : FuseConfig) (tabs : Tables) (unfit : Bool) (room : �
       let a = passes-at short (ltb room (c .dim)) ((notFinite when unfit) ∷ []) (w .1) in
       (dim-most f c tabs (accepted f c tabs (w .0)), ltb-false room (c .dim) (a .0))
 
--- .. so that all of it is put over the output
+-- all of a row of eight is put over an output with room for dim numbers
 all-sent : (f : Format) (c : FuseConfig) (tabs : Tables) (unfit : Bool) (row l : List Float) → before f c tabs unfit (length l) ≡ 0 → length row ≡ 8 → {m : List Float} → m ≡ over (at row) l (min (c .dim) (min (length row) (length l))) → m ≡ over (at row) l (c .dim)
 all-sent f c tabs unfit row l z long = let w = sized f c tabs unfit (length l) z in all-put l row (omega (arith, w .0)) (w .1)
 

@@ -100,7 +100,7 @@ ramp f a dt v n = do
 unfoldable pub scaledAt : Format → Float → List Float → ℕ → Checked Float
 scaledAt f k v j = if ltb j (length v) then times f (at v j) k else pure +0
 
--- .. on the first n coordinates
+-- the first n coordinates of the velocity times k
 unfoldable pub slowed : Format → Float → List Float → ℕ → Checked (List Float)
 slowed f k v n = each (scaledAt f k v) (replicate 8 +0) n
 

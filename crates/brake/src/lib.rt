@@ -161,7 +161,7 @@ fn closed(
     requires { ⌜ (stopped.roomy c (length (now rows)) (length (now slack)) ≡ true) × (suc (leftOf c .0) ≤ 4096) ⌝ }
     ensures { λ r. ⌜ (r ≡ outcome (stopping-rule.forecast binary64 (stopped.taskOf arm react w c start (now (rows .entry))))) × (now (slack .exit) ≡ writtenOf (stopping-rule.forecast binary64 (stopped.taskOf arm react w c start (now (rows .entry)))) (now (slack .entry))) ⌝ }
 {
-    let run = stopping::stopping(arm, react, w, c, start, rows, slack);
+    let run = stopping::closed_form(arm, react, w, c, start, rows, slack);
     let end = run.plant;
     let stop = stopping::stop_distance(arm, react, start, end, c.live);
     settled(run, stop)
@@ -329,7 +329,7 @@ fn scaled(k: f64, vel: &[f64], j: usize) -> f64
     if j < vel.len() { vel[j] * k } else { 0.0 }
 }
 
-// .. on the first n coordinates.
+// The first n coordinates of the velocity times k.
 fn slowed(k: f64, vel: &[f64], n: usize) -> Row
     requires { ⌜ n ≤ 8 ⌝ }
     ensures { λ r. ⌜ r ≡ rowFrom (slowed binary64 k (now (vel .entry)) n) ⌝ }

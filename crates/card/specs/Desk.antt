@@ -1,4 +1,4 @@
--- What the contracts of `card::desk` cite: document 01's configuration of a card, its forecast by module 7's rule, and what the desk is answered.
+-- What the contracts of `card::desk` cite: the configuration of a card (R9.2), its forecast by the brake's rule, and what the desk is answered.
 use Prim.Native.Nat.{ℕ, _-_}
 use mathlib.Core.Bool.{false}
 use mathlib.Core.List.{List, [], _∷_}

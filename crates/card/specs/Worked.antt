@@ -1,4 +1,4 @@
--- Document 01's example of the card program: its 298 bytes, and the four lines that they are answered.
+-- The example of the card program (R9.5): its 298 bytes, and the four lines that they are answered.
 use mathlib.Core.List.{List, [], _∷_, _++_}
 use Prim.Native.Nat.{ℕ}
 

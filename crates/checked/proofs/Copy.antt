@@ -23,7 +23,7 @@ all-put l₀ r {l} {n} {a} {b} ha hb e = e ∙ ap (over (at r) l₀) fewest
     fewest : min n (min a b) ≡ n
     fewest = omega arith
 
--- .. and where the second is put whole: a copy of it over the front of the first
+-- where the second list is put whole, it is a copy over the front of the first
 put-pasted : (l r : List Float) (n : ℕ) → n ≤ length l → n ≤ length r → over (at r) l n ≡ paste l 0 r n
 unfolding over
 put-pasted l r zero hl hr = sym (paste-zero l 0 r)

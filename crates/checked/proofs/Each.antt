@@ -80,7 +80,7 @@ pub some-more : (p : ℕ → Bool) (i : ℕ) (so t : Bool) → so ≡ some p i �
 unfolding some
 some-more p i so t h g = rw (h, g, add-one)
 
--- .. and from some place on none does
+-- a list of tests of which none holds from some place on
 pub some-cut : (p : ℕ → Bool) (n m : ℕ) → ((j : ℕ) → m ≤ j → p j ≡ false) → some p n ≡ some p (min n m)
 unfolding some
 some-cut p zero m h = let e : min 0 m ≡ 0 = omega arith in rw e
@@ -117,7 +117,7 @@ pub table-more : (g : ℕ → Float) (i : ℕ) (a : List Float) (v : Float) → 
 unfolding table
 table-more g i a v h e w = rw (add-one, take-suc-set a i v h, e, w)
 
--- .. and its end
+-- the end of such a loop
 pub table-all : (g : ℕ → Float) (n i : ℕ) (a : List Float) → i ≡ n → length a ≡ n → take i a ≡ table g i → a ≡ table g n
 table-all g n i a hi hl e = sym (take-all n a (omega arith)) ∙ rw hi at e
 

@@ -70,6 +70,6 @@ lent-accepted l h d e z =
     let both = both-pass (chunkReasons h d e (length l)) ((notFinite when not (allFinite l (length l))) ∷ []) z in
     (sizes-accepted h d e (length l) (both .0), not-false (allFinite l (length l)) (passes-at notFinite (not (allFinite l (length l))) [] (both .1) .0))
 
--- .. and so fits a buffer
+-- accepted sizes fit a buffer
 pub accepted-fits : {h d e n : ℕ} → Accepted h d e n → n ≤ 512
 accepted-fits {h} {d} {e} {n} a = rw (a .all-there) (mul-le-mul (a .not-long) (a .not-wide))

@@ -31,7 +31,7 @@ unique p q = p ∙ sym q
 abbrev Has : ChunkView → ℕ → ℕ → ℕ → ℕ → ℕ → List Float → Type 0
 Has v s t h d e l = (v .seq ≡ s) × ((v .«t_emit» ≡ t) × ((v .horizon ≡ h) × ((v .dim ≡ d) × ((v .«exec_steps» ≡ e) × (now (v .«data») ≡ l)))))
 
--- .. those of another
+-- a view has the numbers of another, and shows its rows
 abbrev pub Same : ChunkView → ChunkView → Type 0
 Same v w = Has v (w .seq) (w .«t_emit») (w .horizon) (w .dim) (w .«exec_steps») (now (w .«data»))
 

@@ -34,7 +34,7 @@ rest-is k l = take-all (length l - k) (drop k l) (omega (arith, length-drop k l)
 pub row-within : (i h d : ℕ) → i < h → i * d + d ≤ h * d
 row-within i h d l = subst (λ (y : ℕ). y ≤ h * d) (suc-mul i d) (mul-le-mul-right d l)
 
--- .. and so in what holds them
+-- row i of h rows lies in what holds them
 pub row-fits : (i h d len : ℕ) → i < h → h * d ≤ len → i * d + d ≤ len
 row-fits i h d len l b = le-trans (row-within i h d l) b
 

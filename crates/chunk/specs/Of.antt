@@ -75,6 +75,6 @@ Shows v s t h d e filled l =
     × ((v .«exec_steps» ≡ heldSize e filled)
     × (now (v .«data») ≡ heldRows l h d filled)))))
 
--- .. of a buffer itself
+-- a view shows what a buffer holds
 abbrev pub ShowsHeld : ChunkView → ChunkBuf → Type 0
 ShowsHeld v b = Shows v (b .seq) (b .«t_emit») (b .horizon) (b .dim) (b .«exec_steps») (b .filled) (b .«data»)

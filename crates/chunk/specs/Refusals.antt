@@ -19,7 +19,7 @@ chunkReasons h d e n =
     ∷ lenMismatch when not (eqb n (h * d))
     ∷ []
 
--- .. and 12, for the rows themselves
+-- what is judged of a lent chunk: its sizes, and 12 for the rows themselves
 abbrev pub lentReasons : List Float → ℕ → ℕ → ℕ → List Judged
 lentReasons l h d e = chunkReasons h d e (length l) ++ (notFinite when someNotFinite l ∷ [])
 

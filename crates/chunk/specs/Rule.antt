@@ -1,4 +1,4 @@
--- The rules of document 01's module 2, over the list of a chunk's numbers, horizon h and dim d.
+-- The rules of a chunk's rows (R2), over the list of a chunk's numbers, horizon h and dim d.
 use Prim.Native.Nat.{ℕ, _+_, _-_, _*_, min}
 use mathlib.Core.Bool.{Bool, _&&_, not}
 use mathlib.Core.List.{List, []}
@@ -20,7 +20,7 @@ rowStart h d i = rowIndex h i * d
 abbrev pub rowWithin : ℕ → ℕ → ℕ → ℕ → Bool
 rowWithin n h d i = not (eqb h 0) && leb (rowStart h d i + d) n
 
--- .. past the numbers of a list
+-- there are rows, and that one does not run past the numbers of a list
 abbrev pub rowIn : List Float → ℕ → ℕ → ℕ → Bool
 rowIn l h d i = rowWithin (length l) h d i
 

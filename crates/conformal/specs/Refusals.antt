@@ -1,4 +1,4 @@
--- When a calibration or scores are refused, one condition for each number of document 01's table.
+-- When a calibration or scores are refused: one condition for each number of the table (R0).
 use Prim.Native.Nat.{ℕ}
 use mathlib.Core.Bool.{Bool, not, _||_}
 use mathlib.Core.List.{[], _∷_}

@@ -1,4 +1,4 @@
--- The step rules of document 01's module 8, over the format: standardise, aggregate, trip and the time bin.
+-- The rules of the gate (R8), over the format: standardise, aggregate, trip and the time bin.
 use Prim.Native.Nat.{ℕ, zero, suc, _+_, _*_, _/_, min}
 use mathlib.Core.Bool.{Bool, not, _&&_, _||_, true, false}
 use mathlib.Core.List.{List}

@@ -14,11 +14,11 @@ use Rattle.checked.proofs.Extremes.{least-more}
 use Rattle.course.specs.declared.Plant.{Plant}
 use Rattle.course.specs.declared.Run.{Run}
 use Rattle.course.specs.Plant.{State}
-use Rattle.course.specs.Forecast.{Forecast, fine, slackAt, reach, writtenOf}
-use Rattle.course.specs.Of.{stateOf, plantFrom, Ran, runOf}
-use Rattle.course.proofs.Reach.{all-next, reach-whole, reach-more, reach-stays}
+use Rattle.course.specs.Forecast.{Forecast, fine, slackAt, leading, writtenOf}
+use Rattle.course.specs.Of.{stateOf, plantFrom, CameAlong, runOf}
+use Rattle.course.proofs.Leading.{all-next, leading-whole, leading-more, leading-stays}
 
-module _ (t : Forecast) (stand : ℕ → State) (l : List Float) (k : ℕ) (r : Run) (out : List Float) (h : Ran t stand l k r out) where
+module _ (t : Forecast) (stand : ℕ → State) (l : List Float) (k : ℕ) (r : Run) (out : List Float) (h : CameAlong t stand l k r out) where
   abbrev ok : ℕ → Bool
   ok = fine t
 
@@ -28,9 +28,9 @@ module _ (t : Forecast) (stand : ℕ → State) (l : List Float) (k : ℕ) (r : 
   stopped-all : r .sound ≡ false → all ok (k + 1) ≡ false
   stopped-all s = all-next ok k ∙ ap (λ (b : Bool). b && ok k) (sym (h .whole) ∙ s)
 
-  pub along-stopped : r .sound ≡ false → Ran t stand l (k + 1) r out
+  pub along-stopped : r .sound ≡ false → CameAlong t stand l (k + 1) r out
   along-stopped s = record {
-    written = h .written ∙ sym (reach-stays ok k (stopped-all s));
+    written = h .written ∙ sym (leading-stays ok k (stopped-all s));
     whole = s ∙ sym (stopped-all s);
     stands = h .stands;
     least = h .least;
@@ -43,14 +43,14 @@ module _ (t : Forecast) (stand : ℕ → State) (l : List Float) (k : ℕ) (r : 
 
     -- it has written each entry so far
     pub done-is : r .done ≡ k
-    done-is = h .written ∙ reach-whole ok k whole-so-far
+    done-is = h .written ∙ leading-whole ok k whole-so-far
 
     next-all : (b : Bool) → ok k ≡ b → all ok (k + 1) ≡ b
     next-all b e = all-next ok k ∙ (whole-so-far &&≡ e)
 
-    pub along-fails : ok k ≡ false → Ran t stand l (k + 1) (record { plant = r .plant; margin = r .margin; done = r .done; sound = false }) out
+    pub along-fails : ok k ≡ false → CameAlong t stand l (k + 1) (record { plant = r .plant; margin = r .margin; done = r .done; sound = false }) out
     along-fails e = record {
-      written = h .written ∙ sym (reach-stays ok k (next-all false e));
+      written = h .written ∙ sym (leading-stays ok k (next-all false e));
       whole = sym (next-all false e);
       stands = h .stands;
       least = h .least;
@@ -58,9 +58,9 @@ module _ (t : Forecast) (stand : ℕ → State) (l : List Float) (k : ℕ) (r : 
     }
 
     pub along-advances : ok k ≡ true → (next : Plant) → stateOf next ≡ stand (k + 1) → (x : Float) → x ≡ slacks k → (m : Float) → m ≡ lesser (r .margin) x
-        → Ran t stand l (k + 1) (record { plant = next; margin = m; done = r .done + 1; sound = true }) (set out (r .done) x)
+        → CameAlong t stand l (k + 1) (record { plant = next; margin = m; done = r .done + 1; sound = true }) (set out (r .done) x)
     along-advances e next n x v m w = record {
-      written = ap (λ (d : ℕ). d + 1) done-is ∙ sym (reach-more ok k (next-all true e));
+      written = ap (λ (d : ℕ). d + 1) done-is ∙ sym (leading-more ok k (next-all true e));
       whole = sym (next-all true e);
       stands = n ∙ ap (λ (d : ℕ). stand (d + 1)) (sym done-is);
       least = w ∙ least-more slacks (r .done) (r .margin) x (h .least) (v ∙ ap slacks (sym done-is));
@@ -72,28 +72,28 @@ module _ (t : Forecast) (stand : ℕ → State) (l : List Float) (k : ℕ) (r : 
     stands-at = h .stands ∙ ap stand done-is
 
 module _ (t : Forecast) (stand : ℕ → State) (l : List Float) (k : ℕ) (r : Run) (out : List Float) where
-  pub along-zero : Ran t stand l k r out → Ran t stand l (k + 0) r out
-  along-zero h = subst (λ (m : ℕ). Ran t stand l m r out) (sym (add-zero k)) h
+  pub along-zero : CameAlong t stand l k r out → CameAlong t stand l (k + 0) r out
+  along-zero h = subst (λ (m : ℕ). CameAlong t stand l m r out) (sym (add-zero k)) h
 
-  pub along-sum : (i j : ℕ) → Ran t stand l (k + i + j) r out → Ran t stand l (k + (i + j)) r out
-  along-sum i j h = subst (λ (m : ℕ). Ran t stand l m r out) (add-assoc k i j) h
+  pub along-sum : (i j : ℕ) → CameAlong t stand l (k + i + j) r out → CameAlong t stand l (k + (i + j)) r out
+  along-sum i j h = subst (λ (m : ℕ). CameAlong t stand l m r out) (add-assoc k i j) h
 
-  pub along-at : (m : ℕ) → m ≡ k → Ran t stand l m r out → Ran t stand l k r out
-  along-at m e h = subst (λ (m : ℕ). Ran t stand l m r out) e h
+  pub along-at : (m : ℕ) → m ≡ k → CameAlong t stand l m r out → CameAlong t stand l k r out
+  along-at m e h = subst (λ (m : ℕ). CameAlong t stand l m r out) e h
 
   -- a run that has stopped has come along all that is left
-  pub along-rest : r .sound ≡ false → Ran t stand l k r out → (m : ℕ) → Ran t stand l (k + m) r out
+  pub along-rest : r .sound ≡ false → CameAlong t stand l k r out → (m : ℕ) → CameAlong t stand l (k + m) r out
   along-rest s h zero = along-zero h
-  along-rest s h (suc m) = subst (λ (j : ℕ). Ran t stand l j r out) (add-assoc k m 1 ∙ ap (λ (j : ℕ). k + j) (add-one m)) (along-stopped t stand l (k + m) r out (along-rest s h m) s)
+  along-rest s h (suc m) = subst (λ (j : ℕ). CameAlong t stand l j r out) (add-assoc k m 1 ∙ ap (λ (j : ℕ). k + j) (add-one m)) (along-stopped t stand l (k + m) r out (along-rest s h m) s)
 
 -- ---- the start and the end of a run
 
 module _ (t : Forecast) (stand : ℕ → State) (l : List Float) where
-  pub along-start : (s : Plant) → stateOf s ≡ stand 0 → Ran t stand l 0 (record { plant = s; margin = inf false; done = 0; sound = true }) l
-  unfolding reach all least over
+  pub along-start : (s : Plant) → stateOf s ≡ stand 0 → CameAlong t stand l 0 (record { plant = s; margin = inf false; done = 0; sound = true }) l
+  unfolding leading all least over
   along-start s e = record { written = refl; whole = refl; stands = e; least = refl; entries = refl }
 
-  module _ (r : Run) (out : List Float) (h : Ran t stand l (t .count) r out) where
+  module _ (r : Run) (out : List Float) (h : CameAlong t stand l (t .count) r out) where
     pub run-is : r ≡ runOf t stand
     run-is = same r (runOf t stand) (ap plantFrom (h .stands) ∙ ap (λ (d : ℕ). plantFrom (stand d)) (h .written)) (h .least ∙ ap (least (slackAt t)) (h .written)) (h .written) (h .whole)
       where

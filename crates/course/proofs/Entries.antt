@@ -15,8 +15,8 @@ use Rattle.checked.specs.Least.{least}
 use Rattle.checked.proofs.Each.{all-fails, over-at, over-keeps}
 use Rattle.checked.proofs.Ordered.{Real, le-not-above, lt-not-below}
 use Rattle.checked.proofs.Extremes.{least-real, least-bounds, least-attained}
-use Rattle.course.specs.Forecast.{Forecast, fine, slackAt, reach, reached, placeOf, marginOf, feasibleOf, writtenOf}
-use Rattle.course.proofs.Reach.{reach-whole}
+use Rattle.course.specs.Forecast.{Forecast, fine, slackAt, leading, leadingIn, placeOf, marginOf, feasibleOf, writtenOf}
+use Rattle.course.proofs.Leading.{leading-whole}
 
 infinite-not-negative : lt (inf false) +0 ≡ false
 unfolding lt
@@ -27,35 +27,35 @@ module _ (t : Forecast) where
   abbrev pub Whole : Type 0
   Whole = all (fine t) (t .count) ≡ true
 
-  pub whole-reached : Whole → reached t ≡ t .count
-  whole-reached h = reach-whole (fine t) (t .count) h
+  pub whole-leads : Whole → leadingIn t ≡ t .count
+  whole-leads h = leading-whole (fine t) (t .count) h
 
   -- the entries before the failing place are written in order, and all others are kept
-  pub written-in-order : (l : List Float) (k : ℕ) → k < reached t → k < length l → at (writtenOf t l) k ≡ slackAt t k
+  pub written-in-order : (l : List Float) (k : ℕ) → k < leadingIn t → k < length l → at (writtenOf t l) k ≡ slackAt t k
   unfolding writtenOf
-  written-in-order l k h b = over-at (slackAt t) l (reached t) k h b
+  written-in-order l k h b = over-at (slackAt t) l (leadingIn t) k h b
 
-  pub others-kept : (l : List Float) (k : ℕ) → reached t ≤ k → at (writtenOf t l) k ≡ at l k
+  pub others-kept : (l : List Float) (k : ℕ) → leadingIn t ≤ k → at (writtenOf t l) k ≡ at l k
   unfolding writtenOf
-  others-kept l k h = over-keeps (slackAt t) l (reached t) k h
+  others-kept l k h = over-keeps (slackAt t) l (leadingIn t) k h
 
   -- the first place with a number that isn't finite is named, with exactly the entries before it written
-  reach-stops : (ok : ℕ → Bool) (k n : ℕ) → all ok k ≡ true → ok k ≡ false → k < n → reach ok n ≡ k
-  unfolding reach
-  reach-stops ok k zero a b h = absurd (omega arith)
-  reach-stops ok k (suc n) a b h = rw (all-fails ok (suc n) k h b) (go (decLe n k) (reach-stops ok k n a b))
+  leading-stops : (ok : ℕ → Bool) (k n : ℕ) → all ok k ≡ true → ok k ≡ false → k < n → leading ok n ≡ k
+  unfolding leading
+  leading-stops ok k zero a b h = absurd (omega arith)
+  leading-stops ok k (suc n) a b h = rw (all-fails ok (suc n) k h b) (go (decLe n k) (leading-stops ok k n a b))
     where
-      go : Dec (n ≤ k) → (k < n → reach ok n ≡ k) → reach ok n ≡ k
-      go (yes l) on = let e : n ≡ k = omega arith in rw e (reach-whole ok k a)
+      go : Dec (n ≤ k) → (k < n → leading ok n ≡ k) → leading ok n ≡ k
+      go (yes l) on = let e : n ≡ k = omega arith in rw e (leading-whole ok k a)
       go (no l) on = on (lt-of-not-le l)
 
-  pub first-failing-place : (k : ℕ) → k < t .count → all (fine t) k ≡ true → fine t k ≡ false → (placeOf t ≡ suc k) × (reached t ≡ k)
+  pub first-failing-place : (k : ℕ) → k < t .count → all (fine t) k ≡ true → fine t k ≡ false → (placeOf t ≡ suc k) × (leadingIn t ≡ k)
   unfolding placeOf
   first-failing-place k h a b =
-      let r = reach-stops (fine t) k (t .count) a b h in
+      let r = leading-stops (fine t) k (t .count) a b h in
       (rw (all-fails (fine t) (t .count) k h b, r), r)
 
-  -- .. or, where each entry is finite and the stop distance is not, the place after the last entry
+  -- where each entry is finite and the stop distance is not, the place after the last entry is named
   pub failing-at-the-end : Whole → t .stop .sound ≡ false → placeOf t ≡ suc (t .count)
   unfolding placeOf
   failing-at-the-end h b = rw (h, b)

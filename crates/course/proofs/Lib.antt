@@ -1,4 +1,4 @@
-pub mod Reach
+pub mod Leading
 pub mod Along
 pub mod Room
 pub mod Entries

@@ -23,16 +23,16 @@ abbrev pub slackAt : Forecast → ℕ → Float
 slackAt t k = t .entry k .value
 
 -- how many of the first n entries come before the first place with a number that isn't finite
-unfoldable pub reach : (ℕ → Bool) → ℕ → ℕ
-reach ok zero = 0
-reach ok (suc n) = if all ok (suc n) then suc n else reach ok n
+unfoldable pub leading : (ℕ → Bool) → ℕ → ℕ
+leading ok zero = 0
+leading ok (suc n) = if all ok (suc n) then suc n else leading ok n
 
-abbrev pub reached : Forecast → ℕ
-reached t = reach (fine t) (t .count)
+abbrev pub leadingIn : Forecast → ℕ
+leadingIn t = leading (fine t) (t .count)
 
 -- the place of the first number that isn't finite, counted from 1: a substep's or a row's, or the one after the last entry; 0 where each is finite
 unfoldable pub placeOf : Forecast → ℕ
-placeOf t = if all (fine t) (t .count) then (if t .stop .sound then 0 else suc (t .count)) else suc (reached t)
+placeOf t = if all (fine t) (t .count) then (if t .stop .sound then 0 else suc (t .count)) else suc (leadingIn t)
 
 -- the least entry, or infinity where there is none
 unfoldable pub marginOf : Forecast → Float
@@ -43,4 +43,4 @@ feasibleOf t = le +0 (marginOf t)
 
 -- the lent entries afterwards: those before the failing place are written, the others stay
 unfoldable pub writtenOf : Forecast → List Float → List Float
-writtenOf t l = over (slackAt t) l (reached t)
+writtenOf t l = over (slackAt t) l (leadingIn t)

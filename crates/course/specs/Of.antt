@@ -13,7 +13,7 @@ use Rattle.course.specs.declared.Plant.{Plant}
 use Rattle.course.specs.declared.Run.{Run}
 use Rattle.course.specs.Plant.{State}
 use Rattle.course.specs.Rows.{rowsLeft}
-use Rattle.course.specs.Forecast.{Forecast, fine, slackAt, reach, reached}
+use Rattle.course.specs.Forecast.{Forecast, fine, slackAt, leading, leadingIn}
 
 abbrev pub stateOf : Plant → State
 stateOf s = record { p = s .p; v = s .v }
@@ -22,8 +22,8 @@ abbrev pub plantFrom : State → Plant
 plantFrom s = record { p = s .p; v = s .v }
 
 -- A run has come along k entries of a forecast: it has written those before the first that isn't finite, and stands after the last written.
-pub record Ran (t : Forecast) (stand : ℕ → State) (l : List Float) (k : ℕ) (r : Run) (out : List Float) : Type 0 where
-  pub written : r .done ≡ reach (fine t) k
+pub record CameAlong (t : Forecast) (stand : ℕ → State) (l : List Float) (k : ℕ) (r : Run) (out : List Float) : Type 0 where
+  pub written : r .done ≡ leading (fine t) k
   pub whole : r .sound ≡ all (fine t) k
   pub stands : stateOf (r .plant) ≡ stand (r .done)
   pub least : r .margin ≡ least (slackAt t) (r .done)
@@ -44,8 +44,8 @@ noRun s = record { plant = s; margin = inf false; done = 0; sound = false }
 -- the whole run of a forecast, with where the plant stands after so many entries
 abbrev pub runOf : Forecast → (ℕ → State) → Run
 runOf t stand = record {
-  plant = plantFrom (stand (reached t));
-  margin = least (slackAt t) (reached t);
-  done = reached t;
+  plant = plantFrom (stand (leadingIn t));
+  margin = least (slackAt t) (leadingIn t);
+  done = leadingIn t;
   sound = all (fine t) (t .count);
 }

@@ -1,4 +1,4 @@
--- What document 01's module 4 derives from a configuration, over the format, in the source's operation order.
+-- What is derived from a configuration (R4), over the format, in the source's operation order.
 use Prim.Native.Nat.{ℕ, min}
 use mathlib.Core.Bool.{Bool}
 use mathlib.Core.List.{List}

@@ -1,4 +1,4 @@
--- When a configuration is refused: one condition for each number of document 01's table, and the list that is judged.
+-- When a configuration is refused: one condition for each number of the table (R0), and the list that is judged.
 use Prim.Native.Nat.{ℕ}
 use mathlib.Core.Bool.{Bool, true, not, _&&_, _||_}
 use mathlib.Core.List.{List, [], _∷_}

@@ -128,7 +128,7 @@ pub struct Derived {
     pub norm_scale_iso: f64,
 }
 
-// The number of document 01's table that a configuration is refused with, 0 where it is accepted, and what is derived from it.
+// The number of the table (R0) that a configuration is refused with, 0 where it is accepted, and what is derived from it.
 pub struct Compiled {
     pub number: u8,
     pub derived: Derived,

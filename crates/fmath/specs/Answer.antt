@@ -25,7 +25,7 @@ unfoldable pub some-from : Bool → List (List Float) → Bool
 some-from b [] = b
 some-from b (v ∷ l) = some-from (b || someNotFinite v) l
 
--- .. of some slices: `someLentNotFinite (a ∷ b ∷ [])` computes to `someNotFinite a || someNotFinite b`
+-- some number of some slices is not finite: `someLentNotFinite (a ∷ b ∷ [])` computes to `someNotFinite a || someNotFinite b`
 unfoldable pub someLentNotFinite : List (List Float) → Bool
 unfolding some-from
 someLentNotFinite [] = false

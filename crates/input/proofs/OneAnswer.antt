@@ -8,7 +8,7 @@ use Rattle.input.proofs.fill.Reads as fill
 abbrev One : {L A R E : Type 0} → (L → A → R → E → Type 0) → Type 0
 One {L} {A} {R} {E} Post = (l : L) (a : A) (r s : R) (x y : E) → Post l a r x → Post l a s y → r ≡ s
 
--- .. where the contract tells the same of both
+-- two answers of which the contract tells the same are the same
 abbrev OneTold : {L A R E B : Type 0} (Post : L → A → R → E → Type 0) → ((l : L) (a : A) (r : R) (x : E) → Post l a r x → B) → Type 0
 OneTold {L} {A} {R} {E} Post told = (l : L) (a : A) (r s : R) (x y : E) (p : Post l a r x) (q : Post l a s y) → told l a r x p ≡ told l a s y q → r ≡ s
 

@@ -43,7 +43,7 @@ pub record Told (f : Filled) : Type 0 where
   pub answers : List ℤ
   pub is : f ≡ afterAll answers
 
--- .. and they filled it as far as it can be
+-- a block that reads have filled as far as it can be
 pub record Fills (room : ℕ) (f : Filled) : Type 0 where
   pub told : Told f
   pub fits : f .n ≤ room

@@ -113,7 +113,7 @@ configOf n c = record {
   «horizon_ticks» = in32 (count c 25);
 }
 
--- ---- what fits, field by field of document 01's table
+-- ---- what fits, field by field of the table (R0)
 -- Fields as wide as the array: dim, pos_dim and aux_count (counts 0, 1 and 21).
 -- Cut, since row 1 or 3 refuses all that does not fit: substeps, commit and brake_steps (8 to 10), the counted terms (12 to 19), mask and n_terms (23, 24).
 -- Judged here: codes and flags (2 to 5 and 22), the channels of a contact (6 and 7), react_ticks (11), armed (20) and, with a calibration, horizon_ticks (25).

@@ -25,7 +25,7 @@ in16 x = min x 65535
 abbrev pub in32 : ℕ → ℕ
 in32 x = min x 4294967295
 
--- .. and whether it fits one of 16 or 32
+-- whether a count fits a field of 16 bits, or of 32
 abbrev pub short : ℕ → Bool
 short x = leb x 65535
 

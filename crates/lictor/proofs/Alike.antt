@@ -25,7 +25,7 @@ use Rattle.envelope.specs.declared.Derived.{Derived}
 use Rattle.envelope.specs.declared.FuseConfig.{FuseConfig}
 use Rattle.envelope.specs.declared.Compiled.{Compiled}
 use Rattle.envelope.specs.Refusals.{compiled}
-use Rattle.tier0.specs.declared.Check.{Check}
+use Rattle.tier0.specs.declared.Tier0Out.{Tier0Out}
 use Rattle.tier0.specs.Of.{actionAnswer, actionOut, chunkAnswer, chunkOut}
 use Rattle.tier1.specs.declared.Head.{Head}
 use Rattle.tier1.specs.declared.Tier1Rt.{Tier1Rt}
@@ -81,11 +81,11 @@ pub bin-alike : {a b : TimeBin} {r old new : ℕ} → a ≡ b → BinGiven a r o
 bin-alike e g = rw e at g
 
 -- a check whose counts do not fit leaves every place as it was
-pub check-misfit : {f g : Bool} {a : Check} {l : List Float} {m : List ℕ} {x : Float} {o : List Float} → f ≡ false → f ≡ g → CheckGiven g a l 255 m m x x o o
+pub check-misfit : {f g : Bool} {a : Tier0Out} {l : List Float} {m : List ℕ} {x : Float} {o : List Float} → f ≡ false → f ≡ g → CheckGiven g a l 255 m m x x o o
 check-misfit e p = let z = sym p ∙ e in record { number = rw z; marks = rw z; speed = rw z; output = rw z }
 
--- .. and one whose counts fit is put where it belongs
-pub check-fits : {f g : Bool} {a b : Check} {l : List Float} {r : ℕ} {m₀ m : List ℕ} {x₀ x : Float} {o₀ o : List Float} → f ≡ true → f ≡ g → (a ≡ b) × (o ≡ l) → CheckPut a r m₀ m x₀ x → CheckGiven g b l r m₀ m x₀ x o₀ o
+-- a check whose counts fit is put where it belongs
+pub check-fits : {f g : Bool} {a b : Tier0Out} {l : List Float} {r : ℕ} {m₀ m : List ℕ} {x₀ x : Float} {o₀ o : List Float} → f ≡ true → f ≡ g → (a ≡ b) × (o ≡ l) → CheckPut a r m₀ m x₀ x → CheckGiven g b l r m₀ m x₀ x o₀ o
 check-fits e p q g = let z = sym p ∙ e in record { number = rw (z, ← q .0) (g .number); marks = rw (z, ← q .0) (g .marks); speed = rw (z, ← q .0) (g .speed); output = rw z (q .1) }
 
 -- a forecast whose counts do not fit leaves every place as it was; one whose counts fit is put where it belongs
@@ -95,7 +95,7 @@ forecast-misfit e q = let z = sym q ∙ e in record { number = rw z; marks = rw 
 pub forecast-fits : {f g : Bool} {a b : BrakeOut} {l : List Float} {r : ℕ} {m₀ m : List ℕ} {x₀ x : List Float} {p₀ p : ℕ} {s₀ s : List Float} → f ≡ true → f ≡ g → (a ≡ b) × (s ≡ l) → ForecastPut a r m₀ m x₀ x p₀ p → ForecastGiven g b l r m₀ m x₀ x p₀ p s₀ s
 forecast-fits e y q g = let z = sym y ∙ e in record { number = rw (z, ← q .0) (g .number); marks = rw (z, ← q .0) (g .marks); reach = rw (z, ← q .0) (g .reach); place = rw (z, ← q .0) (g .place); slacks = rw z (q .1) }
 
--- .. and so for a row
+-- a row whose counts do not fit is not written, and one whose counts fit is
 pub sent-misfit : {f g : Bool} {a : Sent} {l o : List Float} → f ≡ false → f ≡ g → SentGiven g a l 255 o o
 sent-misfit e q = let z = sym q ∙ e in record { number = rw z; output = rw z }
 
@@ -137,10 +137,10 @@ len-alike p q = p ∙ ap countOf q
 pub is-empty-alike : {a : Emptiness} {t u : Trail} → a ≡ emptinessOf t → t ≡ u → a ≡ emptinessOf u
 is-empty-alike p q = p ∙ ap emptinessOf q
 
-pub chunk-alike : (t : Tables) (p aux rows : List Float) (h d e : ℕ) (l : List Float) {a : Check} {o : List Float} {c k : FuseConfig} → (a ≡ chunkAnswer binary64 c t p aux rows h d e (length l)) × (o ≡ chunkOut binary64 c t p aux rows h d e l) → c ≡ k → (a ≡ chunkAnswer binary64 k t p aux rows h d e (length l)) × (o ≡ chunkOut binary64 k t p aux rows h d e l)
+pub chunk-alike : (t : Tables) (p aux rows : List Float) (h d e : ℕ) (l : List Float) {a : Tier0Out} {o : List Float} {c k : FuseConfig} → (a ≡ chunkAnswer binary64 c t p aux rows h d e (length l)) × (o ≡ chunkOut binary64 c t p aux rows h d e l) → c ≡ k → (a ≡ chunkAnswer binary64 k t p aux rows h d e (length l)) × (o ≡ chunkOut binary64 k t p aux rows h d e l)
 chunk-alike t p aux rows h d e l g q = rw q at g
 
-pub action-alike : (t : Tables) (p aux prev b l : List Float) {a : Check} {o : List Float} {c k : FuseConfig} → (a ≡ actionAnswer binary64 c t p aux prev b (length l)) × (o ≡ actionOut binary64 c t p aux prev b l) → c ≡ k → (a ≡ actionAnswer binary64 k t p aux prev b (length l)) × (o ≡ actionOut binary64 k t p aux prev b l)
+pub action-alike : (t : Tables) (p aux prev b l : List Float) {a : Tier0Out} {o : List Float} {c k : FuseConfig} → (a ≡ actionAnswer binary64 c t p aux prev b (length l)) × (o ≡ actionOut binary64 c t p aux prev b l) → c ≡ k → (a ≡ actionAnswer binary64 k t p aux prev b (length l)) × (o ≡ actionOut binary64 k t p aux prev b l)
 action-alike t p aux prev b l g q = rw q at g
 
 pub reset-alike : {a : Cleared} {x y : Tier1Rt} → a ≡ resetOf x → x ≡ y → a ≡ resetOf y

@@ -1,4 +1,4 @@
--- What C is given of an answer: document 01's number, 0 for an accepted call, and each place as it stands at exit. A refusal leaves the places as they were.
+-- What C is given of an answer: the number of the table (R0), 0 for an accepted call, and each place as it stands at exit. A refusal leaves the places as they were.
 use Prim.Native.Nat.{ℕ}
 use mathlib.Core.Path.{_≡_}
 use mathlib.Core.Bool.{Bool}
@@ -23,8 +23,8 @@ use Rattle.conformal.specs.declared.Verdict.the-variants as Y
 use Rattle.conformal.specs.declared.TimeBin.{TimeBin}
 use Rattle.conformal.specs.declared.TimeBin.the-variants as B
 use Rattle.envelope.specs.declared.Derived.{Derived}
-use Rattle.tier0.specs.declared.Check.{Check}
-use Rattle.tier0.specs.declared.Check.the-variants as T
+use Rattle.tier0.specs.declared.Tier0Out.{Tier0Out}
+use Rattle.tier0.specs.declared.Tier0Out.the-variants as T
 use Rattle.tier1.specs.declared.Tier1Rt.{Tier1Rt}
 use Rattle.tier1.specs.declared.Featured.{Featured}
 use Rattle.tier1.specs.declared.Cleared.{Cleared}
@@ -82,7 +82,7 @@ pub record MaskGiven (a : Masked) (r old new : ℕ) : Type 0 where
   pub number : r ≡ maskNumber a
   pub value : new ≡ maskValue a old
 
--- .. and a trail, in 256 numbers and 2 counts
+-- a trail is given in 256 numbers and 2 counts
 
 pub record RecordedGiven (a : Recorded) (r : ℕ) (l₀ l : List Float) (m₀ m : List ℕ) : Type 0 where
   pub number : r ≡ a .number
@@ -123,26 +123,26 @@ pub record DerivedGiven (n : ℕ) (d : Derived) (r : ℕ) (old new : List Float)
 
 -- ---- module 5: trips and clamped_dims in 2 counts, a speed, and the output
 
-unfoldable pub checkNumber : Check → ℕ
+unfoldable pub checkNumber : Tier0Out → ℕ
 checkNumber (T.Passed trips dims speed) = 0
 checkNumber (T.Refused r) = r .number
 
-unfoldable pub checkMarks : Check → List ℕ → List ℕ
+unfoldable pub checkMarks : Tier0Out → List ℕ → List ℕ
 checkMarks (T.Passed trips dims speed) old = trips ∷ dims ∷ []
 checkMarks (T.Refused r) old = old
 
-unfoldable pub checkSpeed : Check → Float → Float
+unfoldable pub checkSpeed : Tier0Out → Float → Float
 checkSpeed (T.Passed trips dims speed) old = speed
 checkSpeed (T.Refused r) old = old
 
 -- r is returned, and the places of the marks and of the speed hold m and x
-pub record CheckPut (a : Check) (r : ℕ) (m₀ m : List ℕ) (x₀ x : Float) : Type 0 where
+pub record CheckPut (a : Tier0Out) (r : ℕ) (m₀ m : List ℕ) (x₀ x : Float) : Type 0 where
   pub number : r ≡ checkNumber a
   pub marks : m ≡ checkMarks a m₀
   pub speed : x ≡ checkSpeed a x₀
 
--- .. for a configuration whose counts may not fit; the entry leaves l in the output
-pub record CheckGiven (fits : Bool) (a : Check) (l : List Float) (r : ℕ) (m₀ m : List ℕ) (x₀ x : Float) (o₀ o : List Float) : Type 0 where
+-- a check of a configuration whose counts may not fit; the entry leaves l in the output
+pub record CheckGiven (fits : Bool) (a : Tier0Out) (l : List Float) (r : ℕ) (m₀ m : List ℕ) (x₀ x : Float) (o₀ o : List Float) : Type 0 where
   pub number : r ≡ fitting fits (checkNumber a)
   pub marks : m ≡ (if fits then checkMarks a m₀ else m₀)
   pub speed : x ≡ (if fits then checkSpeed a x₀ else x₀)
@@ -159,7 +159,7 @@ pub record FeaturedGiven (fits came : Bool) (a : Featured) (r : ℕ) (d₀ d : L
   pub scores : s ≡ written (fitting fits (a .refusal .number)) (scoresFlat (a .scores)) s₀
   pub marks : m ≡ written (fitting fits (a .refusal .number)) (marksFlat (a .scores)) m₀
 
--- .. a state, laid out in its six arrays
+-- a state of tier 1, laid out in its six arrays
 pub record StateLaid (rt : Tier1Rt) (d : List Float) (h : List ℕ) (p : List Float) (t : List ℕ) (f : List Float) (c : List ℕ) : Type 0 where
   pub rows : d ≡ rt .prev .«data»
   pub header : h ≡ headerFlat (rt .prev)
@@ -168,7 +168,7 @@ pub record StateLaid (rt : Tier1Rt) (d : List Float) (h : List ℕ) (p : List Fl
   pub held : f ≡ rt .held
   pub kept : c ≡ heldMarks (rt .«have_prev») (rt .«held_valid»)
 
--- .. and one that is reset, the trail with it; of the chunk before all but whether it is held stays
+-- a state that is reset, the trail with it; of the chunk before all but whether it is held stays
 pub record ClearedGiven (fits : Bool) (a : Cleared) (r : ℕ) (d₀ d : List Float) (h₀ h : List ℕ) (p₀ p : List Float) (t₀ t : List ℕ) (f₀ f : List Float) (c₀ c : List ℕ) : Type 0 where
   pub number : r ≡ fitting fits (a .refusal .number)
   pub rows : d ≡ written (fitting fits (a .refusal .number)) (a .rt .prev .«data») d₀
@@ -202,7 +202,7 @@ pub record ForecastPut (a : BrakeOut) (r : ℕ) (m₀ m : List ℕ) (x₀ x : Li
   pub reach : x ≡ forecastReach a x₀
   pub place : p ≡ forecastPlace a p₀
 
--- .. for a configuration whose counts may not fit; the entry leaves l in the slacks
+-- a forecast of a configuration whose counts may not fit; the entry leaves l in the slacks
 pub record ForecastGiven (fits : Bool) (a : BrakeOut) (l : List Float) (r : ℕ) (m₀ m : List ℕ) (x₀ x : List Float) (p₀ p : ℕ) (s₀ s : List Float) : Type 0 where
   pub number : r ≡ fitting fits (forecastNumber a)
   pub marks : m ≡ (if fits then forecastMarks a m₀ else m₀)

@@ -24,7 +24,7 @@ calibrationAsked tau mask n terms = record { mask = mask; gate = record { «n_te
 abbrev pub headAsked : ℕ → ℕ → ℕ → ℕ → ℕ → Head
 headAsked s t h d e = record { seq = s; «t_emit» = t; horizon = h; dim = d; «exec_steps» = e }
 
--- .. laid out with whether it is held
+-- what is said of a chunk, laid out with whether it is held
 abbrev pub headerSaid : Head → Bool → List ℕ
 headerSaid k filled = headerFrom (k .seq) (k .«t_emit») (k .horizon) (k .dim) (k .«exec_steps») filled
 

@@ -9,7 +9,7 @@ use conformal::TimeBin;
 use conformal::Verdict;
 use envelope::Derived;
 use fmath::Number;
-use tier0::Check;
+use tier0::Tier0Out;
 use tier1::Cleared;
 use window::Count;
 use window::Emptiness;
@@ -100,11 +100,11 @@ pub(crate) fn put_derived(number: u64, d: Derived, derived: &mut [f64; 29]) -> u
     number
 }
 
-pub(crate) fn put_check(a: Check, marks: &mut [u64; 2], speed: &mut f64) -> u64
+pub(crate) fn put_check(a: Tier0Out, marks: &mut [u64; 2], speed: &mut f64) -> u64
     ensures { λ r. ⌜ CheckPut a r (now (marks .entry)) (now (marks .exit)) (now (speed .entry)) (now (speed .exit)) ⌝ }
 {
     match a {
-        Check::Passed {
+        Tier0Out::Passed {
             trips,
             clamped_dims,
             peak_speed,
@@ -113,7 +113,7 @@ pub(crate) fn put_check(a: Check, marks: &mut [u64; 2], speed: &mut f64) -> u64
             *speed = peak_speed;
             0
         }
-        Check::Refused(r) => r.number as u64,
+        Tier0Out::Refused(r) => r.number as u64,
     }
 }
 

@@ -1,4 +1,4 @@
--- The inputs of document 01's numbers that are marked P, and the whole answers that the definitions give for them. A float stands as its bits.
+-- The inputs of the numbers on the wall that are proved (R10.7), and the whole answers that the definitions give for them. A float stands as its bits.
 use Prim.Native.Nat.{ℕ}
 use mathlib.Core.Bool.{Bool, false}
 use mathlib.Core.List.{List, [], _∷_, _++_, map}
@@ -25,8 +25,8 @@ use Rattle.envelope.specs.declared.Contact.the-variants.{None}
 use Rattle.envelope.specs.declared.FuseConfig.{FuseConfig}
 use Rattle.tier0.specs.Rule.{SPEED}
 use Rattle.tier0.specs.Of.{chunkAnswer, chunkOut}
-use Rattle.tier0.specs.declared.Check.{Check}
-use Rattle.tier0.specs.declared.Check.the-variants as check
+use Rattle.tier0.specs.declared.Tier0Out.{Tier0Out}
+use Rattle.tier0.specs.declared.Tier0Out.the-variants as check
 use Rattle.brake.specs.declared.BrakeOut.{BrakeOut}
 use Rattle.brake.specs.declared.BrakeOut.the-variants as forecast
 use Rattle.card.specs.declared.record.Card.{Card}
@@ -111,7 +111,7 @@ plane = record {
 }
 
 -- trips, clamped_dims, the greatest speed
-abbrev pub checkTold : Check → List ℕ
+abbrev pub checkTold : Tier0Out → List ℕ
 checkTold (check.Passed trips clamped peak) = 0 ∷ trips ∷ clamped ∷ bits peak ∷ []
 checkTold (check.Refused r) = refused r
 

@@ -1,4 +1,4 @@
--- Document 01's numbers to keep on the wall that are marked P, and the trainees' card with a start outside: for each, what the definitions give and what is written.
+-- The numbers on the wall that are proved (R10.7), and the trainees' card with a start outside: for each, what the definitions give and what is written.
 use Prim.Native.Nat.{ℕ}
 use mathlib.Core.Bool.{true, false}
 use mathlib.Core.List.{List, [], _∷_}

@@ -1,4 +1,4 @@
-// Document 01's numbers to keep on the wall that are not marked P, as the proved code gives them. Those marked P are one theorem, specs/Wall.antt.
+// The numbers on the wall (R10.7) that are run, as the proved code gives them. The proved ones are one theorem, specs/Table.antt.
 use card::Card;
 use conformal::TimeBin;
 use libc::STDOUT_FILENO;

@@ -21,7 +21,7 @@ use Rattle.tier0.specs.Rule.{CONTACT}
 use Rattle.tier0.specs.Refusals.{answerAt as checked}
 use Rattle.tier0.specs.Of.{checksOf, lentToAction, actionRuling, actionRefusal, actionAnswer, lentToChunk, chunkRuling, chunkRefusal, chunkAnswer}
 use Rattle.tier0.specs.Promises.{tripsIn, raised}
-use Rattle.tier0.specs.declared.Check.the-variants as check
+use Rattle.tier0.specs.declared.Tier0Out.the-variants as check
 use Rattle.tier0.proofs.Promises.{no-contact-no-trip, no-contact-no-action-trip}
 use Rattle.tier0.proofs.Within.{chunk-touched, action-touched, trips-raised}
 use Rattle.tier0.proofs.NoContact.{no-contact-chunk-answer, no-contact-chunk-rows, no-contact-action-answer, no-contact-action-row}

@@ -19,7 +19,7 @@ use Rattle.window.specs.Rule.{bit}
 use Rattle.window.specs.Answer.{outOfSize}
 use Rattle.conformal.specs.Refusals.{named, sizesOk}
 use Rattle.envelope.specs.Refusals.{countsOk, channelsOk}
-use Rattle.layout.specs.Places.{count, in8, in16, in32}
+use Rattle.layout.specs.Places.{count, in8, in16}
 use Rattle.layout.specs.Chunk.{chunkOf, headerFlat, unheld}
 use Rattle.layout.specs.Trail.{trailOf}
 use Rattle.layout.specs.Config.{brakeOf, gateOf, calibrationOf, contactOf, channelOf, zoneOf, zoneFits}

@@ -15,7 +15,7 @@ use Rattle.conformal.specs.declared.Scored.{Scored}
 use Rattle.conformal.specs.declared.Verdict.{Verdict}
 use Rattle.conformal.specs.declared.TimeBin.{TimeBin}
 use Rattle.envelope.specs.declared.Derived.{Derived}
-use Rattle.tier0.specs.declared.Check.{Check}
+use Rattle.tier0.specs.declared.Tier0Out.{Tier0Out}
 use Rattle.tier1.specs.declared.Tier1Rt.{Tier1Rt}
 use Rattle.tier1.specs.declared.Featured.{Featured}
 use Rattle.tier1.specs.declared.Cleared.{Cleared}
@@ -80,7 +80,7 @@ emptiness-given p q = (unique (p .number) (q .number), unique (p .empty) (q .emp
 derived-given : {n : ℕ} {d : Derived} {r r′ : ℕ} {old : List Float} {new new′ : List Float} → DerivedGiven n d r old new → DerivedGiven n d r′ old new′ → (r ≡ r′) × (new ≡ new′)
 derived-given p q = (unique (p .number) (q .number), unique (p .numbers) (q .numbers))
 
-check-given : {fits : Bool} {a : Check} {l : List Float} {r r′ : ℕ} {m₀ : List ℕ} {m m′ : List ℕ} {x₀ : Float} {x x′ : Float} {o₀ : List Float} {o o′ : List Float} → CheckGiven fits a l r m₀ m x₀ x o₀ o → CheckGiven fits a l r′ m₀ m′ x₀ x′ o₀ o′ → (r ≡ r′) × ((m ≡ m′) × ((x ≡ x′) × (o ≡ o′)))
+check-given : {fits : Bool} {a : Tier0Out} {l : List Float} {r r′ : ℕ} {m₀ : List ℕ} {m m′ : List ℕ} {x₀ : Float} {x x′ : Float} {o₀ : List Float} {o o′ : List Float} → CheckGiven fits a l r m₀ m x₀ x o₀ o → CheckGiven fits a l r′ m₀ m′ x₀ x′ o₀ o′ → (r ≡ r′) × ((m ≡ m′) × ((x ≡ x′) × (o ≡ o′)))
 check-given p q = (unique (p .number) (q .number), (unique (p .marks) (q .marks), (unique (p .speed) (q .speed), unique (p .output) (q .output))))
 
 featured-given : {fits came : Bool} {a : Featured} {r r′ : ℕ} {d₀ : List Float} {d d′ : List Float} {h₀ : List ℕ} {h h′ : List ℕ} {f₀ : List Float} {f f′ : List Float} {c₀ : List ℕ} {c c′ : List ℕ} {s₀ : List Float} {s s′ : List Float} {m₀ : List ℕ} {m m′ : List ℕ} → FeaturedGiven fits came a r d₀ d h₀ h f₀ f c₀ c s₀ s m₀ m → FeaturedGiven fits came a r′ d₀ d′ h₀ h′ f₀ f′ c₀ c′ s₀ s′ m₀ m′ → (r ≡ r′) × ((d ≡ d′) × ((h ≡ h′) × ((f ≡ f′) × ((c ≡ c′) × ((s ≡ s′) × (m ≡ m′))))))

@@ -53,7 +53,7 @@ use Rattle.workspace.proofs.inward.Reads as inward
 use Rattle.workspace.proofs.setpoint.Reads as setpoint
 use Rattle.workspace.proofs.slack.Reads as slack
 use Rattle.workspace.proofs.slack_abreast.Reads as slack-abreast
-use Rattle.workspace.proofs.slack_within.Reads as slack-within
+use Rattle.workspace.proofs.slack_r.Reads as slack-within
 use Rattle.tier0.proofs.check_action.Reads as check-action
 use Rattle.tier0.proofs.check_chunk.Reads as check-chunk
 use Rattle.tier1.proofs.Tier1Rt.new.Reads as tier1-rt-new
@@ -63,7 +63,7 @@ use Rattle.tier1.proofs.one_tick.Reads as one-tick
 use Rattle.course.proofs.rows_left.Reads as rows-left
 use Rattle.rollout.proofs.rollout.Reads as rollout
 use Rattle.rollout.proofs.stop_distance.Reads as rollout-stop-distance
-use Rattle.stopping.proofs.stopping.Reads as stopping
+use Rattle.stopping.proofs.closed_form.Reads as stopping
 use Rattle.stopping.proofs.stop_distance.Reads as stopping-stop-distance
 use Rattle.brake.proofs.brake_feasible.Reads as brake-feasible
 use Rattle.brake.proofs.brake_action.Reads as brake-action
@@ -113,7 +113,7 @@ use Rattle.sample.proofs.agrees.Reads as agrees
 pub unique : {A : Type 0} {a b c : A} → a ≡ c → b ≡ c → a ≡ b
 unique p q = p ∙ sym q
 
--- .. nor do two
+-- two equations admit no second pair
 pub both : {A B : Type 0} {a b c : A} {d e f : B} → (a ≡ c) × (d ≡ f) → (b ≡ c) × (e ≡ f) → (a ≡ b) × (d ≡ e)
 both p q = (unique (p .0) (q .0), unique (p .1) (q .1))
 
@@ -121,11 +121,11 @@ both p q = (unique (p .0) (q .0), unique (p .1) (q .1))
 abbrev pub One : {L A R E B : Type 0} → (L → A → R → E → Type 0) → (R → E → B) → Type 0
 One {L} {A} {R} {E} Post told = (l : L) (a : A) (r s : R) (x y : E) → Post l a r x → Post l a s y → told r x ≡ told s y
 
--- .. and so are the answer, and what was lent to be written
+-- the answer is the same, and so is what was lent to be written
 abbrev pub OneWithLent : {L A R E B : Type 0} → (L → A → R → E → Type 0) → (E → B) → Type 0
 OneWithLent {L} {A} {R} {E} Post lent = (l : L) (a : A) (r s : R) (x y : E) → Post l a r x → Post l a s y → (r ≡ s) × (lent x ≡ lent y)
 
--- .. and so are two buffers that are lent to be written
+-- two buffers that are lent to be written are the same
 abbrev BothLent : {L A R E B C : Type 0} → (L → A → R → E → Type 0) → (E → B) → (E → C) → Type 0
 BothLent {L} {A} {R} {E} Post first second = (l : L) (a : A) (r s : R) (x y : E) → Post l a r x → Post l a s y → (first x ≡ first y) × (second x ≡ second y)
 
@@ -335,8 +335,8 @@ one-rollout-stop-distance l a r s x y = unique
 
 -- ---- stopping (module 7)
 
-pub one-stopping : OneWithLent stopping.Post (λ x. x .1 .1 .1 .1 .1 .1 .0 .now)
-one-stopping l a r s x y = both
+pub one-closed-form : OneWithLent closed-form.Post (λ x. x .1 .1 .1 .1 .1 .1 .0 .now)
+one-closed-form l a r s x y = both
 
 pub one-stopping-stop-distance : One stopping-stop-distance.Post (λ r x. r)
 one-stopping-stop-distance l a r s x y = unique

@@ -13,7 +13,7 @@ use Rattle.envelope.specs.declared.FuseConfig.{FuseConfig}
 use Rattle.tier0.specs.Rule.{CONTACT}
 use Rattle.tier0.specs.Of.{actionAnswer, actionOut, chunkAnswer, chunkOut}
 use Rattle.tier0.specs.Promises.{tripsIn, raised, ChunkWithin, ActionWithin, contactUnarmed}
-use Rattle.tier0.specs.declared.Check.the-variants as check
+use Rattle.tier0.specs.declared.Tier0Out.the-variants as check
 use Rattle.rollout.specs.Plant.{Gains}
 use Rattle.brake.specs.Answer.{forecastAnswer, brakeAnswer, holdAnswer}
 use Rattle.brake.specs.Promises.{Call, SecondOrder, N, slackAfter, answer}

@@ -92,7 +92,7 @@ module _ (p : Reason → Bool) (y : Bool) where
   pub refused-first : NoneOf p (after computed order) → (given p ≡ 0 → ⊥) → given withComputed ≡ given p
   refused-first = kept-first order
 
-  -- .. and where there is none, 13 is the only one left
+  -- where nothing is refused before, 13 is the only one left
   pub only-computed : given p ≡ 0 → given withComputed ≡ (if y then 13 else 0)
   only-computed e = given-or p (among ((computed when y) ∷ [])) ∙ rw e (go y)
     where

@@ -81,7 +81,7 @@ module _ (applies : Reason → Bool) where
   each-of [] h = tt
   each-of (k ∷ l) h = (h k, each-of l h)
 
-  -- .. so not the one with a number
+  -- where none applies, the one with a given number does not
   with-number : (n : ℕ) (l : List Reason) → applies size ≡ false → NoneOf l → applies (withNumber n l) ≡ false
   with-number n [] z h = z
   with-number n (j ∷ l) z h = go (eqb (numberOf j) n) (with-number n l z (h .1))

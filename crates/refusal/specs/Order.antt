@@ -1,4 +1,4 @@
--- The refusals of document 01's table: their numbers, the order in which they are judged, and the answer, the first that applies.
+-- The refusals of the table (R0): their numbers, the order in which they are judged, and the answer, the first that applies.
 use Prim.Native.Nat.{ℕ}
 use mathlib.Core.Bool.{Bool, false, _||_}
 use mathlib.Core.List.{List, [], _∷_}

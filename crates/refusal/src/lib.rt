@@ -1,4 +1,4 @@
-// Why a call is refused: a number of document 01's table and, for a computed number that isn't finite, its place.
+// Why a call is refused: a number of the table (R0) and, for a computed number that isn't finite, its place.
 ghost use mathlib.Core.Path.{_≡_};
 ghost use Rattle.bits.specs.Choice.{if_then_else_};
 ghost use Rattle.refusal.specs.Order.{earlier, refusedFor};

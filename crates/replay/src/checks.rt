@@ -8,12 +8,12 @@ use crate::record::part;
 use chunk::held_rows;
 use layout::places::to_u16;
 use sample::agrees;
-use tier0::Check;
+use tier0::Tier0Out;
 
 // Whether an answer has the trips, clamped dims and peak speed kept.
-fn is_check(a: Check, trips: u64, dims: u64, peak: f64) -> bool {
+fn is_check(a: Tier0Out, trips: u64, dims: u64, peak: f64) -> bool {
     match a {
-        Check::Passed {
+        Tier0Out::Passed {
             trips: t,
             clamped_dims,
             peak_speed,
@@ -21,7 +21,7 @@ fn is_check(a: Check, trips: u64, dims: u64, peak: f64) -> bool {
             &[exact(trips), exact(dims), peak],
             &[t as f64, clamped_dims as f64, peak_speed],
         ),
-        Check::Refused(_) => false,
+        Tier0Out::Refused(_) => false,
     }
 }
 

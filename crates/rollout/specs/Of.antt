@@ -15,7 +15,7 @@ use Rattle.rollout.specs.declared.Law.{Law}
 use Rattle.course.specs.declared.Plant.{Plant}
 use Rattle.course.specs.declared.Run.{Run}
 use Rattle.rollout.specs.Plant.{Gains, Motion}
-use Rattle.course.specs.Of.{stateOf, Ran, leftOf, shaped}
+use Rattle.course.specs.Of.{stateOf, CameAlong, leftOf, shaped}
 use Rattle.rollout.specs.Rule.{Task, aim, after, forecast}
 
 abbrev pub gainsOf : Law → Gains
@@ -49,7 +49,7 @@ taskOf g w c s rows = record {
 
 -- a run has come along k entries of the second-order brake's forecast
 abbrev pub Along : Format → Task → List Float → ℕ → Run → List Float → Type 0
-Along f t l k r out = Ran (forecast f t) (after f t) l k r out
+Along f t l k r out = CameAlong (forecast f t) (after f t) l k r out
 
 -- a run goes towards one setpoint for some substeps more, if it still runs
 abbrev pub Towards : Format → Task → ℕ → ℕ → List Float → Run → Type 0

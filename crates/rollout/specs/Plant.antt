@@ -1,4 +1,4 @@
--- The plant and its substep: acc = k_p(a-p) - k_v v; v = v + acc dt; p = p + v dt with the new v (document 01, module 7). Over the format.
+-- The plant and its substep: acc = k_p(a-p) - k_v v; v = v + acc dt; p = p + v dt with the new v (R7.1). Over the format.
 use Prim.Native.Nat.{ℕ, zero, suc}
 use mathlib.Core.List.{List}
 use lib.ListN.{set}

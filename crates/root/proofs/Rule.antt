@@ -1,4 +1,4 @@
--- `rootOf` meets its rule at either format: of a number above zero that the format holds it is the root that document 01 works out.
+-- `rootOf` meets its rule at either format: of a number above zero that the format holds it is the root that R1.5 works out.
 -- The idea: such a number is q * 2 ^ k units of the format's smallest value, and in units all is natural numbers (`Units`).
 use mathlib.Core.Path.{_≡_, refl, sym, ap, _∙_, subst}
 use Prim.Native.Nat.{ℕ, zero, suc, _+_, _-_, _*_, _/_, _%_, _^_, _≤_, _<_}
@@ -269,7 +269,7 @@ positive-not-negative (inf s) p = absurd p
 positive-not-negative (fin true m e) p = absurd p
 positive-not-negative (fin false m e) p = tt
 
--- .. and some, where it is above zero
+-- a number above zero has some units
 pub some-units : (f : Format) (x : Float) (u : InUnits f x) → T (positive x) → 0 < u .q
 some-units f x u p = first-pos (u .q) (2 ^ u .k) (value-pos x (u .q * 2 ^ u .k) (2 ^ low f) p (pow-pos (low f)) (u .value))
 

@@ -184,7 +184,7 @@ module _ (p q k l : ℕ) (some : 0 < q) (few : size q ≤ p) (precise : 0 < p) (
       let n : k + 2 * l - (l + 2 * i) ≡ c .j = omega arith in
       rw (exponent-is, excess-sub k l i l, sub-pos (k + 2 * l) (l + 2 * i) (omega arith), n, c .is)
 
-  -- .. and the code's: the shift that puts the digits of X at the top of 64
+  -- the shift that puts the digits of X at the top of 64, as the code has it
   pub excess-is : subℕ k l -ℤ pos 2 *ℤ rootExponent p q (subℕ k l) ≡ pos (left-in .j)
   excess-is =
       let i = pairs p (q * 2 ^ (k + l)) in

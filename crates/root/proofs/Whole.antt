@@ -122,7 +122,7 @@ twice-mag (negsuc a) = rw (neg-pos (2 * suc a)) (sub-mag 0 (2 * suc a) (2 * a + 
 pub read-back : (z : ℤ) → mag z < 2 ^ 63 → toZ w64 (ofZ w64 z) ≡ z
 read-back z h = toZ-ofZ w64 z (record { sfits = h })
 
--- .. where it is known what it is
+-- read back, where it is known what it is
 pub returned : (r z : ℤ) → r ≡ z → mag z < 2 ^ 63 → toZ w64 (ofZ w64 r) ≡ z
 returned r z e h = rw e (read-back z h)
 

@@ -125,7 +125,7 @@ unpack f b p h = go (eqb (b / hid f) 0) refl
         some-field zero h = absurd (h refl)
         some-field (suc x) h = omega arith
 
--- .. are ones that the root takes
+-- digits and exponents that are written so are ones that the root takes
 pub ranged : (f : Format) (q k : ℕ) → 0 < q → q < 2 ^ prec f → suc k < ones f → Ranged (placed f q k) (prec f)
 ranged f q k Q B K =
     record {

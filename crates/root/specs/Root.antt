@@ -1,4 +1,4 @@
--- The correctly rounded square root, over the width, as document 01's module 1 has it: scale by an even power of two to a whole X of 2p - 1 or 2p binary
+-- The correctly rounded square root, over the width (R1.5): scale by an even power of two to a whole X of 2p - 1 or 2p binary
 -- digits; the root is the whole number R nearest to the root of X, with half of the scaled exponent.
 use Prim.Native.Nat.{ℕ, zero, suc, _+_, _-_, _*_, _/_}
 use mathlib.Core.Bool.{true, false, cond}
@@ -25,7 +25,7 @@ half e = shrZ e 2
 unfoldable pub rootExponent : ℕ → ℕ → ℤ → ℤ
 rootExponent p m e = half (e +ℤ pos (size m + 1) -ℤ pos (2 * p))
 
--- .. and X, the whole number that is left: m * 2 ^ e is X * 4 ^ rootExponent
+-- X, the whole number that is left: m * 2 ^ e is X * 4 ^ rootExponent
 unfoldable pub scaled : ℕ → ℕ → ℤ → ℕ
 scaled p m e = m * up (e -ℤ pos 2 *ℤ rootExponent p m e)
 

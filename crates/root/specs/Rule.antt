@@ -1,4 +1,4 @@
--- What the root has to meet, over the width: document 01's inequality with its only R, and the sentence that IEEE 754 makes of it. Definitions only.
+-- What the root has to meet, over the width: the inequality of R1.5 with its only R, and the sentence that IEEE 754 makes of it (R1.6). Definitions only.
 use mathlib.Core.Path.{_≡_}
 use mathlib.Core.Bool.{Bool, true, false, not}
 use Prim.Native.Nat.{ℕ, _+_, _-_, _*_, _^_, _≤_, _<_}
@@ -12,7 +12,7 @@ use Rattle.root.specs.Root.{number}
 abbrev pub Near : ℕ → ℕ → Type 0
 Near r x = ((2 * r - 1) * (2 * r - 1) < 4 * x) × (4 * x < (2 * r + 1) * (2 * r + 1))
 
--- y is the root of x, a number above zero of the format f, as document 01 works it out
+-- y is the root of x, a number above zero of the format f, as R1.5 works it out
 pub record RoundedRoot (f : Format) (x y : Float) : Type 0 where
   -- x is whole * 4 ^ exponent, with 2 * prec - 1 or 2 * prec binary digits in `whole`
   pub whole : ℕ

@@ -10,7 +10,7 @@ use Rattle.checked.specs.Least.{lesser}
 use Rattle.checked.proofs.Each.{and-left}
 use Rattle.checked.proofs.Told.{implied}
 use Rattle.checked.specs.declared.Reckoned.{Reckoned}
-use Rattle.workspace.specs.Rule.{slackWithin}
+use Rattle.workspace.specs.Rule.{slackR}
 use Rattle.checked.specs.Of.{reckonedFrom, rowFrom}
 use Rattle.course.specs.declared.Plant.{Plant}
 use Rattle.course.specs.declared.Run.{Run}
@@ -28,7 +28,7 @@ module _
     (g wait : Float) (u : Under f t g wait) (a : List Float) (row : rowAt t k ≡ a) (axes : t .n ≤ length (r .plant .v))
     (v : List Float) (ev : v ≡ command f (t .arm .kind) (t .arm .dt) g a (stateOf (r .plant)) (t .n) .value)
     (reach : Reckoned) (er : reach ≡ reckonedFrom (radius f (t .arm .brake) (t .arm .«a_max») (t .arm .«j_max») wait v (t .n)))
-    (d : Reckoned) (ed : d ≡ reckonedFrom (slackWithin f (t .walls) (reach .value) (r .plant .p) (t .n)))
+    (d : Reckoned) (ed : d ≡ reckonedFrom (slackR f (t .walls) (reach .value) (r .plant .p) (t .n)))
     (next : Row) (en : next ≡ rowFrom (step f (t .arm .dt) v (r .plant .p) (t .n))) where
   from : stateOf (r .plant) ≡ after f t k
   unfolding stand
@@ -45,7 +45,7 @@ module _
   abbrev tests : State → Bool
   tests q =
       let w = commandAt f t k q .value in
-      radiusAt f t w .sound && (slackWithin f (t .walls) (radiusAt f t w .value) (q .p) (t .n) .sound && (stepAt f t w (q .p) .sound && true))
+      radiusAt f t w .sound && (slackR f (t .walls) (radiusAt f t w .value) (q .p) (t .n) .sound && (stepAt f t w (q .p) .sound && true))
 
   tested : tests (stateOf (r .plant)) ≡ reach .sound && (d .sound && next .sound)
   tested = rw (en, ed, reach-is, v-is, and-true)
@@ -60,7 +60,7 @@ module _
   slack-is : d .value ≡ slackAt (forecast f t) (suc k)
   unfolding entry
   slack-is =
-      rw (ed, reach-is, v-is) (ap (λ (q : State). slackWithin f (t .walls) (radiusAt f t (commandAt f t k q .value) .value) (q .p) (t .n) .value) from)
+      rw (ed, reach-is, v-is) (ap (λ (q : State). slackR f (t .walls) (radiusAt f t (commandAt f t k q .value) .value) (q .p) (t .n) .value) from)
 
   next-is : _≡_ {A = State} (record { p = next .at; v = v }) (stand f t (suc k + 1))
   unfolding stand after
@@ -80,7 +80,7 @@ module _
 module _
     (f : Format) (t : Task) (l : List Float) (q : Plant) (eq : stateOf q ≡ t .start) (g : Reckoned) (eg : reckonedFrom (gain f t) ≡ g) (wait : Reckoned) (ew : reckonedFrom (reaction f t) ≡ wait)
     (reach : Reckoned) (er : reach ≡ reckonedFrom (radius f (t .arm .brake) (t .arm .«a_max») (t .arm .«j_max») (wait .value) (q .v) (t .n)))
-    (d : Reckoned) (ed : d ≡ reckonedFrom (slackWithin f (t .walls) (reach .value) (q .p) (t .n))) where
+    (d : Reckoned) (ed : d ≡ reckonedFrom (slackR f (t .walls) (reach .value) (q .p) (t .n))) where
   abbrev first : Run
   first = record { plant = q; margin = inf false; done = 0; sound = true }
 
@@ -90,11 +90,11 @@ module _
 
   start-fine : fine (forecast f t) 0 ≡ wait .sound && (g .sound && (reach .sound && d .sound))
   unfolding entry
-  start-fine = rw (ed, er, ← ew, ← eg) (ap (λ (s : State). reaction f t .sound && (gain f t .sound && (radiusAt f t (s .v) .sound && slackWithin f (t .walls) (radiusAt f t (s .v) .value) (s .p) (t .n) .sound))) (sym eq))
+  start-fine = rw (ed, er, ← ew, ← eg) (ap (λ (s : State). reaction f t .sound && (gain f t .sound && (radiusAt f t (s .v) .sound && slackR f (t .walls) (radiusAt f t (s .v) .value) (s .p) (t .n) .sound))) (sym eq))
 
   start-slack : d .value ≡ slackAt (forecast f t) 0
   unfolding entry
-  start-slack = rw (ed, er, ← ew) (ap (λ (s : State). slackWithin f (t .walls) (radiusAt f t (s .v) .value) (s .p) (t .n) .value) eq)
+  start-slack = rw (ed, er, ← ew) (ap (λ (s : State). slackR f (t .walls) (radiusAt f t (s .v) .value) (s .p) (t .n) .value) eq)
 
   pub start-fails : wait .sound && (g .sound && (reach .sound && d .sound)) ≡ false → Along f t l 1 (haltedAt q (inf false) 0) l
   start-fails b = along-fails (forecast f t) (stand f t) l 0 first l at-start refl (start-fine ∙ b)

@@ -21,7 +21,7 @@ use Rattle.envelope.specs.declared.ActionKind.the-variants.{EePosition, EeDelta
 use Rattle.envelope.specs.declared.BrakeKind.{BrakeKind}
 use Rattle.course.specs.Plant.{State}
 use Rattle.stopping.specs.declared.Arm.{Arm}
-use Rattle.stopping.specs.Rule.{ramp, ease, glide, radius, commanded, command, moved, stopDistance}
+use Rattle.stopping.specs.Rule.{ramp, ease, dStop, radius, commanded, command, moved, stopDistance}
 
 module _ (f : Format) where
   -- a quotient tells of its numerator
@@ -37,16 +37,16 @@ module _ (f : Format) where
   ease-tells a j s = over-tells (mul f s a) (mul f 2! j)
 
   pub radius-tells : (b : BrakeKind) (a j wait : Float) (v : List Float) (n : ℕ)
-      → radius f b a j wait v n .sound ≡ glide f b a j (norm f v n .value) .sound && finite (radius f b a j wait v n .value)
+      → radius f b a j wait v n .sound ≡ dStop f b a j (norm f v n .value) .sound && finite (radius f b a j wait v n .value)
   unfolding radius
   radius-tells b a j wait v n =
       let s = norm f v n .value in
-      let d = glide f b a j s .value in
+      let d = dStop f b a j s .value in
       let w = mul f s wait in
       let r = add f d w in
       let inner : finite w && finite r ≡ finite r = implied _ _ (fine-add-right f d w) in
-      ap (λ (x : Bool). norm f v n .sound && (glide f b a j s .sound && x)) inner
-      ∙ implied _ _ (λ h. norm-tells f v n ∙ fine-mul-left f s wait (fine-add-right f d w (and-right (glide f b a j s .sound) (finite r) h)))
+      ap (λ (x : Bool). norm f v n .sound && (dStop f b a j s .sound && x)) inner
+      ∙ implied _ _ (λ h. norm-tells f v n ∙ fine-mul-left f s wait (fine-add-right f d w (and-right (dStop f b a j s .sound) (finite r) h)))
 
 -- a sum tells of the distance in it; the radius has tests of its own
 pub stop-tells : (f : Format) (arm : Arm) (wait : Float) (start end : State) (n : ℕ)

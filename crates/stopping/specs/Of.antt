@@ -11,7 +11,7 @@ use Rattle.workspace.specs.Of.{wallsOf}
 use Rattle.course.specs.declared.Course.{Course}
 use Rattle.course.specs.declared.Plant.{Plant}
 use Rattle.course.specs.declared.Run.{Run}
-use Rattle.course.specs.Of.{stateOf, Ran, leftOf, shaped}
+use Rattle.course.specs.Of.{stateOf, CameAlong, leftOf, shaped}
 use Rattle.stopping.specs.declared.Arm.{Arm}
 use Rattle.stopping.specs.Rule.{Task, reaction, gain, stand, forecast}
 use Rattle.checked.specs.Finite.{finite}
@@ -41,7 +41,7 @@ haltedAt plant margin done = record { plant = plant; margin = margin; done = don
 
 -- a run has come along k entries
 abbrev pub Along : Format → Task → List Float → ℕ → Run → List Float → Type 0
-Along f t l k r out = Ran (forecast f t) (stand f t) l k r out
+Along f t l k r out = CameAlong (forecast f t) (stand f t) l k r out
 
 -- the gain and the waiting time are the task's
 pub record Under (f : Format) (t : Task) (g wait : Float) : Type 0 where

@@ -1,4 +1,4 @@
--- The closed kinds of brake (document 01, module 7): the stopping radius at the start and at each committed row, and the slack that it leaves. Over the format.
+-- The closed kinds of brake (R7.10, R7.11): the stopping radius at the start and at each committed row, and the slack that it leaves. Over the format.
 use Prim.Native.Nat.{ℕ, zero, suc, _+_}
 use mathlib.Core.List.{List}
 use lib.IntN.{pos}
@@ -14,7 +14,7 @@ use Rattle.envelope.specs.declared.ActionKind.the-variants.{EePosition, EeDelta
 use Rattle.envelope.specs.declared.BrakeKind.{BrakeKind}
 use Rattle.envelope.specs.declared.BrakeKind.the-variants.{PdSecondOrder, FirstOrderDecay, BoundedAccel, JerkLimited, ZeroVelocityHold}
 use Rattle.envelope.specs.declared.ControlSteps.{ControlSteps}
-use Rattle.workspace.specs.Rule.{Walls, slackWithin}
+use Rattle.workspace.specs.Rule.{Walls, slackR}
 use Rattle.course.specs.Plant.{State}
 use Rattle.course.specs.Forecast.{Forecast}
 use Rattle.course.specs.Rows.{rowsLeft}
@@ -67,21 +67,21 @@ ease f a j s = do
   divided f product twice
 
 -- how far the arm travels from speed s while it brakes
-unfoldable pub glide : Format → BrakeKind → Float → Float → Float → Checked Float
-glide f (PdSecondOrder kp kv dt) a j s = pure +0
-glide f (FirstOrderDecay kp kv dt) a j s = divided f s kv
-glide f (BoundedAccel kp kv dt) a j s = ramp f a s
-glide f (JerkLimited kp kv dt) a j s = do
+unfoldable pub dStop : Format → BrakeKind → Float → Float → Float → Checked Float
+dStop f (PdSecondOrder kp kv dt) a j s = pure +0
+dStop f (FirstOrderDecay kp kv dt) a j s = divided f s kv
+dStop f (BoundedAccel kp kv dt) a j s = ramp f a s
+dStop f (JerkLimited kp kv dt) a j s = do
   x ← ramp f a s
   y ← ease f a j s
   plus f x y
-glide f (ZeroVelocityHold kp kv dt) a j s = ramp f a s
+dStop f (ZeroVelocityHold kp kv dt) a j s = ramp f a s
 
 -- the stopping radius at velocity v, where `wait` passes before braking starts
 unfoldable pub radius : Format → BrakeKind → Float → Float → Float → List Float → ℕ → Checked Float
 radius f brake a j wait v n = do
   s ← norm f v n
-  d ← glide f brake a j s
+  d ← dStop f brake a j s
   w ← times f s wait
   plus f d w
 
@@ -93,7 +93,7 @@ commanded f EePosition dt g a p = minus f a p >>= times f g
 commanded f JointPosition dt g a p = minus f a p >>= times f g
 commanded f Other dt g a p = minus f a p >>= times f g
 
--- .. on the first n axes
+-- the velocities that a row commands on the first n axes
 unfoldable pub command : Format → ActionKind → Float → Float → List Float → State → ℕ → Checked (List Float)
 command f kind dt g a s n = each (λ (j : ℕ). commanded f kind dt g (at a j) (at (s .p) j)) (s .v) n
 
@@ -103,7 +103,7 @@ moved f dt v p = do
   d ← times f v dt
   plus f p d
 
--- .. of the first n axes
+-- one Euler step of the first n axes
 unfoldable pub step : Format → Float → List Float → List Float → ℕ → Checked (List Float)
 step f dt v p n = each (λ (j : ℕ). moved f dt (at v j) (at p j)) p n
 
@@ -145,11 +145,11 @@ module _ (f : Format) (t : Task) where
     wait ← reaction
     g ← gain
     r ← radiusAt (t .start .v)
-    slackWithin f (t .walls) r (t .start .p) (t .n)
+    slackR f (t .walls) r (t .start .p) (t .n)
   entry (suc k) = do
     v ← commandAt k (after k)
     r ← radiusAt v
-    s ← slackWithin f (t .walls) r (after k .p) (t .n)
+    s ← slackR f (t .walls) r (after k .p) (t .n)
     p ← stepAt v (after k .p)
     pure s
 

@@ -14,9 +14,9 @@ use Rattle.fmath.specs.Norm.{squareAt, norm, squaredGap, dist}
 use Rattle.chunk.specs.Rule.{rowOf}
 use Rattle.envelope.specs.declared.ActionKind.the-variants.{JointVelocity}
 use Rattle.envelope.specs.declared.BrakeKind.the-variants.{BoundedAccel}
-use Rattle.workspace.specs.Rule.{betweenWithin, slackWithin}
-use Rattle.course.specs.Forecast.{slackAt, reach, placeOf, marginOf, feasibleOf}
-use Rattle.stopping.specs.Rule.{Task, ratio, ramp, glide, radius, commanded, command, moved, step, reaction, after, entry, stopDistance, forecast}
+use Rattle.workspace.specs.Rule.{betweenR, slackR}
+use Rattle.course.specs.Forecast.{slackAt, leading, placeOf, marginOf, feasibleOf}
+use Rattle.stopping.specs.Rule.{Task, ratio, ramp, dStop, radius, commanded, command, moved, step, reaction, after, entry, stopDistance, forecast}
 
 abbrev sample : Task
 sample = record {
@@ -36,5 +36,5 @@ touching : (table (slackAt (forecast binary64 sample)) (forecast binary64 sample
     × (placeOf (forecast binary64 sample) ≡ 0)
     × (feasibleOf (forecast binary64 sample) ≡ true)
     × (forecast binary64 sample .stop .value ≡ fin false 3 (pos 1))
-unfolding table entry stopDistance placeOf marginOf all least lesser reach slackWithin leastOf betweenWithin after command commanded step moved each radius glide ramp ratio reaction ofInt round rowOf over norm squareAt dist squaredGap sumFrom rootOf nearRoot floorRoot scaled rootExponent half number lt le eq add sub mul div finite
+unfolding table entry stopDistance placeOf marginOf all least lesser leading slackR leastOf betweenR after command commanded step moved each radius dStop ramp ratio reaction ofInt round rowOf over norm squareAt dist squaredGap sumFrom rootOf nearRoot floorRoot scaled rootExponent half number lt le eq add sub mul div finite
 touching = (refl, refl, refl, refl)

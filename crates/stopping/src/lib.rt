@@ -7,7 +7,7 @@ ghost use lib.ListN.{length};
 ghost use lib.IntN.{pos};
 ghost use lib.Ieee.{Float, binary64, ofInt};
 ghost use Rattle.bits.specs.Choice.{if_then_else_};
-ghost use Rattle.stopping.specs.Rule.{ratio, ramp, ease, glide, radius, commanded, command, step, rowAt, gain, reaction, stand, stopDistance, forecast};
+ghost use Rattle.stopping.specs.Rule.{ratio, ramp, ease, dStop, radius, commanded, command, step, rowAt, gain, reaction, stand, stopDistance, forecast};
 ghost use Rattle.checked.specs.Of.{rowFrom, reckonedFrom};
 ghost use Rattle.stopping.specs.Of.{sumOf, taskOf, haltedAt, Along, Under, roomy};
 ghost use Rattle.checked.specs.Checked.{times, divided};
@@ -81,8 +81,8 @@ fn sum(x: Reckoned, y: Reckoned) -> Reckoned
 }
 
 // How far the arm travels from speed s while it brakes.
-fn glide(brake: BrakeKind, a: f64, j: f64, s: f64) -> Reckoned
-    ensures { λ r. ⌜ r ≡ reckonedFrom (glide binary64 brake a j s) ⌝ }
+fn d_stop(brake: BrakeKind, a: f64, j: f64, s: f64) -> Reckoned
+    ensures { λ r. ⌜ r ≡ reckonedFrom (dStop binary64 brake a j s) ⌝ }
 {
     match brake {
         BrakeKind::PdSecondOrder { k_p, k_v, dt } => Reckoned {
@@ -102,7 +102,7 @@ fn radius(arm: Arm, wait: f64, v: [f64; 8], n: usize) -> Reckoned
 {
     let s = fmath::magnitude(&v, n);
     let brake = arm.brake;
-    let d = glide(brake, arm.a_max, arm.j_max, s);
+    let d = d_stop(brake, arm.a_max, arm.j_max, s);
     let value = d.value + s * wait;
     let sound = d.sound & fmath::finite(value);
     Reckoned { value, sound }
@@ -121,7 +121,7 @@ fn commanded(kind: ActionKind, dt: f64, g: f64, a: f64, p: f64) -> f64
     }
 }
 
-// .. on the first n axes.
+// The velocities that a row commands on the first n axes.
 fn command(arm: Arm, g: f64, a: &[f64], s: Plant, n: usize) -> [f64; 8]
     requires { ⌜ (n ≤ 8) × (n ≤ length (now a)) ⌝ }
     ensures { λ r. ⌜ r ≡ command binary64 (arm .kind) (arm .dt) g (now (a .entry)) (stateOf s) n .value ⌝ }
@@ -188,7 +188,7 @@ fn row(
     let p = plant.p;
     let v = command(arm, g, a, plant, n);
     let r = radius(arm, wait, v, n);
-    let gap = workspace::slack_within(w, r.value, p, n);
+    let gap = workspace::slack_r(w, r.value, p, n);
     let next = step(arm.dt, v, p, n);
     let there = next.at;
     if !(r.sound & (gap.sound & next.sound)) {
@@ -249,7 +249,7 @@ fn begin(
     let p = start.p;
     let v = start.v;
     let r = radius(arm, wait.value, v, n);
-    let gap = workspace::slack_within(w, r.value, p, n);
+    let gap = workspace::slack_r(w, r.value, p, n);
     if !(wait.sound & (g.sound & (r.sound & gap.sound))) {
         return halted(start, inf, 0);
     }
@@ -281,7 +281,7 @@ fn roomy(c: Course, len: usize, room: usize) -> bool
 }
 
 // The whole run, its slacks written in order up to the first number that isn't finite; none where the course has no room.
-pub fn stopping(
+pub fn closed_form(
     arm: Arm,
     react: u16,
     w: Workspace,

@@ -23,13 +23,13 @@ use Rattle.conformal.specs.Rule.{Tables}
 use Rattle.envelope.specs.Refusals.{configJudged}
 use Rattle.envelope.specs.declared.FuseConfig.{FuseConfig}
 use Rattle.envelope.proofs.Accepted.{accepted, dim-most}
-use Rattle.tier0.specs.declared.Check.{Check}
-use Rattle.tier0.specs.declared.Check.the-variants.{Passed, Refused}
+use Rattle.tier0.specs.declared.Tier0Out.{Tier0Out}
+use Rattle.tier0.specs.declared.Tier0Out.the-variants.{Passed, Refused}
 use Rattle.tier0.specs.declared.Checks.{Checks}
-use Rattle.tier0.specs.declared.Ruling.{Ruling}
+use Rattle.tier0.specs.declared.JudgedChunk.{JudgedChunk}
 use Rattle.tier0.specs.Chunk.{checkChunk}
 use Rattle.tier0.specs.Refusals.{chunkTooShort}
-use Rattle.tier0.specs.Of.{checksOf, rulingFrom, lentToChunk, chunkRuling, chunkRefusal, chunkAnswer, chunkOut}
+use Rattle.tier0.specs.Of.{checksOf, judgedChunkFrom, lentToChunk, chunkRuling, chunkRefusal, chunkAnswer, chunkOut}
 use Rattle.tier0.proofs.Refused.{or-left, or-right, at-number, out-number}
 
 -- ---- what is known of an accepted call
@@ -51,7 +51,7 @@ sized-checks f c p rows h room e w = rw e (w .narrow, w .pos, w .some, w .few, w
 
 -- ---- the whole answer
 
-pub record Answered (f : Format) (c : FuseConfig) (t : Tables) (p aux rows : List Float) (h d e : ℕ) (l : List Float) (r : Check) (m : List Float) : Type 0 where
+pub record Answered (f : Format) (c : FuseConfig) (t : Tables) (p aux rows : List Float) (h d e : ℕ) (l : List Float) (r : Tier0Out) (m : List Float) : Type 0 where
   pub gives : r ≡ chunkAnswer f c t p aux rows h d e (length l)
   pub leaves : m ≡ chunkOut f c t p aux rows h d e l
 
@@ -145,9 +145,9 @@ module _ (f : Format) (c : FuseConfig) (t : Tables) (p aux rows : List Float) (h
     unfolding chunkRefusal
     lent-refused k g y = numbered k (g ∙ sym (first-refuses (configJudged f c t ++ (sizes ++ lent (length l))) last (λ z. y (g ∙ z)))) y
 
-    module _ (g : number (length l) ≡ 0) {s : Checks} {v : Ruling} {m z : List Float} (es : s ≡ checksOf f c) (em : m ≡ replicate 512 +0)
-        (ev : (v ≡ rulingFrom (checkChunk f s p aux rows m h)) × (z ≡ checkChunk f s p aux rows m h .value .after .rows)) where
-      ruled : v ≡ rulingFrom (chunkRuling f c p aux rows h)
+    module _ (g : number (length l) ≡ 0) {s : Checks} {v : JudgedChunk} {m z : List Float} (es : s ≡ checksOf f c) (em : m ≡ replicate 512 +0)
+        (ev : (v ≡ judgedChunkFrom (checkChunk f s p aux rows m h)) × (z ≡ checkChunk f s p aux rows m h .value .after .rows)) where
+      ruled : v ≡ judgedChunkFrom (chunkRuling f c p aux rows h)
       unfolding chunkRuling
       ruled = ev .0 ∙ rw (es, em)
 
@@ -159,7 +159,7 @@ module _ (f : Format) (c : FuseConfig) (t : Tables) (p aux rows : List Float) (h
       unfolding chunkRefusal
       known b y =
           first-passes (configJudged f c t ++ (sizes ++ lent (length l))) last g
-          ∙ ap (λ (u : Bool). if not u then 13 else 0) (sym (ap (λ (x : Ruling). x .sound) ruled) ∙ y)
+          ∙ ap (λ (u : Bool). if not u then 13 else 0) (sym (ap (λ (x : JudgedChunk). x .sound) ruled) ∙ y)
 
       pub not-sound : v .sound ≡ false → {r : Refusal} → r ≡ refusedFor 13 → Answered f c t p aux rows h d e l (Refused r) l
       not-sound y = numbered 13 (sym (known false y)) (λ z. omega arith)

@@ -28,7 +28,7 @@ use Rattle.envelope.specs.declared.Contact.the-variants.{None, Zone}
 use Rattle.chunk.proofs.Rows.{row-fits}
 use Rattle.tier0.specs.declared.Checks.{Checks}
 use Rattle.tier0.specs.declared.Difference.the-variants.{Accel, Jerk}
-use Rattle.tier0.specs.Rule.{WORKSPACE, SPEED, ACCEL, JERK, REACH, CONTACT, arms, Slow, clear, seen, inZone, zoneIn, slowZone, outOfBox, outOfReach, tripBits, leash, boxed, leashed, reached, moves, moved, project, projection, checkAction}
+use Rattle.tier0.specs.Rule.{WORKSPACE, SPEED, ACCEL, JERK, REACH, CONTACT, arms, Slow, clear, seen, inZone, zoneIn, slowZone, outOfBox, outOfReach, tripBits, leash, boxed, leashed, reached, moves, movedDims, project, projection, checkAction}
 use Rattle.tier0.specs.Promises.{raised}
 use Rattle.tier0.specs.Chunk.{startRow, someLonger, someOutOfBox, tooLarge, rawRow, putRow, nextRow, runRows, projectedRows, checkChunk}
 
@@ -164,7 +164,7 @@ clear-no-trip f s p aux rows l h e =
     chunk-contact-exactly f s p aux rows l h
     ∙ ap (λ (x : Slow). x .inside && someLonger f (startRow s p rows) rows (s .dim) (x .step) h) e
 
--- .. nor of an action
+-- without a zone CONTACT is not raised of an action
 pub clear-no-action-trip : (f : Format) (s : Checks) (p aux prev a : List Float) → slowZone f s p aux .value ≡ clear → raised CONTACT (actionTrips f s p aux prev a) ≡ false
 clear-no-action-trip f s p aux prev a e =
     action-contact-exactly f s p aux prev a
@@ -177,7 +177,7 @@ no-contact-no-trip f s p aux rows l h e = clear-no-trip f s p aux rows l h (ap (
 pub no-contact-no-action-trip : (f : Format) (s : Checks) (p aux prev a : List Float) → s .contact ≡ None → raised CONTACT (actionTrips f s p aux prev a) ≡ false
 no-contact-no-action-trip f s p aux prev a e = clear-no-action-trip f s p aux prev a (ap (λ (x : Checked Slow). x .value) (no-contact f s p aux e))
 
--- .. and no slow step enters the leash
+-- without a zone no slow step enters the leash
 pub no-contact-no-leash : (speed : Bool) (most : Float) → leash speed most clear ≡ (if speed then most else clear .step)
 no-contact-no-leash true most = refl
 no-contact-no-leash false most = refl
@@ -194,7 +194,7 @@ unfolding moves boxed leashed reached
 unarmed-stays f s p prev a true e = let w = none-armed s e in rw (w .0, w .1 .0, w .1 .1 .0)
 unarmed-stays f s p prev a false e = let w = none-armed s e in rw (w .0, w .1 .0)
 
--- .. and there is no slow zone
+-- with nothing armed there is no slow zone
 pub unarmed-no-zone : (f : Format) (s : Checks) (p aux : List Float) → s .armed ≡ 0 → slowZone f s p aux ≡ pure clear
 unfolding slowZone
 unarmed-no-zone f s p aux e = rw (none-armed s e .1 .1 .1)
@@ -206,8 +206,8 @@ equal-itself (inf s) e = absurd (false≢true e)
 equal-itself (fin true m e) h = rw (eq-eqb (m * up e * down e) (m * up e * down e) refl)
 equal-itself (fin false m e) h = rw (eq-eqb (m * up e * down e) (m * up e * down e) refl)
 
--- .. and of a row that stays no bit is set in clamped_dims
-pub unmoved : (a : List Float) (n : ℕ) → ((j : ℕ) → j < n → finite (at a j) ≡ true) → moved a a n ≡ 0
+-- of a row that stays no bit is set in clamped_dims
+pub unmoved : (a : List Float) (n : ℕ) → ((j : ℕ) → j < n → finite (at a j) ≡ true) → movedDims a a n ≡ 0
 unfolding bitsWhere
 unmoved a zero e = refl
 unmoved a (suc n) e = rw (unmoved a n (λ j l. e j (omega arith)), equal-itself (at a n) (e n (omega arith)))
@@ -250,7 +250,7 @@ module _ (f : Format) (s : Checks) (e : s .armed ≡ 0) (p : List Float) where
     unfolding runRows over
     none-run = let z : 0 * s .dim ≡ 0 = omega arith in rw z
 
-    -- .. and so are all
+    -- with nothing armed all rows come out as they came
     unarmed-rows : s .dim ≤ 8 → (h : ℕ) → runRows f s clear p rows q l h .value .out ≡ over (at rows) l (h * s .dim)
     unarmed-rows w zero = none-run
     unarmed-rows w (suc i) =
@@ -260,7 +260,7 @@ module _ (f : Format) (s : Checks) (e : s .armed ≡ 0) (p : List Float) where
         ∙ put-over (at rows) l (rawRow rows (s .dim) i) (i * s .dim) (s .dim) (row-at rows (s .dim) i w)
         ∙ ap (over (at rows) l) (sym more)
 
-    -- .. and no bit is set in clamped_dims
+    -- with nothing armed no bit is set in clamped_dims
     unarmed-mask : (h : ℕ) → ((i j : ℕ) → i < h → j < s .dim → finite (at (rawRow rows (s .dim) i) j) ≡ true) → runRows f s clear p rows q l h .value .mask ≡ 0
     unfolding runRows nextRow
     unarmed-mask zero real = refl

@@ -23,13 +23,13 @@ use Rattle.envelope.specs.Refusals.{configJudged}
 use Rattle.envelope.specs.declared.Derived.{Derived}
 use Rattle.envelope.specs.declared.FuseConfig.{FuseConfig}
 use Rattle.envelope.proofs.Accepted.{accepted, dim-most}
-use Rattle.tier0.specs.declared.Check.{Check}
-use Rattle.tier0.specs.declared.Check.the-variants.{Passed, Refused}
+use Rattle.tier0.specs.declared.Tier0Out.{Tier0Out}
+use Rattle.tier0.specs.declared.Tier0Out.the-variants.{Passed, Refused}
 use Rattle.tier0.specs.declared.Checks.{Checks}
-use Rattle.tier0.specs.declared.Verdict.{Verdict}
+use Rattle.tier0.specs.declared.JudgedAction.{JudgedAction}
 use Rattle.tier0.specs.Rule.{Judgement, seen, checkAction}
 use Rattle.tier0.specs.Refusals.{tooShort, answerAt, outAt}
-use Rattle.tier0.specs.Of.{checksFrom, checksOf, verdictFrom, lentToAction, actionRuling, actionRefusal, actionAnswer, actionOut}
+use Rattle.tier0.specs.Of.{checksFrom, checksOf, judgedActionFrom, lentToAction, actionRuling, actionRefusal, actionAnswer, actionOut}
 
 pub seen-parts : (p aux : List Float) (i j : ℕ) → seen p aux i j ≡ true → (i < length aux) × (j < length aux)
 seen-parts p aux i j e =
@@ -64,7 +64,7 @@ sized-checks f c a room e w = rw e (w .narrow, w .act)
 
 -- ---- the whole answer
 
-pub record Answered (f : Format) (c : FuseConfig) (t : Tables) (p aux prev a l : List Float) (r : Check) (m : List Float) : Type 0 where
+pub record Answered (f : Format) (c : FuseConfig) (t : Tables) (p aux prev a l : List Float) (r : Tier0Out) (m : List Float) : Type 0 where
   pub gives : r ≡ actionAnswer f c t p aux prev a (length l)
   pub leaves : m ≡ actionOut f c t p aux prev a l
 
@@ -136,8 +136,8 @@ module _ (f : Format) (c : FuseConfig) (t : Tables) (p aux prev a : List Float) 
     unfolding actionRefusal
     lent-refused k e h = numbered k (e ∙ sym (first-refuses (configJudged f c t ++ rest (length l)) last (λ z. h (e ∙ z)))) h
 
-    module _ (e : lentNumber (length l) ≡ 0) {s : Checks} {v : Verdict} (es : s ≡ checksOf f c) (ev : v ≡ verdictFrom (checkAction f s p aux prev a)) where
-      ruled : v ≡ verdictFrom (actionRuling f c p aux prev a)
+    module _ (e : lentNumber (length l) ≡ 0) {s : Checks} {v : JudgedAction} (es : s ≡ checksOf f c) (ev : v ≡ judgedActionFrom (checkAction f s p aux prev a)) where
+      ruled : v ≡ judgedActionFrom (actionRuling f c p aux prev a)
       unfolding actionRuling
       ruled = rw es at ev
 
@@ -145,7 +145,7 @@ module _ (f : Format) (c : FuseConfig) (t : Tables) (p aux prev a : List Float) 
       unfolding actionRefusal
       known b h =
           first-passes (configJudged f c t ++ rest (length l)) last e
-          ∙ ap (λ (u : Bool). if not u then 13 else 0) (sym (ap (λ (x : Verdict). x .sound) ruled) ∙ h)
+          ∙ ap (λ (u : Bool). if not u then 13 else 0) (sym (ap (λ (x : JudgedAction). x .sound) ruled) ∙ h)
 
       pub not-sound : v .sound ≡ false → {r : Refusal} → r ≡ refusedFor 13 → Answered f c t p aux prev a l (Refused r) l
       not-sound h = numbered 13 (sym (known false h)) (λ z. omega arith)

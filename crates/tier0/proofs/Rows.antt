@@ -28,14 +28,14 @@ use Rattle.tier0.specs.declared.Checks.{Checks}
 use Rattle.tier0.specs.declared.Difference.{Difference}
 use Rattle.tier0.specs.declared.Difference.the-variants as D
 use Rattle.tier0.specs.declared.SlowZone.{SlowZone}
-use Rattle.tier0.specs.declared.Ruling.{Ruling}
+use Rattle.tier0.specs.declared.JudgedChunk.{JudgedChunk}
 use Rattle.checked.specs.declared.Row.{Row}
 use Rattle.checked.specs.declared.Test.{Test}
 use Rattle.tier0.specs.declared.Stride.{Stride}
-use Rattle.tier0.specs.declared.Ran.{Ran}
-use Rattle.tier0.specs.Rule.{Slow, SPEED, arms, slowZone, outOfBox, outOfReach, tripBits, moves, moved, Projected}
+use Rattle.tier0.specs.declared.MovedRows.{MovedRows}
+use Rattle.tier0.specs.Rule.{Slow, SPEED, arms, slowZone, outOfBox, outOfReach, tripBits, moves, movedDims, Projected}
 use Rattle.tier0.specs.Chunk.{rawRow, startRow, rowBefore, stepTo, peakStep, someLonger, someOutOfBox, someOf, bend, jolt, bends, jolts, exceeds, largeAt, further, tripOf, tooLarge, putRow, Run, nextRow, runRows, projectedRows, checkChunk}
-use Rattle.tier0.specs.Of.{slowOf, zoneFrom, stepsFrom, runFrom, ranFrom, rulingFrom}
+use Rattle.tier0.specs.Of.{slowOf, zoneFrom, stepsFrom, runFrom, movedRowsFrom, judgedChunkFrom}
 use Rattle.checked.specs.Of.{rowFrom, testFrom}
 
 -- ---- one row
@@ -160,7 +160,7 @@ module _ (f : Format) (s : Checks) (z : Slow) (p rows q₀ l₀ : List Float) wh
       → Kept (run i) q l mask ok
       → a ≡ rawRow rows (s .dim) i
       → r ≡ rowFrom (moves f s z p (eqb i 0) q a)
-      → k ≡ moved a (r .at) (s .dim)
+      → k ≡ movedDims a (r .at) (s .dim)
       → m ≡ putRow (r .at) l (i * s .dim) (s .dim)
       → Kept (run (i + 1)) (r .at) m (bitOr mask k) (ok && r .sound)
   unfolding nextRow
@@ -172,7 +172,7 @@ module _ (f : Format) (s : Checks) (z : Slow) (p rows q₀ l₀ : List Float) wh
       }
 
   pub ran : {h i : ℕ} {q l : List Float} {mask : ℕ} {ok : Bool} → i ≡ h → Kept (run i) q l mask ok
-      → (_≡_ {A = Ran} (record { mask = mask; sound = ok }) (runFrom (run h))) × (l ≡ run h .value .out)
+      → (_≡_ {A = MovedRows} (record { mask = mask; sound = ok }) (runFrom (run h))) × (l ≡ run h .value .out)
   ran e k = (rw (← e, ← (k .all), ← (k .flag)), rw (← e, ← (k .all)))
 
 -- what the loop over the steps keeps
@@ -234,15 +234,15 @@ module _ (f : Format) (s : Checks) (m : ClampMode) (z : Slow) (p rows q l : List
   abbrev projected : Checked Projected
   projected = projectedRows f s m z p rows q l h
 
-  pub rows-off : m ≡ M.Off → {o : List Float} → o ≡ over (at rows) l (h * s .dim) → (_≡_ {A = Ran} (record { mask = 0; sound = true }) (ranFrom projected)) × (o ≡ projected .value .rows)
+  pub rows-off : m ≡ M.Off → {o : List Float} → o ≡ over (at rows) l (h * s .dim) → (_≡_ {A = MovedRows} (record { mask = 0; sound = true }) (movedRowsFrom projected)) × (o ≡ projected .value .rows)
   unfolding projectedRows
   rows-off e g = rw e (refl, g)
 
-  pub rows-on : m ≡ M.Project → {r : Ran} {o : List Float} → (r ≡ runFrom (runRows f s z p rows q l h)) × (o ≡ runRows f s z p rows q l h .value .out) → (r ≡ ranFrom projected) × (o ≡ projected .value .rows)
+  pub rows-on : m ≡ M.Project → {r : MovedRows} {o : List Float} → (r ≡ runFrom (runRows f s z p rows q l h)) × (o ≡ runRows f s z p rows q l h .value .out) → (r ≡ movedRowsFrom projected) × (o ≡ projected .value .rows)
   unfolding projectedRows
   rows-on e u = rw (e, and-true) u
 
-pub judge-chunk-is : (f : Format) (s : Checks) (p aux rows l : List Float) (h : ℕ) {z : SlowZone} {q first m : List Float} {t : Stride} {k speed : Bool} {bent jolted far : Test} {c : Ran} {bits : ℕ}
+pub judge-chunk-is : (f : Format) (s : Checks) (p aux rows l : List Float) (h : ℕ) {z : SlowZone} {q first m : List Float} {t : Stride} {k speed : Bool} {bent jolted far : Test} {c : MovedRows} {bits : ℕ}
     → z ≡ zoneFrom (slowZone f s p aux)
     → q ≡ startRow s p rows
     → t ≡ stepsFrom f s (z .step) q rows h
@@ -253,9 +253,9 @@ pub judge-chunk-is : (f : Format) (s : Checks) (p aux rows l : List Float) (h : 
     → far ≡ testFrom (outOfReach f s p first)
     → speed ≡ arms s SPEED
     → bits ≡ tripBits (t .out .holds) (speed && t .fast) (bent .holds) (jolted .holds) (far .holds) (z .inside && t .close)
-    → (c ≡ ranFrom (projectedRows f s (s .clamp) (slowOf z) p rows q l h)) × (m ≡ projectedRows f s (s .clamp) (slowOf z) p rows q l h .value .rows)
-    → (_≡_ {A = Ruling} (record { trips = bits; mask = c .mask; peak = mul f (t .peak) (s .«inv_dt»); sound = z .sound && (t .sound && (k && (t .out .sound && (bent .sound && (jolted .sound && (far .sound && c .sound)))))) })
-    (rulingFrom (checkChunk f s p aux rows l h))) × (m ≡ checkChunk f s p aux rows l h .value .after .rows)
+    → (c ≡ movedRowsFrom (projectedRows f s (s .clamp) (slowOf z) p rows q l h)) × (m ≡ projectedRows f s (s .clamp) (slowOf z) p rows q l h .value .rows)
+    → (_≡_ {A = JudgedChunk} (record { trips = bits; mask = c .mask; peak = mul f (t .peak) (s .«inv_dt»); sound = z .sound && (t .sound && (k && (t .out .sound && (bent .sound && (jolted .sound && (far .sound && c .sound)))))) })
+    (judgedChunkFrom (checkChunk f s p aux rows l h))) × (m ≡ checkChunk f s p aux rows l h .value .after .rows)
 unfolding checkChunk
 judge-chunk-is f s p aux rows l h ez eq et ek eb ej e1 ef es ew ec = (rw (ew, ec .0, ef, e1, ej, eb, es, ek, et, eq, ez, and-true), ec .1 ∙ rw (eq, ez))
 

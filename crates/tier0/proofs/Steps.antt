@@ -23,9 +23,9 @@ use Rattle.tier0.specs.declared.SlowZone.{SlowZone}
 use Rattle.checked.specs.declared.Row.{Row}
 use Rattle.checked.specs.declared.Test.{Test}
 use Rattle.tier0.specs.declared.Clamped.{Clamped}
-use Rattle.tier0.specs.declared.Verdict.{Verdict}
-use Rattle.tier0.specs.Rule.{Slow, WORKSPACE, SPEED, ACCEL, JERK, REACH, CONTACT, arms, shared, clear, seen, inZone, zoneIn, slowZone, outOfBox, outOfReach, bit, tripBits, leash, boxed, leashed, reached, moves, moved, project, projection, checkAction}
-use Rattle.tier0.specs.Of.{slowOf, zoneFrom, clampedFrom, verdictFrom}
+use Rattle.tier0.specs.declared.JudgedAction.{JudgedAction}
+use Rattle.tier0.specs.Rule.{Slow, WORKSPACE, SPEED, ACCEL, JERK, REACH, CONTACT, arms, boxDims, clear, seen, inZone, zoneIn, slowZone, outOfBox, outOfReach, bit, tripBits, leash, boxed, leashed, reached, moves, movedDims, project, projection, checkAction}
+use Rattle.tier0.specs.Of.{slowOf, zoneFrom, clampedFrom, judgedActionFrom}
 use Rattle.checked.specs.Of.{rowFrom, testFrom}
 
 -- ---- the workspace
@@ -35,7 +35,7 @@ module _ (f : Format) (s : Checks) (a : List Float) {k : Bool} (e : k ≡ arms s
   unfolding outOfBox
   out-off h = rw (sym e ∙ h)
 
-  pub out-on : k ≡ true → {n : ℕ} {t : Test} → n ≡ shared s → t ≡ testFrom (outside f (wallsOf (s .walls)) a n) → t ≡ testFrom (outOfBox f s a)
+  pub out-on : k ≡ true → {n : ℕ} {t : Test} → n ≡ boxDims s → t ≡ testFrom (outside f (wallsOf (s .walls)) a n) → t ≡ testFrom (outOfBox f s a)
   unfolding outOfBox
   out-on h p q = rw (sym e ∙ h) (rw p at q)
 
@@ -43,7 +43,7 @@ module _ (f : Format) (s : Checks) (a : List Float) {k : Bool} (e : k ≡ arms s
   unfolding boxed
   boxed-off h = rw (sym e ∙ h)
 
-  pub boxed-on : k ≡ true → {n : ℕ} {r : Row} → n ≡ shared s → r ≡ rowFrom (inward f (wallsOf (s .walls)) a n) → r ≡ rowFrom (boxed f s a)
+  pub boxed-on : k ≡ true → {n : ℕ} {r : Row} → n ≡ boxDims s → r ≡ rowFrom (inward f (wallsOf (s .walls)) a n) → r ≡ rowFrom (boxed f s a)
   unfolding boxed
   boxed-on h p q = rw (sym e ∙ h) (rw p at q)
 
@@ -89,7 +89,7 @@ module _ (f : Format) (s : Checks) (p a : List Float) {k : Bool} (e : k ≡ arms
   unfolding outOfReach
   reach-off h = rw (sym e ∙ h)
 
-  pub reach-on : k ≡ true → {n : ℕ} {d : Float} {t : Bool} → n ≡ shared s → d ≡ dist f a p n .value → t ≡ finite d
+  pub reach-on : k ≡ true → {n : ℕ} {d : Float} {t : Bool} → n ≡ boxDims s → d ≡ dist f a p n .value → t ≡ finite d
       → _≡_ {A = Test} (record { holds = lt (s .«reach_max») d; sound = t }) (testFrom (outOfReach f s p a))
   unfolding outOfReach
   reach-on h {n} q u v = rw (sym e ∙ h, dist-sound f a p n u v, u, q, and-true)
@@ -98,7 +98,7 @@ module _ (f : Format) (s : Checks) (p a : List Float) {k : Bool} (e : k ≡ arms
   unfolding reached
   reached-off h = rw (sym e ∙ h)
 
-  pub reached-on : k ≡ true → {n : ℕ} {r : Row} → n ≡ shared s → r ≡ rowFrom (pulled f (s .«reach_max») p n a) → r ≡ rowFrom (reached f s p a)
+  pub reached-on : k ≡ true → {n : ℕ} {r : Row} → n ≡ boxDims s → r ≡ rowFrom (pulled f (s .«reach_max») p n a) → r ≡ rowFrom (reached f s p a)
   unfolding reached
   reached-on h q u = rw (sym e ∙ h) (rw q at u)
 
@@ -127,7 +127,7 @@ module _ (f : Format) (s : Checks) (z : Slow) (p q a : List Float) {b l : Row}
 
 pub project-is : (f : Format) (s : Checks) (z : Slow) (p prev a : List Float) {r : Row} {m : ℕ}
     → r ≡ rowFrom (moves f s z p true prev a)
-    → m ≡ moved a (r .at) (s .dim)
+    → m ≡ movedDims a (r .at) (s .dim)
     → _≡_ {A = Clamped} (record { at = r .at; mask = m; sound = r .sound }) (clampedFrom (project f s z p prev a))
 unfolding project
 project-is f s z p prev a er em = rw (em, er, and-true)
@@ -167,8 +167,8 @@ pub judge-is : (f : Format) (s : Checks) (p aux prev a : List Float) {z : SlowZo
     → speed ≡ arms s SPEED
     → bits ≡ tripBits (out .holds) (speed && lt (s .«step_max») n) false false (far .holds) (z .inside && lt (z .step) n)
     → c ≡ clampedFrom (projection f s (s .clamp) (slowOf z) p prev raw)
-    → _≡_ {A = Verdict} (record { trips = bits; mask = c .mask; peak = mul f n (s .«inv_dt»); at = c .at; sound = z .sound && (k && (out .sound && (far .sound && c .sound))) })
-    (verdictFrom (checkAction f s p aux prev a))
+    → _≡_ {A = JudgedAction} (record { trips = bits; mask = c .mask; peak = mul f n (s .«inv_dt»); at = c .at; sound = z .sound && (k && (out .sound && (far .sound && c .sound))) })
+    (judgedActionFrom (checkAction f s p aux prev a))
 unfolding checkAction
 judge-is f s p aux prev a ez en ek eo ef ew es eb ec =
     let n = dist f a prev (s .dim) in

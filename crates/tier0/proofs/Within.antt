@@ -18,7 +18,7 @@ use Rattle.envelope.specs.declared.FuseConfig.{FuseConfig}
 use Rattle.tier0.specs.declared.Checks.{Checks}
 use Rattle.tier0.specs.declared.Difference.{Difference}
 use Rattle.tier0.specs.declared.Difference.the-variants.{Accel, Jerk}
-use Rattle.tier0.specs.Rule.{WORKSPACE, SPEED, ACCEL, JERK, REACH, CONTACT, arms, shared, outOfBox, outOfReach, tripBits, Judgement, checkAction}
+use Rattle.tier0.specs.Rule.{WORKSPACE, SPEED, ACCEL, JERK, REACH, CONTACT, arms, boxDims, outOfBox, outOfReach, tripBits, Judgement, checkAction}
 use Rattle.tier0.specs.Chunk.{rawRow, stepTo, someLonger, someOutOfBox, someOf, exceeds, largeAt, further, tripOf, tooLarge, checkChunk}
 use Rattle.tier0.specs.Refusals.{answerAt}
 use Rattle.tier0.specs.Of.{checksOf, actionRuling, actionRefusal, actionAnswer, chunkRuling, chunkRefusal, chunkAnswer}
@@ -40,11 +40,11 @@ if-so : (b : Bool) (x : Checked Bool) → x .value ≡ false → (if b then x el
 if-so true x h = h
 if-so false x h = refl
 
-in-box : (f : Format) (s : Checks) (a : List Float) → ((j : ℕ) → j < shared s → beyond (wallsOf (s .walls)) a j ≡ false) → outOfBox f s a .value ≡ false
+in-box : (f : Format) (s : Checks) (a : List Float) → ((j : ℕ) → j < boxDims s → beyond (wallsOf (s .walls)) a j ≡ false) → outOfBox f s a .value ≡ false
 unfolding outOfBox outside
-in-box f s a h = if-so (arms s WORKSPACE) _ (none-so (beyond (wallsOf (s .walls)) a) (shared s) h)
+in-box f s a h = if-so (arms s WORKSPACE) _ (none-so (beyond (wallsOf (s .walls)) a) (boxDims s) h)
 
-in-reach : (f : Format) (s : Checks) (p a : List Float) → lt (s .«reach_max») (dist f a p (shared s) .value) ≡ false → outOfReach f s p a .value ≡ false
+in-reach : (f : Format) (s : Checks) (p a : List Float) → lt (s .«reach_max») (dist f a p (boxDims s) .value) ≡ false → outOfReach f s p a .value ≡ false
 unfolding outOfReach
 in-reach f s p a h = if-so (arms s REACH) _ h
 
@@ -122,7 +122,7 @@ module _ (f : Format) (c : FuseConfig) (t : Tables) (p aux rows : List Float) (h
   pub chunk-contact-touched : ChunkSlowInZone f c p aux rows h → raised CONTACT trips ≡ false
   chunk-contact-touched w = from-rule CONTACT refl (chunk-contact-exactly f s p aux rows l h ∙ not-close w)
 
-  -- .. and all of them: nothing is raised
+  -- where none of them is exceeded, nothing is raised
   none-tripped : ChunkWithin f c p aux rows h → chunkTrips f s p aux rows l h ≡ 0
   unfolding checkChunk tripBits
   none-tripped w = rw (not-out (w .box), not-fast (w .speed), not-bent (w .accel), not-jolted (w .jerk), not-far (w .reach), not-close (w .contact))

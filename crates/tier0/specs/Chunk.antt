@@ -1,4 +1,4 @@
--- The rules of document 01's module 5 for a chunk: trips over the rows as they came, and projection row by row from the projected row before.
+-- The rules of the checks for a chunk (R5): trips over the rows as they came, and projection row by row from the projected row before.
 use Prim.Native.Nat.{ℕ, zero, suc, _+_, _-_, _*_}
 use mathlib.Core.Bool.{Bool, false, _&&_}
 use mathlib.Core.List.{List}
@@ -19,7 +19,7 @@ use Rattle.envelope.specs.declared.ClampMode.the-variants.{Off, Project}
 use Rattle.tier0.specs.declared.Checks.{Checks}
 use Rattle.tier0.specs.declared.Difference.{Difference}
 use Rattle.tier0.specs.declared.Difference.the-variants.{Accel, Jerk}
-use Rattle.tier0.specs.Rule.{SPEED, ACCEL, JERK, arms, shared, Slow, slowZone, outOfBox, outOfReach, tripBits, moves, moved, Projected, Judgement}
+use Rattle.tier0.specs.Rule.{SPEED, ACCEL, JERK, arms, boxDims, Slow, slowZone, outOfBox, outOfReach, tripBits, moves, movedDims, Projected, Judgement}
 
 -- ---- rows
 
@@ -29,7 +29,7 @@ rawRow rows n i = padded (drop (i * n) rows) n
 
 -- before row 0: the position on the shared coordinates, row 0 itself on the others
 unfoldable pub startRow : Checks → List Float → List Float → List Float
-startRow s p rows = over (at p) (rawRow rows (s .dim) 0) (shared s)
+startRow s p rows = over (at p) (rawRow rows (s .dim) 0) (boxDims s)
 
 -- the row before row i, where q stands before row 0
 unfoldable pub rowBefore : List Float → List Float → ℕ → ℕ → List Float
@@ -102,7 +102,7 @@ abbrev pub tripOf : Difference → ℕ
 tripOf Accel = ACCEL
 tripOf Jerk = JERK
 
--- .. at some of h rows, where it is armed
+-- the difference is too large at some of h rows, where its check is armed
 unfoldable pub tooLarge : Format → Checks → Difference → List Float → List Float → ℕ → Checked Bool
 tooLarge f s d q rows h = if arms s (tripOf d) then someOf (largeAt f s d q rows) (h - further d) else pure false
 
@@ -123,7 +123,7 @@ pub record Run : Type 0 where
 unfoldable pub nextRow : Format → Checks → Slow → List Float → List Float → ℕ → Run → Checked Run
 nextRow f s z p rows i t = do
   r ← moves f s z p (eqb i 0) (t .last) (rawRow rows (s .dim) i)
-  pure (record { last = r; out = putRow r (t .out) (i * s .dim) (s .dim); mask = bitOr (t .mask) (moved (rawRow rows (s .dim) i) r (s .dim)) })
+  pure (record { last = r; out = putRow r (t .out) (i * s .dim) (s .dim); mask = bitOr (t .mask) (movedDims (rawRow rows (s .dim) i) r (s .dim)) })
 
 -- the first h rows, written over l; q stands before row 0
 unfoldable pub runRows : Format → Checks → Slow → List Float → List Float → List Float → List Float → ℕ → Checked Run

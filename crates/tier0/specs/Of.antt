@@ -16,14 +16,14 @@ use Rattle.envelope.specs.Derive.{derived}
 use Rattle.envelope.specs.Refusals.{configJudged}
 use Rattle.envelope.specs.declared.Derived.{Derived}
 use Rattle.envelope.specs.declared.FuseConfig.{FuseConfig}
-use Rattle.tier0.specs.declared.Check.{Check}
+use Rattle.tier0.specs.declared.Tier0Out.{Tier0Out}
 use Rattle.tier0.specs.declared.Checks.{Checks}
 use Rattle.tier0.specs.declared.SlowZone.{SlowZone}
 use Rattle.tier0.specs.declared.Clamped.{Clamped}
-use Rattle.tier0.specs.declared.Verdict.{Verdict}
+use Rattle.tier0.specs.declared.JudgedAction.{JudgedAction}
 use Rattle.tier0.specs.declared.Stride.{Stride}
-use Rattle.tier0.specs.declared.Ran.{Ran}
-use Rattle.tier0.specs.declared.Ruling.{Ruling}
+use Rattle.tier0.specs.declared.MovedRows.{MovedRows}
+use Rattle.tier0.specs.declared.JudgedChunk.{JudgedChunk}
 use Rattle.tier0.specs.Rule.{Slow, Projected, Judgement, checkAction}
 use Rattle.tier0.specs.Chunk.{Run, peakStep, someLonger, someOutOfBox, checkChunk}
 use Rattle.tier0.specs.Refusals.{tooShort, chunkTooShort, answerAt, outAt}
@@ -61,8 +61,8 @@ zoneFrom x = record { inside = x .value .inside; step = x .value .step; sound = 
 abbrev pub clampedFrom : Checked Projected → Clamped
 clampedFrom x = record { at = x .value .rows; mask = x .value .mask; sound = x .sound }
 
-abbrev pub verdictFrom : Checked Judgement → Verdict
-verdictFrom x = record {
+abbrev pub judgedActionFrom : Checked Judgement → JudgedAction
+judgedActionFrom x = record {
   trips = x .value .trips;
   mask = x .value .after .mask;
   peak = x .value .peak;
@@ -80,14 +80,14 @@ stepsFrom f s slow q rows h = record {
   sound = peakStep f q rows (s .dim) h .sound;
 }
 
-abbrev pub runFrom : Checked Run → Ran
+abbrev pub runFrom : Checked Run → MovedRows
 runFrom x = record { mask = x .value .mask; sound = x .sound }
 
-abbrev pub ranFrom : Checked Projected → Ran
-ranFrom x = record { mask = x .value .mask; sound = x .sound }
+abbrev pub movedRowsFrom : Checked Projected → MovedRows
+movedRowsFrom x = record { mask = x .value .mask; sound = x .sound }
 
-abbrev pub rulingFrom : Checked Judgement → Ruling
-rulingFrom x = record {
+abbrev pub judgedChunkFrom : Checked Judgement → JudgedChunk
+judgedChunkFrom x = record {
   trips = x .value .trips;
   mask = x .value .after .mask;
   peak = x .value .peak;
@@ -115,7 +115,7 @@ module _ (f : Format) (c : FuseConfig) (t : Tables) (p aux prev a : List Float) 
   unfoldable pub actionRefusal : ℕ → ℕ
   actionRefusal room = refusal (configJudged f c t ++ lentToAction c p aux prev a room ((computed when not (ruling .sound)) ∷ []))
 
-  unfoldable pub actionAnswer : ℕ → Check
+  unfoldable pub actionAnswer : ℕ → Tier0Out
   actionAnswer room = answerAt (actionRefusal room) (ruling .value)
 
   unfoldable pub actionOut : List Float → List Float
@@ -143,7 +143,7 @@ module _ (f : Format) (c : FuseConfig) (t : Tables) (p aux rows : List Float) (h
   unfoldable pub chunkRefusal : ℕ → ℕ
   chunkRefusal room = refusal (configJudged f c t ++ (chunkReasons h d e (length rows) ++ lentToChunk c p aux rows h d room ((computed when not (ruled .sound)) ∷ [])))
 
-  unfoldable pub chunkAnswer : ℕ → Check
+  unfoldable pub chunkAnswer : ℕ → Tier0Out
   chunkAnswer room = answerAt (chunkRefusal room) (ruled .value)
 
   unfoldable pub chunkOut : List Float → List Float

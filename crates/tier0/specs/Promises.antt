@@ -14,15 +14,15 @@ use Rattle.workspace.specs.Rule.{beyond}
 use Rattle.conformal.specs.Rule.{Tables}
 use Rattle.envelope.specs.declared.Contact.the-variants.{None}
 use Rattle.envelope.specs.declared.FuseConfig.{FuseConfig}
-use Rattle.tier0.specs.declared.Check.{Check}
-use Rattle.tier0.specs.declared.Check.the-variants.{Passed, Refused}
+use Rattle.tier0.specs.declared.Tier0Out.{Tier0Out}
+use Rattle.tier0.specs.declared.Tier0Out.the-variants.{Passed, Refused}
 use Rattle.tier0.specs.declared.Checks.{Checks}
-use Rattle.tier0.specs.Rule.{WORKSPACE, SPEED, ACCEL, JERK, REACH, CONTACT, bit, shared, Slow, slowZone}
+use Rattle.tier0.specs.Rule.{WORKSPACE, SPEED, ACCEL, JERK, REACH, CONTACT, bit, boxDims, Slow, slowZone}
 use Rattle.tier0.specs.Chunk.{rawRow, startRow, rowBefore, stepTo, bends, jolts}
 use Rattle.tier0.specs.Of.{checksOf, actionAnswer, actionOut, chunkAnswer, chunkOut}
 
 -- the trips of an answer: none where it is refused
-abbrev pub tripsIn : Check → ℕ
+abbrev pub tripsIn : Tier0Out → ℕ
 tripsIn (Passed trips clamped peak) = trips
 tripsIn (Refused r) = 0
 
@@ -59,7 +59,7 @@ module _ (f : Format) (c : FuseConfig) (p aux rows : List Float) where
   joltAt i = sizeOf f (jolts f (rawRow rows (checked .dim) (i + 2)) (rawRow rows (checked .dim) (i + 1)) (rawRow rows (checked .dim) i) (rowBefore beforeFirst rows (checked .dim) i)) (checked .dim) (checked .«inv_dt3»)
 
   abbrev pub ChunkInBox : ℕ → Type 0
-  ChunkInBox h = (i : ℕ) → i < h → (j : ℕ) → j < shared checked → beyond (wallsOf (checked .walls)) (rawRow rows (checked .dim) i) j ≡ false
+  ChunkInBox h = (i : ℕ) → i < h → (j : ℕ) → j < boxDims checked → beyond (wallsOf (checked .walls)) (rawRow rows (checked .dim) i) j ≡ false
 
   abbrev pub ChunkSlowEnough : ℕ → Type 0
   ChunkSlowEnough h = (i : ℕ) → i < h → lt (checked .«step_max») (stepAt i) ≡ false
@@ -74,7 +74,7 @@ module _ (f : Format) (c : FuseConfig) (p aux rows : List Float) where
   ChunkJoltsLittle h = (i : ℕ) → i < h - 2 → lt (checked .«j_max») (joltAt i) ≡ false
 
   abbrev pub ChunkInReach : Type 0
-  ChunkInReach = lt (checked .«reach_max») (dist f (rawRow rows (checked .dim) 0) p (shared checked) .value) ≡ false
+  ChunkInReach = lt (checked .«reach_max») (dist f (rawRow rows (checked .dim) 0) p (boxDims checked) .value) ≡ false
 
 -- none of a chunk's limits
 pub record ChunkWithin (f : Format) (c : FuseConfig) (p aux rows : List Float) (h : ℕ) : Type 0 where
@@ -97,7 +97,7 @@ module _ (f : Format) (c : FuseConfig) (p aux prev a : List Float) where
   actionStep = dist f a prev (checks .dim) .value
 
   abbrev pub ActionInBox : Type 0
-  ActionInBox = (j : ℕ) → j < shared checks → beyond (wallsOf (checks .walls)) a j ≡ false
+  ActionInBox = (j : ℕ) → j < boxDims checks → beyond (wallsOf (checks .walls)) a j ≡ false
 
   abbrev pub ActionSlowEnough : Type 0
   ActionSlowEnough = lt (checks .«step_max») actionStep ≡ false
@@ -106,7 +106,7 @@ module _ (f : Format) (c : FuseConfig) (p aux prev a : List Float) where
   ActionSlowInZone = zoneHere .inside ≡ true → lt (zoneHere .step) actionStep ≡ false
 
   abbrev pub ActionInReach : Type 0
-  ActionInReach = lt (checks .«reach_max») (dist f a p (shared checks) .value) ≡ false
+  ActionInReach = lt (checks .«reach_max») (dist f a p (boxDims checks) .value) ≡ false
 
 -- none of an action's limits
 pub record ActionWithin (f : Format) (c : FuseConfig) (p aux prev a : List Float) : Type 0 where
@@ -150,7 +150,7 @@ pub record ChunkTouched (f : Format) (c : FuseConfig) (t : Tables) (p aux rows :
   pub reach-touched : ChunkInReach f c p aux rows → raised REACH (tripsIn (chunkAnswer f c t p aux rows h d e room)) ≡ false
   pub all-touched : ChunkWithin f c p aux rows h → tripsIn (chunkAnswer f c t p aux rows h d e room) ≡ 0
 
--- .. nor by `check_action`
+-- a limit that is not exceeded is not raised by `check_action`, and where none is exceeded nothing is
 pub record ActionTouched (f : Format) (c : FuseConfig) (t : Tables) (p aux prev a : List Float) (room : ℕ) : Type 0 where
   pub workspace-touched : ActionInBox f c p aux prev a → raised WORKSPACE (tripsIn (actionAnswer f c t p aux prev a room)) ≡ false
   pub speed-touched : ActionSlowEnough f c p aux prev a → raised SPEED (tripsIn (actionAnswer f c t p aux prev a room)) ≡ false

@@ -6,8 +6,8 @@ use lib.Dec.{ltb}
 use lib.Ieee.{Float}
 use Rattle.refusal.specs.Order.{refusedFor}
 use Rattle.checked.specs.Each.{at, over}
-use Rattle.tier0.specs.declared.Check.{Check}
-use Rattle.tier0.specs.declared.Check.the-variants.{Passed, Refused}
+use Rattle.tier0.specs.declared.Tier0Out.{Tier0Out}
+use Rattle.tier0.specs.declared.Tier0Out.the-variants.{Passed, Refused}
 use Rattle.tier0.specs.Rule.{Judgement}
 
 -- 11: the position below pos_dim; the predecessor, the action or the output below dim
@@ -19,7 +19,7 @@ unfoldable pub chunkTooShort : ℕ → ℕ → ℕ → ℕ → Bool
 chunkTooShort pos-dim p size room = ltb p pos-dim || ltb room size
 
 -- the judgement where the refusal is 0
-abbrev pub answerAt : ℕ → Judgement → Check
+abbrev pub answerAt : ℕ → Judgement → Tier0Out
 answerAt zero j = Passed (j .trips) (j .after .mask) (j .peak)
 answerAt (suc k) j = Refused (refusedFor (suc k))
 

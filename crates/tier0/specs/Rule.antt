@@ -1,4 +1,4 @@
--- The rules of document 01's module 5 for one row, over the format. Whatever is computed is checked.
+-- The rules of the checks for one row (R5), over the format. Whatever is computed is checked.
 use Prim.Native.Nat.{ℕ, _+_, _/_, _%_, min}
 use mathlib.Core.Bool.{Bool, true, false, _&&_, _||_}
 use mathlib.Core.List.{List, [], _∷_}
@@ -45,8 +45,8 @@ unfoldable pub arms : Checks → ℕ → Bool
 arms s w = eqb (s .armed / w % 2) 1
 
 -- how many coordinates the action and the position share
-abbrev pub shared : Checks → ℕ
-shared s = min (s .dim) (s .«pos_dim»)
+abbrev pub boxDims : Checks → ℕ
+boxDims s = min (s .dim) (s .«pos_dim»)
 
 -- ---- the slow zone
 
@@ -82,11 +82,11 @@ slowZone f s p aux = if arms s CONTACT then zoneIn f (s .dt) (s .contact) p aux 
 
 -- WORKSPACE: a shared coordinate lies beyond its walls
 unfoldable pub outOfBox : Format → Checks → List Float → Checked Bool
-outOfBox f s a = if arms s WORKSPACE then outside f (wallsOf (s .walls)) a (shared s) else pure false
+outOfBox f s a = if arms s WORKSPACE then outside f (wallsOf (s .walls)) a (boxDims s) else pure false
 
 -- REACH: the distance to the position, on the shared coordinates
 unfoldable pub outOfReach : Format → Checks → List Float → List Float → Checked Bool
-outOfReach f s p a = if arms s REACH then (do n ← dist f a p (shared s); pure (lt (s .«reach_max») n)) else pure false
+outOfReach f s p a = if arms s REACH then (do n ← dist f a p (boxDims s); pure (lt (s .«reach_max») n)) else pure false
 
 abbrev pub bit : Bool → ℕ → ℕ
 bit b w = if b then w else 0
@@ -104,7 +104,7 @@ leash speed stepMax z = if speed then (if z .inside then lesser stepMax (z .step
 
 -- first move: inside the box on the shared coordinates
 unfoldable pub boxed : Format → Checks → List Float → Checked (List Float)
-boxed f s a = if arms s WORKSPACE then inward f (wallsOf (s .walls)) a (shared s) else pure a
+boxed f s a = if arms s WORKSPACE then inward f (wallsOf (s .walls)) a (boxDims s) else pure a
 
 -- second move: the leash towards the row before
 unfoldable pub leashed : Format → Checks → Slow → List Float → List Float → Checked (List Float)
@@ -112,7 +112,7 @@ leashed f s z prev a = if arms s SPEED || z .inside then pulled f (leash (arms s
 
 -- third move: the reach pull towards the position
 unfoldable pub reached : Format → Checks → List Float → List Float → Checked (List Float)
-reached f s p a = if arms s REACH then pulled f (s .«reach_max») p (shared s) a else pure a
+reached f s p a = if arms s REACH then pulled f (s .«reach_max») p (boxDims s) a else pure a
 
 -- the three moves in order; the third is the first row's
 unfoldable pub moves : Format → Checks → Slow → List Float → Bool → List Float → List Float → Checked (List Float)
@@ -122,8 +122,8 @@ moves f s z p isFirst prev a = do
   if isFirst then reached f s p l else pure l
 
 -- a bit for each coordinate that differs, as numbers
-abbrev pub moved : List Float → List Float → ℕ → ℕ
-moved a b n = bitsWhere (λ (j : ℕ). ne (at a j) (at b j)) n
+abbrev pub movedDims : List Float → List Float → ℕ → ℕ
+movedDims a b n = bitsWhere (λ (j : ℕ). ne (at a j) (at b j)) n
 
 -- rows after projection, and a bit for each coordinate that was moved in any of them
 pub record Projected : Type 0 where
@@ -133,7 +133,7 @@ pub record Projected : Type 0 where
 unfoldable pub project : Format → Checks → Slow → List Float → List Float → List Float → Checked Projected
 project f s z p prev a = do
   r ← moves f s z p true prev a
-  pure (record { rows = r; mask = moved a r (s .dim) })
+  pure (record { rows = r; mask = movedDims a r (s .dim) })
 
 -- under ClampMode Off the row stays as it came
 unfoldable pub projection : Format → Checks → ClampMode → Slow → List Float → List Float → List Float → Checked Projected

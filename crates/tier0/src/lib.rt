@@ -4,10 +4,10 @@ ghost use Prim.Native.Nat.{_*_, _≤_, _<_};
 ghost use lib.ListN.{length};
 ghost use lib.Ieee.{binary64};
 ghost use Rattle.conformal.specs.Of.{tables};
-ghost use Rattle.tier0.specs.declared.Check.the-variants.{Passed};
+ghost use Rattle.tier0.specs.declared.Tier0Out.the-variants.{Passed};
 ghost use Rattle.tier0.specs.Rule.{checkAction};
 ghost use Rattle.tier0.specs.Chunk.{checkChunk};
-ghost use Rattle.tier0.specs.Of.{checksFrom, verdictFrom, rulingFrom, actionAnswer, actionOut, chunkAnswer, chunkOut};
+ghost use Rattle.tier0.specs.Of.{checksFrom, judgedActionFrom, judgedChunkFrom, actionAnswer, actionOut, chunkAnswer, chunkOut};
 use crate::measure::armed;
 use crate::measure::raw_row;
 use crate::measure::start_row;
@@ -37,7 +37,7 @@ mod trips;
 mod zone;
 
 // The trips, the coordinates that projection moved and the greatest speed, or why there are none.
-pub enum Check {
+pub enum Tier0Out {
     Passed {
         trips: u32,
         clamped_dims: u32,
@@ -86,7 +86,7 @@ pub struct Clamped {
 }
 
 // All that is found of one action.
-pub struct Verdict {
+pub struct JudgedAction {
     pub trips: u32,
     pub mask: u32,
     pub peak: f64,
@@ -104,13 +104,13 @@ pub struct Stride {
 }
 
 // The coordinates moved in any row.
-pub struct Ran {
+pub struct MovedRows {
     pub mask: u32,
     pub sound: bool,
 }
 
 // All that is found of a chunk, save its rows.
-pub struct Ruling {
+pub struct JudgedChunk {
     pub trips: u32,
     pub mask: u32,
     pub peak: f64,
@@ -145,10 +145,10 @@ fn checks_of(c: FuseConfig, d: Derived) -> Checks
 }
 
 // The answer where nothing is refused.
-fn found(trips: u32, clamped_dims: u32, peak_speed: f64) -> Check
+fn found(trips: u32, clamped_dims: u32, peak_speed: f64) -> Tier0Out
     ensures { λ r. ⌜ r ≡ Passed trips «clamped_dims» «peak_speed» ⌝ }
 {
-    Check::Passed {
+    Tier0Out::Passed {
         trips,
         clamped_dims,
         peak_speed,
@@ -158,9 +158,9 @@ fn found(trips: u32, clamped_dims: u32, peak_speed: f64) -> Check
 // ---- the check of one action
 
 // Trips on the action as it came, its speed, and its projection.
-fn judge_action(s: Checks, pos: &[f64], aux: &[f64], prev: &[f64], a: &[f64]) -> Verdict
+fn judge_action(s: Checks, pos: &[f64], aux: &[f64], prev: &[f64], a: &[f64]) -> JudgedAction
     requires { ⌜ (s .dim ≤ 8) × (s .dim ≤ length (now a)) ⌝ }
-    ensures { λ r. ⌜ r ≡ verdictFrom (checkAction binary64 s (now (pos .entry)) (now (aux .entry)) (now (prev .entry)) (now (a .entry))) ⌝ }
+    ensures { λ r. ⌜ r ≡ judgedActionFrom (checkAction binary64 s (now (pos .entry)) (now (aux .entry)) (now (prev .entry)) (now (a .entry))) ⌝ }
 {
     let z = slow_zone(s, pos, aux);
     let step = fmath::distance(a, prev, s.dim);
@@ -180,7 +180,7 @@ fn judge_action(s: Checks, pos: &[f64], aux: &[f64], prev: &[f64], a: &[f64]) ->
     );
     let p = projection(s, z, pos, prev, raw);
     let at = p.at;
-    Verdict {
+    JudgedAction {
         trips,
         mask: p.mask,
         peak,
@@ -200,18 +200,18 @@ pub fn check_action(
     prev: &[f64],
     a: &[f64],
     out: &mut [f64],
-) -> Check
+) -> Tier0Out
     ensures { λ r. ⌜ (r ≡ actionAnswer binary64 c (tables (now (center .entry)) (now (scale .entry))) (now (pos .entry)) (now (aux .entry)) (now (prev .entry)) (now (a .entry)) (length (now (out .entry)))) × (now (out .exit) ≡ actionOut binary64 c (tables (now (center .entry)) (now (scale .entry))) (now (pos .entry)) (now (aux .entry)) (now (prev .entry)) (now (a .entry)) (now (out .entry))) ⌝ }
 {
     let compiled = envelope::compile(c, center, scale);
     let number = action_refusal(c, compiled.number, pos, aux, prev, a, out.len());
     if number != 0 {
-        return Check::Refused(Refusal::of(number));
+        return Tier0Out::Refused(Refusal::of(number));
     }
     let s = checks_of(c, compiled.derived);
     let v = judge_action(s, pos, aux, prev, a);
     if !v.sound {
-        return Check::Refused(Refusal::of(Refusal::COMPUTED));
+        return Tier0Out::Refused(Refusal::of(Refusal::COMPUTED));
     }
     let at = v.at;
     fmath::put(&at, c.dim, out);
@@ -228,9 +228,9 @@ fn judge_chunk(
     rows: &[f64],
     h: usize,
     out: &mut [f64],
-) -> Ruling
+) -> JudgedChunk
     requires { ⌜ (s .dim ≤ 8) × (s .«pos_dim» ≤ length (now pos)) × (0 < h) × (h ≤ 64) × (h * s .dim ≤ length (now rows)) × (h * s .dim ≤ length (now out)) ⌝ }
-    ensures { λ r. ⌜ (r ≡ rulingFrom (checkChunk binary64 s (now (pos .entry)) (now (aux .entry)) (now (rows .entry)) (now (out .entry)) h)) × (now (out .exit) ≡ checkChunk binary64 s (now (pos .entry)) (now (aux .entry)) (now (rows .entry)) (now (out .entry)) h .value .after .rows) ⌝ }
+    ensures { λ r. ⌜ (r ≡ judgedChunkFrom (checkChunk binary64 s (now (pos .entry)) (now (aux .entry)) (now (rows .entry)) (now (out .entry)) h)) × (now (out .exit) ≡ checkChunk binary64 s (now (pos .entry)) (now (aux .entry)) (now (rows .entry)) (now (out .entry)) h .value .after .rows) ⌝ }
 {
     let z = slow_zone(s, pos, aux);
     let q = start_row(s, pos, rows);
@@ -253,7 +253,7 @@ fn judge_chunk(
     let p = projected_rows(s, z, pos, rows, q, h, out);
     let rest = bent.sound & (jolted.sound & (far.sound & p.sound));
     let judged = t.sound & (fine & (t.out.sound & rest));
-    Ruling {
+    JudgedChunk {
         trips,
         mask: p.mask,
         peak,
@@ -274,7 +274,7 @@ pub fn check_chunk(
     dim: u16,
     exec_steps: u16,
     out: &mut [f64],
-) -> Check
+) -> Tier0Out
     ensures { λ r. ⌜ (r ≡ chunkAnswer binary64 c (tables (now (center .entry)) (now (scale .entry))) (now (pos .entry)) (now (aux .entry)) (now (rows .entry)) horizon dim «exec_steps» (length (now (out .entry)))) × (now (out .exit) ≡ chunkOut binary64 c (tables (now (center .entry)) (now (scale .entry))) (now (pos .entry)) (now (aux .entry)) (now (rows .entry)) horizon dim «exec_steps» (now (out .entry))) ⌝ }
 {
     let compiled = envelope::compile(c, center, scale);
@@ -290,14 +290,14 @@ pub fn check_chunk(
         out.len(),
     );
     if number != 0 {
-        return Check::Refused(Refusal::of(number));
+        return Tier0Out::Refused(Refusal::of(number));
     }
     let s = checks_of(c, compiled.derived);
     let h = horizon as usize;
     let mut all = [0.0; 512];
     let v = judge_chunk(s, pos, aux, rows, h, &mut all);
     if !v.sound {
-        return Check::Refused(Refusal::of(Refusal::COMPUTED));
+        return Tier0Out::Refused(Refusal::of(Refusal::COMPUTED));
     }
     fmath::put(&all, h * c.dim, out);
     found(v.trips, v.mask, v.peak)

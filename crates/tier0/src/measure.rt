@@ -15,7 +15,7 @@ pub(crate) fn armed(s: Checks, w: u32) -> bool
 }
 
 // How many coordinates the action and the position share.
-pub(crate) fn shared(s: Checks) -> usize
+pub(crate) fn box_dims(s: Checks) -> usize
     ensures { λ r. ⌜ r ≡ min (s .dim) (s .«pos_dim») ⌝ }
 {
     fmath::fewer(s.dim, s.pos_dim)
@@ -35,7 +35,7 @@ pub(crate) fn start_row(s: Checks, pos: &[f64], rows: &[f64]) -> [f64; 8]
     requires { ⌜ (s .dim ≤ 8) × (s .dim ≤ length (now rows)) × (s .«pos_dim» ≤ length (now pos)) ⌝ }
     ensures { λ r. ⌜ r ≡ startRow s (now (pos .entry)) (now (rows .entry)) ⌝ }
 {
-    let n = shared(s);
+    let n = box_dims(s);
     let mut r = raw_row(rows, s.dim, 0);
     fmath::put(pos, n, &mut r);
     r

@@ -3,17 +3,17 @@ ghost use mathlib.Core.Path.{_≡_};
 ghost use Prim.Native.Nat.{_+_, _*_, _≤_};
 ghost use lib.ListN.{length};
 ghost use lib.Ieee.{binary64};
-ghost use Rattle.tier0.specs.Rule.{leash, boxed, leashed, reached, moves, moved, project, projection};
+ghost use Rattle.tier0.specs.Rule.{leash, boxed, leashed, reached, moves, movedDims, project, projection};
 ghost use Rattle.tier0.specs.Chunk.{putRow, runRows, projectedRows};
-ghost use Rattle.tier0.specs.Of.{slowOf, clampedFrom, runFrom, ranFrom};
+ghost use Rattle.tier0.specs.Of.{slowOf, clampedFrom, runFrom, movedRowsFrom};
 ghost use Rattle.checked.specs.Of.{rowFrom};
 use crate::Checks;
 use crate::Clamped;
-use crate::Ran;
+use crate::MovedRows;
 use crate::SlowZone;
 use crate::measure::armed;
+use crate::measure::box_dims;
 use crate::measure::raw_row;
-use crate::measure::shared;
 use checked::Row;
 use envelope::ClampMode;
 use envelope::TripMask;
@@ -26,7 +26,7 @@ fn boxed(s: Checks, a: [f64; 8]) -> Row
         return Row { at: a, sound: true };
     }
     let walls = s.walls;
-    let n = shared(s);
+    let n = box_dims(s);
     workspace::inward(walls, a, n)
 }
 
@@ -63,7 +63,7 @@ fn reached(s: Checks, pos: &[f64], a: [f64; 8]) -> Row
     if !armed(s, TripMask::REACH) {
         return Row { at: a, sound: true };
     }
-    let n = shared(s);
+    let n = box_dims(s);
     pull::pulled(s.reach_max, pos, n, a)
 }
 
@@ -90,9 +90,9 @@ fn moves(s: Checks, z: SlowZone, pos: &[f64], first: bool, prev: &[f64], a: [f64
 }
 
 // A bit for each coordinate that differs, as numbers.
-fn moved(a: &[f64; 8], b: &[f64; 8], n: usize) -> u32
+fn moved_dims(a: &[f64; 8], b: &[f64; 8], n: usize) -> u32
     requires { ⌜ n ≤ 8 ⌝ }
-    ensures { λ r. ⌜ r ≡ moved (now (a .entry)) (now (b .entry)) n ⌝ }
+    ensures { λ r. ⌜ r ≡ movedDims (now (a .entry)) (now (b .entry)) n ⌝ }
 {
     let mut m = 0u32;
     let mut w = 1u32;
@@ -112,7 +112,7 @@ fn project(s: Checks, z: SlowZone, pos: &[f64], prev: &[f64], a: [f64; 8]) -> Cl
 {
     let r = moves(s, z, pos, true, prev, a);
     let at = r.at;
-    let mask = moved(&a, &at, s.dim);
+    let mask = moved_dims(&a, &at, s.dim);
     Clamped {
         at,
         mask,
@@ -164,7 +164,7 @@ fn run_rows(
     q0: [f64; 8],
     h: usize,
     out: &mut [f64],
-) -> Ran
+) -> MovedRows
     requires { ⌜ (s .dim ≤ 8) × (h ≤ 64) × (h * s .dim ≤ length (now rows)) × (h * s .dim ≤ length (now out)) ⌝ }
     ensures { λ r. ⌜ (r ≡ runFrom (runRows binary64 s (slowOf z) (now (pos .entry)) (now (rows .entry)) q0 (now (out .entry)) h)) × (now (out .exit) ≡ runRows binary64 s (slowOf z) (now (pos .entry)) (now (rows .entry)) q0 (now (out .entry)) h .value .out) ⌝ }
 {
@@ -177,13 +177,13 @@ fn run_rows(
         let a = raw_row(rows, n, i);
         let r = next_row(s, z, pos, i == 0, q, a);
         let at = r.at;
-        mask = mask | moved(&a, &at, n);
+        mask = mask | moved_dims(&a, &at, n);
         put_row(at, i * n, n, out);
         q = at;
         sound = sound & r.sound;
         i += 1;
     }
-    Ran { mask, sound }
+    MovedRows { mask, sound }
 }
 
 // The rows projected, or as they came under ClampMode Off, written over out.
@@ -195,15 +195,15 @@ pub(crate) fn projected_rows(
     q: [f64; 8],
     h: usize,
     out: &mut [f64],
-) -> Ran
+) -> MovedRows
     requires { ⌜ (s .dim ≤ 8) × (h ≤ 64) × (h * s .dim ≤ length (now rows)) × (h * s .dim ≤ length (now out)) ⌝ }
-    ensures { λ r. ⌜ (r ≡ ranFrom (projectedRows binary64 s (s .clamp) (slowOf z) (now (pos .entry)) (now (rows .entry)) q (now (out .entry)) h)) × (now (out .exit) ≡ projectedRows binary64 s (s .clamp) (slowOf z) (now (pos .entry)) (now (rows .entry)) q (now (out .entry)) h .value .rows) ⌝ }
+    ensures { λ r. ⌜ (r ≡ movedRowsFrom (projectedRows binary64 s (s .clamp) (slowOf z) (now (pos .entry)) (now (rows .entry)) q (now (out .entry)) h)) × (now (out .exit) ≡ projectedRows binary64 s (s .clamp) (slowOf z) (now (pos .entry)) (now (rows .entry)) q (now (out .entry)) h .value .rows) ⌝ }
 {
     let mode = s.clamp;
     match mode {
         ClampMode::Off => {
             fmath::put(rows, h * s.dim, out);
-            Ran {
+            MovedRows {
                 mask: 0,
                 sound: true,
             }

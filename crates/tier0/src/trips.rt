@@ -14,9 +14,9 @@ use crate::Checks;
 use crate::Difference;
 use crate::Stride;
 use crate::measure::armed;
+use crate::measure::box_dims;
 use crate::measure::raw_row;
 use crate::measure::row_before;
-use crate::measure::shared;
 use checked::Row;
 use checked::Test;
 use envelope::TripMask;
@@ -32,7 +32,7 @@ pub(crate) fn out_of_box(s: Checks, a: &[f64]) -> Test
         };
     }
     let walls = s.walls;
-    let n = shared(s);
+    let n = box_dims(s);
     workspace::outside(walls, a, n)
 }
 
@@ -46,7 +46,7 @@ pub(crate) fn out_of_reach(s: Checks, pos: &[f64], a: &[f64]) -> Test
             sound: true,
         };
     }
-    let n = shared(s);
+    let n = box_dims(s);
     let far = fmath::distance(a, pos, n);
     let sound = fmath::finite(far);
     Test {

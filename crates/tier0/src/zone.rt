@@ -35,8 +35,8 @@ fn in_zone(
     requires { ⌜ (i < length (now aux)) × (j < length (now aux)) ⌝ }
     ensures { λ r. ⌜ r ≡ zoneFrom (inZone binary64 dt radius «v_max» i j (now (pos .entry)) (now (aux .entry))) ⌝ }
 {
-    let centre = [aux[i], aux[j]];
-    let far = fmath::distance(pos, &centre, 2);
+    let aux_center = [aux[i], aux[j]];
+    let far = fmath::distance(pos, &aux_center, 2);
     let fine = fmath::finite(far);
     if far <= radius {
         let step = v_max * dt;

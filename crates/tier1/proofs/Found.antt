@@ -20,7 +20,7 @@ use Rattle.window.proofs.TrailTold.{net-tells, path-tells}
 use Rattle.tier1.specs.declared.Manifest.{Manifest}
 use Rattle.checked.specs.declared.Reckoned.{Reckoned}
 use Rattle.tier1.specs.declared.Pair.{Pair}
-use Rattle.tier1.specs.Rule.{shared, _⊕_, _⊘_, sumRows, gaps, steps, jolts, stepLength, tce, acc, acmNeg, njr, reach, startRow, peak, speedPeak, netLength, pathLength, pathIneff, stallReach, stall, ifThere}
+use Rattle.tier1.specs.Rule.{boxDims, _⊕_, _⊘_, sumRows, gaps, steps, jolts, stepLength, tce, acc, acmNeg, njr, reach, startRow, peak, speedPeak, netLength, pathLength, pathIneff, stallReach, stall, ifThere}
 use Rattle.checked.specs.Of.{reckonedFrom}
 use Rattle.tier1.specs.Of.{pairFrom}
 use Rattle.tier1.proofs.Tells.{Shows, Tell, shown, pure-shows, finite-neg, plus-tells, rooted-tells, over-tells, over-given-tells, gaps-tell, jolts-tell, lengths-tell, stall-reach-tells}
@@ -124,11 +124,11 @@ module _ (f : Format) (m : Manifest) where
     pub matched-is : _≡_ {A = Pair} (record { first = v; second = w; sound = p && (q && r) }) (pairFrom (tce f m a k b l) (acc f m a k b l))
     matched-is = a-pair (tce f m a k b l) (acc f m a k b l) tce-value acc-value tce-sound acc-sound
 
-  pub reach-is : (p b : List Float) {n : ℕ} {d : Float} {k : Bool} → n ≡ shared m p → d ≡ dist f b p n .value → k ≡ finite (div f d (m .iso))
+  pub reach-is : (p b : List Float) {n : ℕ} {d : Float} {k : Bool} → n ≡ boxDims m p → d ≡ dist f b p n .value → k ≡ finite (div f d (m .iso))
       → _≡_ {A = Reckoned} (record { value = div f d (m .iso); sound = k }) (reckonedFrom (reach f m p b))
   unfolding reach
   reach-is p b en ed ek =
-      let t : Tell (dist f b p (shared m p)) = record { tells = dist-tells f b p (shared m p) } in
+      let t : Tell (dist f b p (boxDims m p)) = record { tells = dist-tells f b p (boxDims m p) } in
       a-feature (reach f m p b) (rw (ed, en)) (ek ∙ rw (ed, en) (sym (over-given-tells f (shown t) (m .iso) .tells)))
 
   pub speed-is : (p b : List Float) (h : ℕ) {q : List Float} {x : Reckoned} {k : Bool} → q ≡ startRow f m p b → x ≡ reckonedFrom (peak f (m .dim) q b h) → k ≡ finite (div f (x .value) (m .iso))

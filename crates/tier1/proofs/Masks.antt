@@ -19,7 +19,7 @@ use Rattle.checked.specs.declared.Reckoned.{Reckoned}
 use Rattle.tier1.specs.declared.Pair.{Pair}
 use Rattle.tier1.specs.declared.SixFeatures.{SixFeatures}
 use Rattle.tier1.specs.declared.AllFeatures.{AllFeatures}
-use Rattle.tier1.specs.Rule.{shared, acmNeg, njr, reach, speedPeak, pathIneff, stall, overlap, boundaryAt, ifThere, boundary, boundaryBits, moving, validAt, valueAt, twelve}
+use Rattle.tier1.specs.Rule.{boxDims, acmNeg, njr, reach, speedPeak, pathIneff, stall, overlap, boundaryAt, ifThere, boundary, boundaryBits, moving, validAt, valueAt, twelve}
 use Rattle.checked.specs.Of.{reckonedFrom}
 use Rattle.tier1.specs.Of.{pairFrom, metFrom, boundaryFrom, gatheredFrom, twelveFrom}
 
@@ -35,7 +35,7 @@ both-first true b c = refl
 both-first false b c = refl
 
 module _ (f : Format) (m : Manifest) (k : Kept) (a p : List Float) (t h : ℕ) (b : List Float) where
-  pub bits-are : {l n v : ℕ} → l ≡ overlap k t h (m .dim) → n ≡ shared m p → v ≡ bitsWhere (boundaryAt l h n) 6 → v ≡ boundaryBits m k p t h
+  pub bits-are : {l n v : ℕ} → l ≡ overlap k t h (m .dim) → n ≡ boxDims m p → v ≡ bitsWhere (boundaryAt l h n) 6 → v ≡ boundaryBits m k p t h
   unfolding boundaryBits
   bits-are e g i = i ∙ rw (e, g)
 
@@ -43,7 +43,7 @@ module _ (f : Format) (m : Manifest) (k : Kept) (a p : List Float) (t h : ℕ) (
       → u ≡ metFrom f m k a t b h
       → w ≡ reckonedFrom (ifThere (leb 2 h) (acmNeg f m b h))
       → x ≡ reckonedFrom (ifThere (leb 4 h) (njr f m b h))
-      → y ≡ reckonedFrom (ifThere (ltb 0 (shared m p)) (reach f m p b))
+      → y ≡ reckonedFrom (ifThere (ltb 0 (boxDims m p)) (reach f m p b))
       → z ≡ reckonedFrom (speedPeak f m p b h)
       → _≡_ {A = SixFeatures} (record { held = u .first ∷ u .second ∷ w .value ∷ x .value ∷ y .value ∷ z .value ∷ []; valid = v; sound = u .sound && (w .sound && (x .sound && (y .sound && z .sound))) })
       (boundaryFrom (boundary f m k a p t h b) (boundaryBits m k p t h))

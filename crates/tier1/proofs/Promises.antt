@@ -1,4 +1,4 @@
--- What module 6 promises of its answer: what comes back on refusal, what is never written, which features are valid, and what stands where one is not.
+-- What the features promise: a refused call hands back what came, and the valid bits of one that passes are built bit by bit, each from its own condition.
 use Prim.Native.Nat.{ℕ, zero, suc, _+_, _-_, _≤_, _<_}
 use mathlib.Core.Path.{_≡_, refl, sym, ap, _∙_}
 use mathlib.Core.Bool.{Bool, true, false}
@@ -9,8 +9,7 @@ use lib.Dec.{leb, ltb}
 use lib.ListN.{length}
 use lib.Ieee.{Float, Format}
 use Rattle.refusal.specs.Order.{refusedFor}
-use Rattle.checked.specs.Each.{at, table}
-use Rattle.checked.specs.Finite.{+0}
+use Rattle.checked.specs.Each.{table}
 use Rattle.checked.proofs.Each.{table-at}
 use Rattle.bits.specs.Bits.{bit, bitsWhere}
 use Rattle.conformal.specs.Feat.{TCE, ACC, ACM-NEG, NJR, REACH, SPEED-PEAK, PATH-INEFF, EXT0}
@@ -18,65 +17,58 @@ use Rattle.conformal.specs.declared.Scores.{Scores}
 use Rattle.bits.proofs.Bits.{bit-where, no-bit-past}
 use Rattle.envelope.specs.Derive.{kept}
 use Rattle.window.specs.declared.Trail.{Trail}
-use Rattle.conformal.specs.Rule.{Tables}
 use Rattle.envelope.specs.declared.FuseConfig.{FuseConfig}
 use Rattle.tier1.specs.declared.Head.{Head}
 use Rattle.tier1.specs.declared.Tier1Rt.{Tier1Rt}
-use Rattle.tier1.specs.declared.Featured.{Featured}
-use Rattle.tier1.specs.Rule.{shared, overlap, boundaryAt, boundary, boundaryBits, moving, validAt, valueAt, twelve}
+use Rattle.tier1.specs.Rule.{boxDims, boundaryAt, boundaryBits, moving, validAt, valueAt, twelve}
 use Rattle.tier1.proofs.Ticks.{chunk-keeps-trail}
-use Rattle.tier1.specs.Of.{keptOf, manifestOf, afterChunk, Tick, tick, scoresWith, featuredAt, ticked, featuresRefusal, featuresOf}
+use Rattle.tier1.specs.Of.{manifestOf, afterChunk, Tick, tick, scoresWith, featuredAt, ticked, featuresRefusal, featuresOf}
+use Rattle.tier1.specs.Promises.{Given, answer, number, common, Always, Passed, Held, quiet, Promised}
 
-module _ (fm : Format) (c : FuseConfig) (tabs : Tables) (p ext : List Float) (there : Bool) (k : Head) (rows : List Float) (rt : Tier1Rt) (sc : Scores) where
-  abbrev answer : Featured
-  answer = featuresOf fm c tabs p ext there k rows rt sc
+module _ (fm : Format) (x : Given) (rt : Tier1Rt) (sc : Scores) where
+  abbrev c : FuseConfig
+  c = x .config
+
+  abbrev ext : List Float
+  ext = x .externals
 
   abbrev found : Tick
-  found = ticked fm c tabs p ext there k rows rt sc .value
-
-  abbrev Passed : Type 0
-  Passed = featuresRefusal fm c tabs p ext there k rows rt sc ≡ 0
-
-  -- on refusal state and scores come back as they went in, whole
-  pub refused-whole : (n : ℕ) → featuresRefusal fm c tabs p ext there k rows rt sc ≡ suc n → answer ≡ record { refusal = refusedFor (suc n); rt = rt; scores = sc }
-  unfolding featuresOf
-  refused-whole n e = rw e
+  found = ticked fm c (x .tables) (x .position) ext (x .came) (x .head) (x .rows) rt sc .value
 
   -- a call that passes gives the rule's state, and its features in the scores
-  pub passed-is : Passed → answer ≡ record { refusal = refusedFor 0; rt = found .rt; scores = scoresWith (found .found) sc }
+  passed-is : number fm x rt sc ≡ 0 → answer fm x rt sc ≡ record { refusal = refusedFor 0; rt = found .rt; scores = scoresWith (found .found) sc }
   unfolding featuresOf
   passed-is e = rw e
 
-  -- whatever is answered, what the features do not replace stays: z, s and fired
-  stays : {A : Type 0} (part : Scores → A) → part (scoresWith (found .found) sc) ≡ part sc → part (answer .scores) ≡ part sc
+  stays : {A : Type 0} (part : Scores → A) → part (scoresWith (found .found) sc) ≡ part sc → part (answer fm x rt sc .scores) ≡ part sc
   unfolding featuresOf
-  stays part e = go (featuresRefusal fm c tabs p ext there k rows rt sc)
+  stays part e = go (number fm x rt sc)
     where
       go : (n : ℕ) → part (featuredAt n found rt sc .scores) ≡ part sc
       go zero = e
       go (suc n) = refl
 
-  pub z-kept : answer .scores .z ≡ sc .z
-  z-kept = stays (λ (s : Scores). s .z) refl
-
-  pub s-kept : answer .scores .s ≡ sc .s
-  s-kept = stays (λ (s : Scores). s .s) refl
-
-  pub fired-kept : answer .scores .fired ≡ sc .fired
-  fired-kept = stays (λ (s : Scores). s .fired) refl
-
   same-trail : found .rt .trail ≡ rt .trail
   unfolding ticked tick
-  same-trail = chunk-keeps-trail fm (manifestOf fm c) p k rows rt there
+  same-trail = chunk-keeps-trail fm (manifestOf fm c) (x .position) (x .head) (x .rows) rt (x .came)
 
-  -- .. and so does the trail
-  pub trail-kept : answer .rt .trail ≡ rt .trail
+  trail-kept : answer fm x rt sc .rt .trail ≡ rt .trail
   unfolding featuresOf
-  trail-kept = go (featuresRefusal fm c tabs p ext there k rows rt sc)
+  trail-kept = go (number fm x rt sc)
     where
       go : (n : ℕ) → featuredAt n found rt sc .rt .trail ≡ rt .trail
       go zero = same-trail
       go (suc n) = refl
+
+  always : Always fm x rt sc
+  unfolding featuresOf
+  always = record {
+    refused-whole = λ n e. rw e;
+    z-kept = stays (λ (s : Scores). s .z) refl;
+    s-kept = stays (λ (s : Scores). s .s) refl;
+    fired-kept = stays (λ (s : Scores). s .fired) refl;
+    trail-kept = trail-kept;
+  }
 
   -- ---- which features are valid
 
@@ -87,13 +79,6 @@ module _ (fm : Format) (c : FuseConfig) (tabs : Tables) (p ext : List Float) (th
   unfolding ticked tick twelve
   valid-is = ap (λ (t : ℕ). bitsWhere (validAt (found .rt .«held_valid») t (length ext)) 12) (ap (λ (t : Trail). t .len) same-trail)
 
-  -- a bit is set exactly where its feature is valid
-  pub valid-exactly : Passed → (j : ℕ) → j < 12 → bit (answer .scores .valid) j ≡ says j
-  valid-exactly e j l = rw (passed-is e, valid-is) (bit-where says 12 j l)
-
-  pub no-further-bit : Passed → (j : ℕ) → 12 ≤ j → bit (answer .scores .valid) j ≡ false
-  no-further-bit e j l = rw (passed-is e, valid-is) (no-bit-past says 12 j l)
-
   abbrev value : ℕ → Float
   value = valueAt (found .rt .held) (moving fm (manifestOf fm c) (found .rt .trail) .value) ext
 
@@ -101,84 +86,75 @@ module _ (fm : Format) (c : FuseConfig) (tabs : Tables) (p ext : List Float) (th
   unfolding ticked tick twelve
   f-is = ap (λ (t : ℕ). table (λ (j : ℕ). kept (validAt (found .rt .«held_valid») t (length ext) j) (value j)) 12) (ap (λ (t : Trail). t .len) same-trail)
 
-  -- where a feature is not valid, f is 0.0
-  pub zero-where-not-valid : Passed → (j : ℕ) → j < 12 → bit (answer .scores .valid) j ≡ false → at (answer .scores .f) j ≡ +0
-  zero-where-not-valid e j l h = rw (passed-is e, f-is) (table-at (λ (i : ℕ). kept (says i) (value i)) 12 j l ∙ rw (sym (valid-exactly e j l) ∙ h))
+  module _ (e : number fm x rt sc ≡ 0) where
+    pub says-exactly : (j : ℕ) → j < 12 → bit (answer fm x rt sc .scores .valid) j ≡ says j
+    says-exactly j l = rw (passed-is e, valid-is) (bit-where says 12 j l)
 
-  -- the features of the trail are valid where it holds 20 samples
-  pub trail-bits : Passed → (j : ℕ) → PATH-INEFF ≤ j → j < EXT0 → bit (answer .scores .valid) j ≡ leb 20 (rt .trail .len)
-  unfolding validAt
-  trail-bits e j g l = valid-exactly e j (omega arith) ∙ rw (le-ltb j PATH-INEFF g, lt-ltb j EXT0 l)
+    trail-bits : (j : ℕ) → PATH-INEFF ≤ j → j < EXT0 → bit (answer fm x rt sc .scores .valid) j ≡ leb 20 (rt .trail .len)
+    unfolding validAt
+    trail-bits j g l = says-exactly j (omega arith) ∙ rw (le-ltb j PATH-INEFF g, lt-ltb j EXT0 l)
 
-  -- .. and external scalar i, below 4, where it is lent
-  pub external-bits : Passed → (i : ℕ) → i < 4 → bit (answer .scores .valid) (EXT0 + i) ≡ ltb i (length ext)
-  unfolding validAt
-  external-bits e i l =
-      let n : 8 + i - 8 ≡ i = omega arith in
-      valid-exactly e (8 + i) (omega arith) ∙ rw (le-ltb (8 + i) 6 (omega arith), le-ltb (8 + i) 8 (omega arith), n)
+    external-bits : (i : ℕ) → i < 4 → bit (answer fm x rt sc .scores .valid) (EXT0 + i) ≡ ltb i (length ext)
+    unfolding validAt
+    external-bits i l =
+        let n : 8 + i - 8 ≡ i = omega arith in
+        says-exactly (8 + i) (omega arith) ∙ rw (le-ltb (8 + i) 6 (omega arith), le-ltb (8 + i) 8 (omega arith), n)
+
+    passed : Passed fm x rt sc
+    passed = record {
+      valid-exactly = λ j l. says-exactly j l ∙ rw (passed-is e);
+      no-further-bit = λ j l. rw (passed-is e, valid-is) (no-bit-past says 12 j l);
+      trail-bits = trail-bits;
+      external-bits = external-bits;
+      zero-where-not-valid = λ j l h. rw (passed-is e, f-is) (table-at (λ (i : ℕ). kept (says i) (value i)) 12 j l ∙ rw (sym (says-exactly j l) ∙ h));
+    }
 
 -- ---- with a chunk: each held feature is valid exactly under its condition
 
-module _ (fm : Format) (c : FuseConfig) (tabs : Tables) (p ext : List Float) (k : Head) (rows : List Float) (rt : Tier1Rt) (sc : Scores) (e : featuresRefusal fm c tabs p ext true k rows rt sc ≡ 0) where
-  -- the rows that overlap
-  abbrev common : ℕ
-  common = overlap (keptOf rt) (k .«t_emit») (k .horizon) (manifestOf fm c .dim)
-
+module _ (fm : Format) (x : Given) (rt : Tier1Rt) (sc : Scores) (there : x .came ≡ true) (e : number fm x rt sc ≡ 0) where
   abbrev holds : ℕ → Bool
-  holds = boundaryAt common (k .horizon) (shared (manifestOf fm c) p)
+  holds = boundaryAt (common fm x rt sc) (x .head .horizon) (boxDims (manifestOf fm (x .config)) (x .position))
 
-  chunk-bit : (j : ℕ) → j < 6 → bit (featuresOf fm c tabs p ext true k rows rt sc .scores .valid) j ≡ holds j
+  chunk-bit : (j : ℕ) → j < 6 → bit (answer fm x rt sc .scores .valid) j ≡ holds j
   unfolding validAt ticked tick afterChunk boundaryBits
-  chunk-bit j l = valid-exactly fm c tabs p ext true k rows rt sc e j (omega arith) ∙ rw (lt-ltb j 6 l) (bit-where holds 6 j l)
+  chunk-bit j l = says-exactly fm x rt sc e j (omega arith) ∙ rw (there, lt-ltb j 6 l) (bit-where holds 6 j l)
 
-  pub tce-exactly : bit (featuresOf fm c tabs p ext true k rows rt sc .scores .valid) TCE ≡ leb 2 common
-  tce-exactly = chunk-bit TCE (omega arith)
-
-  pub acc-exactly : bit (featuresOf fm c tabs p ext true k rows rt sc .scores .valid) ACC ≡ leb 2 common
-  acc-exactly = chunk-bit ACC (omega arith)
-
-  pub acm-neg-exactly : bit (featuresOf fm c tabs p ext true k rows rt sc .scores .valid) ACM-NEG ≡ leb 2 (k .horizon)
-  acm-neg-exactly = chunk-bit ACM-NEG (omega arith)
-
-  pub njr-exactly : bit (featuresOf fm c tabs p ext true k rows rt sc .scores .valid) NJR ≡ leb 4 (k .horizon)
-  njr-exactly = chunk-bit NJR (omega arith)
-
-  pub reach-exactly : bit (featuresOf fm c tabs p ext true k rows rt sc .scores .valid) REACH ≡ ltb 0 (shared (manifestOf fm c) p)
-  reach-exactly = chunk-bit REACH (omega arith)
-
-  pub speed-peak-always : bit (featuresOf fm c tabs p ext true k rows rt sc .scores .valid) SPEED-PEAK ≡ true
-  speed-peak-always = chunk-bit SPEED-PEAK (omega arith)
-
-  -- the held features are replaced by the chunk's, which were taken against the one before
-  pub held-replaced : featuresOf fm c tabs p ext true k rows rt sc .rt .held ≡ boundary fm (manifestOf fm c) (keptOf rt) (rt .prev .«data») p (k .«t_emit») (k .horizon) rows .value
+  held : Held fm x rt sc
   unfolding ticked tick afterChunk
-  held-replaced = rw (passed-is fm c tabs p ext true k rows rt sc e)
+  held = record {
+    tce-exactly = chunk-bit TCE (omega arith);
+    acc-exactly = chunk-bit ACC (omega arith);
+    acm-neg-exactly = chunk-bit ACM-NEG (omega arith);
+    njr-exactly = chunk-bit NJR (omega arith);
+    reach-exactly = chunk-bit REACH (omega arith);
+    speed-peak-always = chunk-bit SPEED-PEAK (omega arith);
+    held-replaced = rw (passed-is fm x rt sc e, there);
+  }
 
 -- ---- without a chunk
 
-module _ (fm : Format) (c : FuseConfig) (tabs : Tables) (p ext : List Float) (k : Head) (rows : List Float) (rt : Tier1Rt) (sc : Scores) where
-  -- the state stays, so held features change only on a chunk
-  pub state-kept : featuresOf fm c tabs p ext false k rows rt sc .rt ≡ rt
-  unfolding featuresOf ticked tick afterChunk
-  state-kept = go (featuresRefusal fm c tabs p ext false k rows rt sc)
-    where
-      go : (n : ℕ) → featuredAt n (tick fm (manifestOf fm c) p ext false k rows rt .value) rt sc .rt ≡ rt
-      go zero = refl
-      go (suc n) = refl
+state-kept : (fm : Format) (x : Given) (rt : Tier1Rt) (sc : Scores) → x .came ≡ false → answer fm x rt sc .rt ≡ rt
+unfolding featuresOf ticked tick afterChunk
+state-kept fm x rt sc e = rw e (go (featuresRefusal fm (x .config) (x .tables) (x .position) (x .externals) false (x .head) (x .rows) rt sc))
+  where
+    go : (n : ℕ) → featuredAt n (tick fm (manifestOf fm (x .config)) (x .position) (x .externals) false (x .head) (x .rows) rt .value) rt sc .rt ≡ rt
+    go zero = refl
+    go (suc n) = refl
 
-  -- the features are those of the state, whatever else is lent
-  quiet : featuresRefusal fm c tabs p ext false k rows rt sc ≡ 0 → featuresOf fm c tabs p ext false k rows rt sc .scores ≡ scoresWith (twelve fm (manifestOf fm c) (rt .trail) (rt .held) (rt .«held_valid») ext .value) sc
-  unfolding ticked tick afterChunk
-  quiet e = rw (passed-is fm c tabs p ext false k rows rt sc e)
+-- the features are those of the state, whatever else is lent
+from-state : (fm : Format) (x : Given) (k : Head) (rows : List Float) (rt : Tier1Rt) (sc : Scores) → number fm (quiet x k rows) rt sc ≡ 0
+    → answer fm (quiet x k rows) rt sc .scores ≡ scoresWith (twelve fm (manifestOf fm (x .config)) (rt .trail) (rt .held) (rt .«held_valid») (x .externals) .value) sc
+unfolding ticked tick afterChunk
+from-state fm x k rows rt sc e = rw (passed-is fm (quiet x k rows) rt sc e)
 
--- two calls with one configuration, state and externals and no chunk give the same features, the second from the state that the first gave
-module _ (fm : Format) (c : FuseConfig) (tabs : Tables) (p ext : List Float) (k l : Head) (rows others : List Float) (rt : Tier1Rt) (sc tc : Scores)
-    (e : featuresRefusal fm c tabs p ext false k rows rt sc ≡ 0) (g : featuresRefusal fm c tabs p ext false l others rt tc ≡ 0) where
-  pub same-again : featuresOf fm c tabs p ext false l others (featuresOf fm c tabs p ext false k rows rt sc .rt) tc ≡ featuresOf fm c tabs p ext false l others rt tc
-  same-again = ap (λ (s : Tier1Rt). featuresOf fm c tabs p ext false l others s tc) (state-kept fm c tabs p ext k rows rt sc)
-
-  pub same-features : featuresOf fm c tabs p ext false l others rt tc .scores .f ≡ featuresOf fm c tabs p ext false k rows rt sc .scores .f
-  same-features = rw (quiet fm c tabs p ext k rows rt sc e, quiet fm c tabs p ext l others rt tc g)
-
-  pub same-valid : featuresOf fm c tabs p ext false l others rt tc .scores .valid ≡ featuresOf fm c tabs p ext false k rows rt sc .scores .valid
-  same-valid = rw (quiet fm c tabs p ext k rows rt sc e, quiet fm c tabs p ext l others rt tc g)
+pub promised : Promised
+promised = record {
+  always = always;
+  passed = passed;
+  held = held;
+  state-kept = state-kept;
+  same-again = λ fm x k l rows others rt sc tc e g. record {
+    same-features = rw (from-state fm x k rows rt sc e, from-state fm x l others rt tc g);
+    same-valid = rw (from-state fm x k rows rt sc e, from-state fm x l others rt tc g);
+  };
+}

@@ -50,7 +50,7 @@ prev-number b = go (b .filled)
     go true = refl
     go false = refl
 
--- .. from the trail's two tests, the chunk before and the held features
+-- the number for a state, from the trail's two tests, the chunk before and the held features
 pub state-is : (rt : Tier1Rt) {x y h : Bool} {a b p d v r : ℕ} → y ≡ unfit (rt .trail) → b ≡ (if y then 12 else 0) → x ≡ outOfSize (rt .trail) → a ≡ (if x then 1 else b)
     → p ≡ heldRefusalOf (rt .prev) → h ≡ allFinite (rt .held) 6 → d ≡ (if not h then 12 else 0) → v ≡ earlier p d → r ≡ earlier a v → r ≡ given (stateJudged rt)
 state-is rt ey eb ex ea ep eh ed ev er =

@@ -19,7 +19,7 @@ use Rattle.tier1.specs.Rule.{20!, stallPart, row, _⊕_, _⊖_, _⊗_, _
 pub record Shows (x : Checked Float) : Type 0 where
   pub so : Fine (x .value) → x .sound ≡ true
 
--- .. and exactly there
+-- the value is finite exactly where each number on the way to it is
 pub record Tell (x : Checked Float) : Type 0 where
   pub tells : Tells x
 

@@ -2,3 +2,4 @@ pub mod Rule
 pub mod Refusals
 pub mod Of
 pub mod Worked
+pub mod Promises

@@ -146,7 +146,7 @@ module _ (f : Format) (c : FuseConfig) (t : Tables) (p ext : List Float) (there 
   unfoldable pub ticked : Checked Tick
   ticked = tick f (manifestOf f c) p ext there k rows rt
 
-  -- .. and 13
+  -- the number of the refusal, 13 included
   unfoldable pub featuresRefusal : ℕ
   featuresRefusal = given (judged or among ((computed when not (ticked .sound)) ∷ []))
 
@@ -163,7 +163,7 @@ outOf a = record {
   valid = a .scores .valid;
 }
 
--- .. and the whole answer of one that passes, from what it finds and the chunk that is kept
+-- the whole answer of a tick that passes, from what it finds and the chunk that is kept
 abbrev pub wholeAnswer : ChunkBuf → Bool → Tier1Rt → Scores → TickOut → Featured
 wholeAnswer prev there rt sc a = record {
   refusal = a .refusal;

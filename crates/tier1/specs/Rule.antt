@@ -1,4 +1,4 @@
--- The rules of document 01's module 6, over the format: each feature in the source's operation order. Whatever is computed is checked.
+-- The rules of the features (R6), over the format: each feature in the source's operation order. Whatever is computed is checked.
 use Prim.Native.Nat.{ℕ, zero, suc, _+_, _-_, _*_, min}
 use mathlib.Core.Bool.{Bool, true, false, _&&_}
 use mathlib.Core.List.{List, [], _∷_}
@@ -34,8 +34,8 @@ abbrev pub row : List Float → ℕ → ℕ → List Float
 row l d i = drop (i * d) l
 
 -- how many coordinates the action and the position share; a short position has fewer
-abbrev pub shared : Manifest → List Float → ℕ
-shared m p = min (min (m .dim) (m .«pos_dim»)) (length p)
+abbrev pub boxDims : Manifest → List Float → ℕ
+boxDims m p = min (min (m .dim) (m .«pos_dim»)) (length p)
 
 module _ (f : Format) where
   -- ---- checked operations on checked numbers
@@ -140,11 +140,11 @@ module _ (f : Format) where
   njr m b h = (sumRows (jolts m b) (m .dim) (h - 3) ⊘ count (h - 3)) ⊘ (pure eps ⊕ (sumRows (steps m b) (m .dim) (h - 1) ⊘ count (h - 1)))
 
   unfoldable pub reach : Manifest → List Float → List Float → Checked Float
-  reach m p b = dist f b p (shared m p) ⊘ pure (m .iso)
+  reach m p b = dist f b p (boxDims m p) ⊘ pure (m .iso)
 
   -- before row 0: the position on the shared coordinates, row 0 itself on the others
   unfoldable pub startRow : Manifest → List Float → List Float → List Float
-  startRow m p b = over (at p) (padded b (m .dim)) (shared m p)
+  startRow m p b = over (at p) (padded b (m .dim)) (boxDims m p)
 
   -- the raw step to row i, where q stands before row 0
   unfoldable pub stride : ℕ → List Float → List Float → ℕ → Checked Float
@@ -204,13 +204,13 @@ boundary f m k a p t h b = do
   v ← ifThere (leb 2 l) (acc f m a s b l)
   w ← ifThere (leb 2 h) (acmNeg f m b h)
   x ← ifThere (leb 4 h) (njr f m b h)
-  y ← ifThere (ltb 0 (shared m p)) (reach f m p b)
+  y ← ifThere (ltb 0 (boxDims m p)) (reach f m p b)
   z ← speedPeak f m p b h
   pure (u ∷ v ∷ w ∷ x ∷ y ∷ z ∷ [])
 
--- .. and their bits
+-- the bits of the six features
 unfoldable pub boundaryBits : Manifest → Kept → List Float → ℕ → ℕ → ℕ
-boundaryBits m k p t h = bitsWhere (boundaryAt (overlap k t h (m .dim)) h (shared m p)) 6
+boundaryBits m k p t h = bitsWhere (boundaryAt (overlap k t h (m .dim)) h (boxDims m p)) 6
 
 -- the features of the trail, where it holds 20 samples
 unfoldable pub moving : Format → Manifest → Trail → Checked (List Float)

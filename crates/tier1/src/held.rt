@@ -7,7 +7,7 @@ ghost use lib.ListN.{length};
 ghost use lib.Ieee.{binary64};
 ghost use Rattle.checked.specs.Checked.{pure};
 ghost use Rattle.checked.specs.Finite.{+0};
-ghost use Rattle.tier1.specs.Rule.{shared, tce, acc, acmNeg, njr, reach, speedPeak, overlap, boundaryAt, ifThere, boundary, boundaryBits};
+ghost use Rattle.tier1.specs.Rule.{boxDims, tce, acc, acmNeg, njr, reach, speedPeak, overlap, boundaryAt, ifThere, boundary, boundaryBits};
 ghost use Rattle.bits.specs.Bits.{bitsWhere};
 ghost use Rattle.checked.specs.Of.{reckonedFrom};
 ghost use Rattle.tier1.specs.Of.{pairFrom, metFrom, boundaryFrom};
@@ -16,9 +16,9 @@ use crate::Kept;
 use crate::Manifest;
 use crate::Pair;
 use crate::SixFeatures;
+use crate::sums::box_dims;
 use crate::sums::count;
 use crate::sums::peak;
-use crate::sums::shared;
 use crate::sums::squared_gaps;
 use crate::sums::squared_jolts;
 use crate::sums::start_row;
@@ -144,9 +144,9 @@ fn njr(m: Manifest, b: &[f64], h: usize) -> Reckoned
 
 // Reach: the distance of row 0 from the position, where they share a coordinate.
 fn reach(m: Manifest, pos: &[f64], b: &[f64]) -> Reckoned
-    ensures { λ r. ⌜ r ≡ reckonedFrom (ifThere (ltb 0 (shared m (now (pos .entry)))) (reach binary64 m (now (pos .entry)) (now (b .entry)))) ⌝ }
+    ensures { λ r. ⌜ r ≡ reckonedFrom (ifThere (ltb 0 (boxDims m (now (pos .entry)))) (reach binary64 m (now (pos .entry)) (now (b .entry)))) ⌝ }
 {
-    let n = shared(m, pos.len());
+    let n = box_dims(m, pos.len());
     if 0 < n {
         let far = fmath::distance(b, pos, n);
         let value = far / m.iso;
@@ -197,7 +197,7 @@ pub(crate) fn boundary(
     ensures { λ r. ⌜ r ≡ boundaryFrom (boundary binary64 m k (now (a .entry)) (now (pos .entry)) t h (now (b .entry))) (boundaryBits m k (now (pos .entry)) t h) ⌝ }
 {
     let l = overlap(k, t, h, m.dim);
-    let n = shared(m, pos.len());
+    let n = box_dims(m, pos.len());
     let valid = boundary_bits(l, h, n);
     let u = met(m, k, a, t, b, h);
     let w = acm_neg(m, b, h);

@@ -126,7 +126,7 @@ pub(crate) fn step_lengths(m: Manifest, b: &[f64], n: usize) -> f64
 }
 
 // How many coordinates the action and a position of len numbers share.
-pub(crate) fn shared(m: Manifest, len: usize) -> usize
+pub(crate) fn box_dims(m: Manifest, len: usize) -> usize
     ensures { λ r. ⌜ r ≡ min (min (m .dim) (m .«pos_dim»)) len ⌝ }
 {
     fmath::fewer(fmath::fewer(m.dim, m.pos_dim), len)
@@ -137,7 +137,7 @@ pub(crate) fn start_row(m: Manifest, pos: &[f64], b: &[f64]) -> [f64; 8]
     requires { ⌜ (m .dim ≤ 8) × (m .dim ≤ length (now b)) ⌝ }
     ensures { λ r. ⌜ r ≡ startRow binary64 m (now (pos .entry)) (now (b .entry)) ⌝ }
 {
-    let n = shared(m, pos.len());
+    let n = box_dims(m, pos.len());
     let mut q = fmath::padded(b, m.dim);
     fmath::put(pos, n, &mut q);
     q

@@ -46,7 +46,7 @@ digit-is-push (suc i) (h ∷ t) =
     one-more : (k : ℕ) → 1 + k ≡ suc k
     one-more k = omega arith
 
--- .. so bit i is the push i before the newest
+-- bit i is the push i before the newest
 pub bit-is-push : BitIsPush
 bit-is-push n le l i lt = ap (λ (x : ℕ). x / 2 ^ i % 2) (bits-are-last-pushes n le l) ∙ digit-is-push i (take n l) ∙ ap bit (getD-take n l i false lt)
 
@@ -57,6 +57,6 @@ ones-are-trues (h ∷ t) =
     ones-step (digitsOf t * 2 + bit h) ∙ ap₂ (λ (x y : ℕ). x + ones y) (odd-is-newest (digitsOf t) h) (half-is-rest (digitsOf t) h)
     ∙ ap (λ (x : ℕ). bit h + x) (ones-are-trues t)
 
--- .. and hits counts the true ones among the last n
+-- hits counts the true ones among the last n
 pub hits-count-last-pushes : HitsCountLastPushes
 hits-count-last-pushes n le l = ap ones (bits-are-last-pushes n le l) ∙ ones-are-trues (take n l)

@@ -26,7 +26,7 @@ numbers-refused a b e h = rw (e, h)
 pub trail-accepted : (a b : Bool) → a ≡ false → b ≡ false → 0 ≡ alone a b
 trail-accepted a b e h = rw (e, h)
 
--- .. with a lent position whose numbers are all finite where ok
+-- what is judged of a trail with a lent position, whose numbers are all finite where ok
 abbrev pub withPosition : Bool → Bool → Bool → ℕ
 withPosition a b ok = refusal (size when a ∷ notFinite when (b || not ok) ∷ [])
 

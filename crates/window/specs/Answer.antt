@@ -1,4 +1,4 @@
--- The answers: document 01's number and the values, for each case.
+-- The answers: the number of the table (R0) and the values, for each case.
 use Prim.Native.Nat.{ℕ}
 use mathlib.Core.Bool.{Bool, not, _||_}
 use mathlib.Core.List.{List, [], _∷_}
@@ -35,11 +35,11 @@ unfit t = not (allFinite (t .buf) 256)
 abbrev pub trailReasons : Trail → List Judged
 trailReasons t = size when outOfSize t ∷ notFinite when unfit t ∷ []
 
--- .. with a lent position
+-- what an entry judges that takes a trail and a lent position
 abbrev pub pushReasons : Trail → List Float → List Judged
 pushReasons t p = size when outOfSize t ∷ notFinite when (unfit t || someNotFinite p) ∷ []
 
--- .. and with a number that is computed from it
+-- what an entry answers that takes a trail and computes a number from it
 abbrev pub computedFrom : Trail → Checked Float → Number
 computedFrom t x = numberOr (refusal (size when outOfSize t ∷ notFinite when unfit t ∷ computed when not (x .sound) ∷ [])) (x .value)
 

@@ -38,6 +38,6 @@ clearedOf t = record { buf = t .buf; head = 0; len = 0 }
 unfoldable pub pushOf : Trail → List Float → ℕ → Recorded
 pushOf t p d = if eqb (refusal (pushReasons t p)) 0 then record { number = 0; trail = recordedOf t p d } else record { number = refusal (pushReasons t p); trail = t }
 
--- .. and so does a refused clear
+-- a refused clear gives its number and leaves the trail as it was
 unfoldable pub clearOf : Trail → Recorded
 clearOf t = if eqb (refusal (trailReasons t)) 0 then record { number = 0; trail = clearedOf t } else record { number = refusal (trailReasons t); trail = t }

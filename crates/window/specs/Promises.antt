@@ -31,11 +31,11 @@ trues (h ∷ t) = bit h + trues t
 abbrev pub BitsAreLastPushes : Type 0
 BitsAreLastPushes = (n : ℕ) → n ≤ 63 → (l : List Bool) → bitsAfter n l ≡ digitsOf (take n l)
 
--- .. so bit i is the push i before the newest
+-- bit i is the push i before the newest
 abbrev pub BitIsPush : Type 0
 BitIsPush = (n : ℕ) → n ≤ 63 → (l : List Bool) (i : ℕ) → i < n → bitsAfter n l / 2 ^ i % 2 ≡ bit (getD l i false)
 
--- .. and hits is the number of true among the last n pushes
+-- hits is the number of true among the last n pushes
 abbrev pub HitsCountLastPushes : Type 0
 HitsCountLastPushes = (n : ℕ) → n ≤ 63 → (l : List Bool) → hitsIn (bitsAfter n l) ≡ trues (take n l)
 

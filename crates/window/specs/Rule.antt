@@ -1,4 +1,4 @@
--- The rules of document 01's module 3.
+-- The rules of the window and the trail (R3).
 use Prim.Native.Nat.{ℕ, _+_, _-_, _*_, _%_, _^_, min}
 use mathlib.Core.Bool.{Bool, true, false, _||_}
 use mathlib.Core.List.{List, [], _∷_}

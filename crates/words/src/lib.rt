@@ -28,7 +28,7 @@ fn two(b: &[u8], at: usize) -> u64
     low + high * 256
 }
 
-// .. four bytes
+// The little-endian number in four bytes.
 fn four(b: &[u8], at: usize) -> u64
     requires { ⌜ at + 4 ≤ 4294967303 ⌝ }
     ensures { λ r. ⌜ (r ≡ little 4 (now (b .entry)) at) × (r < 4294967296) ⌝ }
@@ -47,7 +47,7 @@ pub fn pair(b: &[u8], at: u32) -> u16
     x as u16
 }
 
-// .. eight bytes
+// The little-endian number in eight bytes.
 pub fn word(b: &[u8], at: u32) -> u64
     ensures { λ r. ⌜ r ≡ little 8 (now (b .entry)) at ⌝ }
 {

@@ -23,7 +23,7 @@ use Rattle.checked.proofs.Extremes.{least-missing, least-more}
 use Rattle.checked.proofs.Absorbing.{sub-nan, nan-sub, fine-sub-left, fine-add-left, fine-add-right}
 use Rattle.checked.proofs.Ordered.{below-nan, nan-below}
 use Rattle.checked.proofs.Told.{implied}
-use Rattle.workspace.specs.Rule.{Walls, beyond, outside, inward, between, betweenWithin, gap, gapWithin, slack, slackWithin}
+use Rattle.workspace.specs.Rule.{Walls, beyond, outside, inward, between, betweenR, gap, gapR, slack, slackR}
 
 -- ---- past the end
 
@@ -63,8 +63,8 @@ between-tells f lo hi p = ap (λ (b : Bool). finite (sub f p lo) && b) (and-true
 four : (a b c d : Bool) → (b ≡ true → a ≡ true) → (d ≡ true → c ≡ true) → a && (b && (c && (d && true))) ≡ b && d
 four a b c d h g = ap (λ (t : Bool). a && (b && (c && t))) (and-true d) ∙ ap (λ (t : Bool). a && (b && t)) (implied c d g) ∙ implied a (b && d) (λ e. h (and-left b d e))
 
-pub within-tells : (f : Format) (r lo hi p : Float) → betweenWithin f r lo hi p .sound ≡ finite (sub f (sub f p r) lo) && finite (sub f (sub f hi p) r)
-unfolding betweenWithin
+pub within-tells : (f : Format) (r lo hi p : Float) → betweenR f r lo hi p .sound ≡ finite (sub f (sub f p r) lo) && finite (sub f (sub f hi p) r)
+unfolding betweenR
 within-tells f r lo hi p =
     four (finite (sub f p r)) (finite (sub f (sub f p r) lo)) (finite (sub f hi p)) (finite (sub f (sub f hi p) r)) (fine-sub-left f (sub f p r) lo) (fine-sub-left f (sub f hi p) r)
 
@@ -74,8 +74,8 @@ between-missing : (f : Format) (lo hi : Float) → (between f lo hi nan .value �
 unfolding between lesser finite lt
 between-missing f lo hi = (rw (nan-sub f lo, sub-nan f hi), rw (nan-sub f lo))
 
-within-missing : (f : Format) (r lo hi : Float) → (betweenWithin f r lo hi nan .value ≡ nan) × (betweenWithin f r lo hi nan .sound ≡ false)
-unfolding betweenWithin lesser finite lt
+within-missing : (f : Format) (r lo hi : Float) → (betweenR f r lo hi nan .value ≡ nan) × (betweenR f r lo hi nan .sound ≡ false)
+unfolding betweenR lesser finite lt
 within-missing f r lo hi = (rw (nan-sub f r, nan-sub f lo, sub-nan f hi, nan-sub f r), rw (nan-sub f r))
 
 -- no slack at all
@@ -90,9 +90,9 @@ pub slack-missing : (f : Format) (w : Walls) (p : List Float) (n : ℕ) → leng
 unfolding slack
 slack-missing f w p n h = least-missing-of (gap f w p) (length p) n h (λ j k. rw (past p j k) (between-missing f (at (w .lo) j) (at (w .hi) j)))
 
-pub within-slack-missing : (f : Format) (w : Walls) (r : Float) (p : List Float) (n : ℕ) → length p < n → NoSlack (slackWithin f w r p n)
-unfolding slackWithin
-within-slack-missing f w r p n h = least-missing-of (gapWithin f w r p) (length p) n h (λ j k. rw (past p j k) (within-missing f r (at (w .lo) j) (at (w .hi) j)))
+pub within-slack-missing : (f : Format) (w : Walls) (r : Float) (p : List Float) (n : ℕ) → length p < n → NoSlack (slackR f w r p n)
+unfolding slackR
+within-slack-missing f w r p n h = least-missing-of (gapR f w r p) (length p) n h (λ j k. rw (past p j k) (within-missing f r (at (w .lo) j) (at (w .hi) j)))
 
 -- ---- one turn of a loop over the axes
 

@@ -42,9 +42,9 @@ between f lo hi p = do
   high ← minus f hi p
   pure (lesser low high)
 
--- .. with a stopping radius taken off: the lesser of p - r - lo and hi - p - r
-unfoldable pub betweenWithin : Format → Float → Float → Float → Float → Checked Float
-betweenWithin f r lo hi p = do
+-- on one axis with a stopping radius taken off: the lesser of p - r - lo and hi - p - r
+unfoldable pub betweenR : Format → Float → Float → Float → Float → Checked Float
+betweenR f r lo hi p = do
   near ← minus f p r
   low ← minus f near lo
   far ← minus f hi p
@@ -54,11 +54,11 @@ betweenWithin f r lo hi p = do
 abbrev pub gap : Format → Walls → List Float → ℕ → Checked Float
 gap f w p j = between f (at (w .lo) j) (at (w .hi) j) (at p j)
 
-abbrev pub gapWithin : Format → Walls → Float → List Float → ℕ → Checked Float
-gapWithin f w r p j = betweenWithin f r (at (w .lo) j) (at (w .hi) j) (at p j)
+abbrev pub gapR : Format → Walls → Float → List Float → ℕ → Checked Float
+gapR f w r p j = betweenR f r (at (w .lo) j) (at (w .hi) j) (at p j)
 
 unfoldable pub slack : Format → Walls → List Float → ℕ → Checked Float
 slack f w p n = leastOf (gap f w p) n
 
-unfoldable pub slackWithin : Format → Walls → Float → List Float → ℕ → Checked Float
-slackWithin f w r p n = leastOf (gapWithin f w r p) n
+unfoldable pub slackR : Format → Walls → Float → List Float → ℕ → Checked Float
+slackR f w r p n = leastOf (gapR f w r p) n

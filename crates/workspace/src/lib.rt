@@ -8,7 +8,7 @@ ghost use Rattle.checked.specs.Each.{at};
 ghost use Rattle.checked.specs.Finite.{finite};
 ghost use Rattle.checked.specs.Least.{least};
 ghost use Rattle.checked.specs.Of.{reckonedFrom, rowFrom, testFrom};
-ghost use Rattle.workspace.specs.Rule.{outside, inward, setpoint, between, betweenWithin, gap, slack, slackWithin};
+ghost use Rattle.workspace.specs.Rule.{outside, inward, setpoint, between, betweenR, gap, slack, slackR};
 ghost use Rattle.workspace.specs.Of.{wallsOf};
 use checked::Reckoned;
 use checked::Row;
@@ -174,8 +174,8 @@ pub fn slack_abreast(w: Workspace, p: [f64; 8], n: usize) -> Reckoned
     }
 }
 
-fn gap_within(r: f64, lo: f64, hi: f64, p: f64) -> Reckoned
-    ensures { λ s. ⌜ s ≡ reckonedFrom (betweenWithin binary64 r lo hi p) ⌝ }
+fn gap_r(r: f64, lo: f64, hi: f64, p: f64) -> Reckoned
+    ensures { λ s. ⌜ s ≡ reckonedFrom (betweenR binary64 r lo hi p) ⌝ }
 {
     let low = p - r - lo;
     let high = hi - p - r;
@@ -187,8 +187,8 @@ fn gap_within(r: f64, lo: f64, hi: f64, p: f64) -> Reckoned
 }
 
 // The slack with a stopping radius taken off.
-pub fn slack_within(w: Workspace, r: f64, p: [f64; 8], n: usize) -> Reckoned
-    ensures { λ s. ⌜ s ≡ reckonedFrom (slackWithin binary64 (wallsOf w) r p n) ⌝ }
+pub fn slack_r(w: Workspace, r: f64, p: [f64; 8], n: usize) -> Reckoned
+    ensures { λ s. ⌜ s ≡ reckonedFrom (slackR binary64 (wallsOf w) r p n) ⌝ }
 {
     if 8 < n {
         return Reckoned {
@@ -200,7 +200,7 @@ pub fn slack_within(w: Workspace, r: f64, p: [f64; 8], n: usize) -> Reckoned
     let mut sound = true;
     let mut j = 0;
     while j < n {
-        let g = gap_within(r, w.lo[j], w.hi[j], p[j]);
+        let g = gap_r(r, w.lo[j], w.hi[j], p[j]);
         least = fmath::min(least, g.value);
         sound = sound & g.sound;
         j += 1;

@@ -1,4 +1,4 @@
-//! Refusals 1 to 4 of the configuration at the edge of each condition. The numbers stand here as document 01's table
+//! Refusals 1 to 4 of the configuration at the edge of each condition. The numbers stand here as the scope document's table
 //! gives them, written by hand; the model and the linked entries are both held to them.
 
 use std::fmt::Debug;
@@ -7,7 +7,7 @@ use model::{envelope, tier0, ChunkView, ContactLimit, FuseConfig, Refusal, CONTA
 
 use crate::port::Port;
 
-/// A condition in document 01's words, the field, and the number due for each of the field's values.
+/// A condition in the scope document's words, the field, and the number due for each of the field's values.
 #[derive(Clone)]
 struct Condition {
     words: &'static str,
@@ -519,7 +519,7 @@ pub fn check(port: &Port) -> Result<String, String> {
     };
     let table = table();
     let values: usize = table.iter().map(|c| c.cases.len()).sum();
-    let mut said = format!("edges: {} conditions, {values} values, each answered by document 01's number", table.len());
+    let mut said = format!("edges: {} conditions, {values} values, each answered by the scope document's number", table.len());
     let mut wrong = Vec::new();
     for (side, judges) in [("model", judges(&model)), ("port", judges(port))] {
         for judge in &judges {

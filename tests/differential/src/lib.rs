@@ -1,4 +1,4 @@
-//! The port, the published Rust and the model of document 01 on the same generated inputs.
+//! The port, the published Rust and the model of the scope document on the same generated inputs.
 
 pub mod edges;
 pub mod entries;

@@ -29,7 +29,7 @@ pub type Call<I> = Box<dyn Fn(&I) -> Outcome + Send + Sync>;
 pub type RustCall<I> = Box<dyn Fn(&I) -> Option<Outcome> + Send + Sync>;
 pub type Parts<I> = for<'a> fn(&'a mut I) -> Vec<Part<'a>>;
 
-/// An entry of document 01 with its three sides.
+/// An entry of the scope document with its three sides.
 pub struct Entry<I> {
     pub name: &'static str,
     pub generate: fn(&mut Rng) -> I,
@@ -56,7 +56,7 @@ pub struct Report {
     pub linked: bool,
     pub calls: u64,
     pub accepted: u64,
-    /// by number of document 01's table
+    /// by number of the scope document's table
     pub refused: [u64; 15],
     pub against_rust: u64,
     /// accepted, but of a size or shape that the Rust lacks

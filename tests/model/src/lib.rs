@@ -1,4 +1,4 @@
-//! Document 01's rules and its table of refusals, written from the document and not from the port. Each entry
+//! The scope document's rules and its table of refusals, written from the document and not from the port. Each entry
 //! answers `Result<Answer, Refusal>` and leaves every buffer as the document says. Nothing here is made for speed.
 // the rules speak of coordinates by their number
 #![allow(clippy::needless_range_loop)]

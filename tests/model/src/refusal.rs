@@ -1,4 +1,4 @@
-//! Why a call is refused: a number of document 01's table and, for 13 from the forecast, its place.
+//! Why a call is refused: a number of the scope document's table and, for 13 from the forecast, its place.
 
 use crate::checked::NotFinite;
 

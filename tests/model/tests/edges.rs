@@ -1,4 +1,4 @@
-//! Every condition of document 01's table on both sides of its edge.
+//! Every condition of the scope document's table on both sides of its edge.
 
 use model::*;
 

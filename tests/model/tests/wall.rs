@@ -1,4 +1,4 @@
-//! Document 01's numbers to keep on the wall, and the edges of its table.
+//! The scope document's numbers to keep on the wall, and the edges of its table.
 
 use model::*;
 

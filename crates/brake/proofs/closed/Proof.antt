@@ -11,13 +11,13 @@ use Rattle.course.specs.Of.{stateOf, runOf}
 use Rattle.checked.specs.Of.{reckonedFrom}
 use Rattle.stopping.specs.Rule.{Task, reaction, stand, stopDistance, forecast}
 use Rattle.stopping.specs.Of.{taskOf}
-use Rattle.course.proofs.Reach.{reach-whole}
+use Rattle.course.proofs.Leading.{leading-whole}
 use Rattle.brake.proofs.Outcome.{done-few}
 use Rattle.brake.proofs.closed.Statement.{statement}
 use Rattle.brake.proofs.closed.Tie as tie
 
-stopping-requires : tie.Need-stopping-requires
-stopping-requires c κs = search needs
+closed-form-requires : tie.Need-closed-form-requires
+closed-form-requires c κs = search needs
 
 stop-distance-requires : tie.Need-stop-distance-requires
 stop-distance-requires c κs = search needs
@@ -25,17 +25,17 @@ stop-distance-requires c κs = search needs
 abbrev task : tie.Start → Task
 task s = taskOf (s .args .arm) (s .args .react) (s .args .w) (s .args .c) (s .args .start) (now (s .args .rows))
 
-runs : (c : tie.After-stopping) → c .stopping .result ≡ runOf (forecast binary64 (task (c .before .before .before .before))) (stand binary64 (task (c .before .before .before .before)))
-runs c = rw (c .before .before .before .before .pre .0) at (c .stopping .ensures .0)
+runs : (c : tie.After-stopping) → c .closed-form .result ≡ runOf (forecast binary64 (task (c .before .before .before .before))) (stand binary64 (task (c .before .before .before .before)))
+runs c = rw (c .before .before .before .before .pre .0) at (c .closed-form .ensures .0)
 
 settled-requires : tie.Need-settled-requires
 settled-requires c κs =
     let r = c .before .before .before .before in
     let s = r .before .before .before .before in
-    done-few (forecast binary64 (task s)) (stand binary64 (task s)) (r .stopping .result) (runs r) (s .pre .1)
+    done-few (forecast binary64 (task s)) (stand binary64 (task s)) (r .closed-form .result) (runs r) (s .pre .1)
 
 -- where the run is sound it ends where the forecast does
-stops : (c : tie.After-stop-distance) → c .before .before .before .before .stopping .result .sound ≡ true
+stops : (c : tie.After-stop-distance) → c .before .before .before .before .closed-form .result .sound ≡ true
     → c .stop-distance .result ≡ reckonedFrom (forecast binary64 (task (c .before .before .before .before .before .before .before .before)) .stop)
 unfolding stand reaction
 stops c h =
@@ -43,7 +43,7 @@ stops c h =
     let t = task (r .before .before .before .before) in
     let p = forecast binary64 t in
     let sound = sym (ap (λ (x : Run). x .sound) (runs r)) ∙ h in
-    let end : stateOf (r .stopping .result .plant) ≡ stand binary64 t (p .count) = ap (λ (x : Run). stateOf (x .plant)) (runs r) ∙ ap (stand binary64 t) (reach-whole (fine p) (p .count) sound) in
+    let end : stateOf (r .closed-form .result .plant) ≡ stand binary64 t (p .count) = ap (λ (x : Run). stateOf (x .plant)) (runs r) ∙ ap (stand binary64 t) (leading-whole (fine p) (p .count) sound) in
     c .stop-distance .ensures ∙ ap (λ (x : State). reckonedFrom (stopDistance binary64 (t .arm) (reaction binary64 t .value) (t .start) x (t .n))) end
 
 same-length : tie.Need-same-length
@@ -53,9 +53,9 @@ returns : tie.Need-returns
 returns c =
     let r = c .before .before .before .before .before in
     let s = r .before .before .before .before in
-    (c .settled .ensures (forecast binary64 (task s)) (stand binary64 (task s)) (runs r) (stops (c .before)), rw (s .pre .0) at (r .stopping .ensures .1))
+    (c .settled .ensures (forecast binary64 (task s)) (stand binary64 (task s)) (runs r) (stops (c .before)), rw (s .pre .0) at (r .closed-form .ensures .1))
 
 pub closed-spec : {M : Type 1} → statement M
 closed-spec =
     tie.close
-    (tie.spec stopping-requires stop-distance-requires settled-requires same-length returns)
+    (tie.spec closed-form-requires stop-distance-requires settled-requires same-length returns)

@@ -1,6 +1,5 @@
 -- `brake::row_refusal` meets its contract, by the tests that led to each answer.
 use Rattle.brake.proofs.Sending.{by-config, by-11, by-12, by-none}
-use borrow.Author.Needs.{needs}
 use lib.Ieee.{binary64}
 use Rattle.brake.proofs.row_refusal.Statement.{statement}
 use Rattle.brake.proofs.row_refusal.Tie as tie

@@ -11,7 +11,7 @@ use Rattle.rollout.specs.Rule.{Task, after, stopDistance, forecast}
 use Rattle.course.specs.Of.{stateOf, runOf}
 use Rattle.rollout.specs.Of.{taskOf}
 use Rattle.checked.specs.Of.{reckonedFrom}
-use Rattle.course.proofs.Reach.{reach-whole}
+use Rattle.course.proofs.Leading.{leading-whole}
 use Rattle.brake.proofs.Outcome.{done-few}
 use Rattle.brake.proofs.second_order.Statement.{statement}
 use Rattle.brake.proofs.second_order.Tie as tie
@@ -42,7 +42,7 @@ stops c h =
     let t = task (r .before .before .before .before) in
     let p = forecast binary64 t in
     let sound = sym (ap (λ (x : Run). x .sound) (runs r)) ∙ h in
-    let end : stateOf (r .rollout .result .plant) ≡ after binary64 t (p .count) = ap (λ (x : Run). stateOf (x .plant)) (runs r) ∙ ap (after binary64 t) (reach-whole (fine p) (p .count) sound) in
+    let end : stateOf (r .rollout .result .plant) ≡ after binary64 t (p .count) = ap (λ (x : Run). stateOf (x .plant)) (runs r) ∙ ap (after binary64 t) (leading-whole (fine p) (p .count) sound) in
     c .stop-distance .ensures ∙ ap (λ (x : State). reckonedFrom (stopDistance binary64 (t .start) x (t .n))) end
 
 same-length : tie.Need-same-length

@@ -13,8 +13,8 @@ use Rattle.stopping.proofs.begin.Tie as tie
 radius-requires : tie.Need-radius-requires
 radius-requires c κs = search needs
 
-slack-within-requires : tie.Need-slack-within-requires
-slack-within-requires c κs = search needs
+slack-r-requires : tie.Need-slack-r-requires
+slack-r-requires c κs = search needs
 
 halted-requires : tie.Need-halted-requires
 halted-requires c κs = search needs
@@ -23,7 +23,7 @@ returns : tie.Need-returns
 unfolding ofBits div
 returns c =
     let s = c .before .before .before .before .before .before .before .before .before .before .before in
-    rw (c .halted .ensures) (omega arith, λ react rows g w. start-fails binary64 (taskOf (s .args .arm) react (s .args .w) (s .args .c) (s .args .start) rows) (now (s .args .slack)) (s .args .start) refl (s .args .g) g (s .args .wait) w (c .before .before .before .before .before .before .before .radius .result) (c .before .before .before .before .before .before .before .radius .ensures) (c .before .before .before .before .before .before .slack-within .result) (c .before .before .before .before .before .before .slack-within .ensures) (not-true _ (c .before .if1 .taken)))
+    rw (c .halted .ensures) (omega arith, λ react rows g w. start-fails binary64 (taskOf (s .args .arm) react (s .args .w) (s .args .c) (s .args .start) rows) (now (s .args .slack)) (s .args .start) refl (s .args .g) g (s .args .wait) w (c .before .before .before .before .before .before .before .radius .result) (c .before .before .before .before .before .before .before .radius .ensures) (c .before .before .before .before .before .before .slack-r .result) (c .before .before .before .before .before .before .slack-r .ensures) (not-true _ (c .before .if1 .taken)))
 
 slice-write-slack : tie.Need-slice-write-slack
 slice-write-slack c = search needs
@@ -38,14 +38,14 @@ returns-2 : tie.Need-returns-2
 unfolding ofBits div
 returns-2 c =
     let s = c .before .before .before .before .before .before .before .before .before .before .before in
-    (omega arith, λ react rows g w. start-enters binary64 (taskOf (s .args .arm) react (s .args .w) (s .args .c) (s .args .start) rows) (now (s .args .slack)) (s .args .start) refl (s .args .g) g (s .args .wait) w (c .before .before .before .before .before .before .before .radius .result) (c .before .before .before .before .before .before .before .radius .ensures) (c .before .before .before .before .before .before .slack-within .result) (c .before .before .before .before .before .before .slack-within .ensures) (not-false _ (c .before .if1 .left)) _ (c .min .ensures))
+    (omega arith, λ react rows g w. start-enters binary64 (taskOf (s .args .arm) react (s .args .w) (s .args .c) (s .args .start) rows) (now (s .args .slack)) (s .args .start) refl (s .args .g) g (s .args .wait) w (c .before .before .before .before .before .before .before .radius .result) (c .before .before .before .before .before .before .before .radius .ensures) (c .before .before .before .before .before .before .slack-r .result) (c .before .before .before .before .before .before .slack-r .ensures) (not-false _ (c .before .if1 .left)) _ (c .min .ensures))
 
 pub begin-spec : {M : Type 1} → statement M
 begin-spec =
     tie.close
     (tie.spec
     radius-requires
-    slack-within-requires
+    slack-r-requires
     halted-requires
     returns
     slice-write-slack

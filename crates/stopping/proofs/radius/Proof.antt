@@ -14,8 +14,8 @@ slice-aggregate-magnitude c = search needs
 magnitude-requires : tie.Need-magnitude-requires
 magnitude-requires c κs = search needs
 
-glide-requires : tie.Need-glide-requires
-glide-requires c κs = search needs
+d-stop-requires : tie.Need-d-stop-requires
+d-stop-requires c κs = search needs
 
 finite-requires : tie.Need-finite-requires
 finite-requires c κs = search needs
@@ -24,9 +24,9 @@ returns : tie.Need-returns
 unfolding radius
 returns c = let s = c .before .before .before .before .before .before .args in
     let m : c .before .before .before .before .magnitude .result ≡ norm binary64 (s .t3) (s .n) .value = c .before .before .before .before .magnitude .ensures in
-    rw (c .before .finite .ensures, c .before .before .before .glide .ensures, m, radius-tells binary64 (s .arm .brake) (s .arm .«a_max») (s .arm .«j_max») (s .wait) (s .t3) (s .n))
+    rw (c .before .finite .ensures, c .before .before .before .d-stop .ensures, m, radius-tells binary64 (s .arm .brake) (s .arm .«a_max») (s .arm .«j_max») (s .wait) (s .t3) (s .n))
 
 pub radius-spec : {M : Type 1} → statement M
 radius-spec =
     tie.close
-    (tie.spec slice-aggregate-magnitude magnitude-requires glide-requires finite-requires returns)
+    (tie.spec slice-aggregate-magnitude magnitude-requires d-stop-requires finite-requires returns)

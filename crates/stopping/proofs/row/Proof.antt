@@ -29,8 +29,8 @@ command-requires c κs = search needs
 radius-requires : tie.Need-radius-requires
 radius-requires c κs = search needs
 
-slack-within-requires : tie.Need-slack-within-requires
-slack-within-requires c κs = search needs
+slack-r-requires : tie.Need-slack-r-requires
+slack-r-requires c κs = search needs
 
 step-requires : tie.Need-step-requires
 step-requires c κs = search needs
@@ -45,7 +45,7 @@ returns-2 c = rw (c .halted .ensures) (
       let s = c .before .before .before .before .before .before .before .before .before .before .before .before .before .before .before .before in
       let live = not-false _ (c .before .before .before .before .before .before .before .before .before .before .before .before .if1 .left) in
       turn-fails binary64 (taskOf (s .args .arm) react (s .args .w) (s .args .c) q rows) l k (s .args .run) (now (s .args .slack)) h live (s .args .g) (s .args .wait) u (now (s .args .a)) (go live) (axes s)
-      (c .before .before .before .before .before .before .before .before .before .command .result) (c .before .before .before .before .before .before .before .before .before .command .ensures) (c .before .before .before .before .before .before .before .before .radius .result) (c .before .before .before .before .before .before .before .before .radius .ensures) (c .before .before .before .before .before .before .before .slack-within .result) (c .before .before .before .before .before .before .before .slack-within .ensures) (c .before .before .before .before .before .before .step .result) (c .before .before .before .before .before .before .step .ensures)
+      (c .before .before .before .before .before .before .before .before .before .command .result) (c .before .before .before .before .before .before .before .before .before .command .ensures) (c .before .before .before .before .before .before .before .before .radius .result) (c .before .before .before .before .before .before .before .before .radius .ensures) (c .before .before .before .before .before .before .before .slack-r .result) (c .before .before .before .before .before .before .before .slack-r .ensures) (c .before .before .before .before .before .before .step .result) (c .before .before .before .before .before .before .step .ensures)
       (not-true _ (c .before .if2 .taken)),
 )
 
@@ -71,7 +71,7 @@ returns-3 c = (
       let s = c .before .before .before .before .before .before .before .before .before .before .before .before .before .before .before .before in
       let live = not-false _ (c .before .before .before .before .before .before .before .before .before .before .before .before .if1 .left) in
       turn-advances binary64 (taskOf (s .args .arm) react (s .args .w) (s .args .c) q rows) l k (s .args .run) (now (s .args .slack)) h live (s .args .g) (s .args .wait) u (now (s .args .a)) (go live) (axes s)
-      (c .before .before .before .before .before .before .before .before .before .command .result) (c .before .before .before .before .before .before .before .before .before .command .ensures) (c .before .before .before .before .before .before .before .before .radius .result) (c .before .before .before .before .before .before .before .before .radius .ensures) (c .before .before .before .before .before .before .before .slack-within .result) (c .before .before .before .before .before .before .before .slack-within .ensures) (c .before .before .before .before .before .before .step .result) (c .before .before .before .before .before .before .step .ensures)
+      (c .before .before .before .before .before .before .before .before .before .command .result) (c .before .before .before .before .before .before .before .before .before .command .ensures) (c .before .before .before .before .before .before .before .before .radius .result) (c .before .before .before .before .before .before .before .before .radius .ensures) (c .before .before .before .before .before .before .before .slack-r .result) (c .before .before .before .before .before .before .before .slack-r .ensures) (c .before .before .before .before .before .before .step .result) (c .before .before .before .before .before .before .step .ensures)
       (not-false _ (c .before .if2 .left)) _ (c .min .ensures),
 )
 
@@ -82,7 +82,7 @@ row-spec =
     returns
     command-requires
     radius-requires
-    slack-within-requires
+    slack-r-requires
     step-requires
     halted-requires
     returns-2

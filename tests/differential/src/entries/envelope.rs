@@ -63,7 +63,7 @@ fn compilable(rng: &mut Rng) -> CompiledIn {
     CompiledIn { cfg, num, den }
 }
 
-/// The Rust's own `compile` where it accepts; it refuses more than document 01 does, and that is skipped.
+/// The Rust's own `compile` where it accepts; it refuses more than the scope document does, and that is skipped.
 pub fn compiled(port: &Port) -> Entry<CompiledIn> {
     let derived = |c: &FuseConfig, d: Derived| shown(&d, c.dim);
     Entry {

@@ -1,4 +1,4 @@
-//! A shim: the published verdict.rs is absent. The six trip bits are document 01's; the bit of BRAKE is made up.
+//! A shim: the published verdict.rs is absent. The six trip bits are the scope document's; the bit of BRAKE is made up.
 
 pub struct TripMask;
 

@@ -9,7 +9,7 @@ use model::{
 
 use crate::trail;
 
-/// The Rust's number of each feature of document 01.
+/// The Rust's number of each feature of the scope document.
 const RUST_FEAT: [usize; NFEAT] = {
     use rust::Feat::*;
     let names = [Tce, Acc, AcmNeg, Njr, Reach, SpeedPeak, PathIneff, Stall, Ext0, Ext1, Ext2, Ext3];

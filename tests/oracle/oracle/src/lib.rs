@@ -51,7 +51,7 @@ fn watch<T>(call: impl FnOnce() -> T) -> T {
     answer
 }
 
-/// The number in document 01's table of what `fill` refuses.
+/// The number in the scope document's table of what `fill` refuses.
 fn number_of(e: ChunkError) -> u8 {
     match e {
         ChunkError::Empty => 5,

@@ -26,7 +26,7 @@ at-place a b [] i h = absurd (omega arith)
 at-place a b (k ∷ l) zero h = refl
 at-place a b (k ∷ l) (suc i) h = at-place a b l i (omega arith)
 
--- .. by whether one of the two numbers is met there
+-- what is given at a place, by whether one of the two numbers is met there
 met : (a b : ℕ) (l : List Reason) (i : ℕ) → i < length l → (eqb a (getD (numbers l) i 0) || eqb b (getD (numbers l) i 0)) ≡ true
     → firstOf (named a or named b) (drop i l) ≡ getD (numbers l) i 0
 met a b l i h e = at-place a b l i h ∙ rw e

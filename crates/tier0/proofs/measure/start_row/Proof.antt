@@ -8,8 +8,8 @@ use Rattle.tier0.specs.Chunk.{startRow}
 use Rattle.tier0.proofs.measure.start_row.Statement.{statement}
 use Rattle.tier0.proofs.measure.start_row.Tie as tie
 
-shared-requires : tie.Need-shared-requires
-shared-requires c κs = search needs
+box-dims-requires : tie.Need-box-dims-requires
+box-dims-requires c κs = search needs
 
 raw-row-requires : tie.Need-raw-row-requires
 raw-row-requires c κs = let w = c .before .before .before .pre in (w .0, omega arith, omega arith)
@@ -25,10 +25,10 @@ unfolding startRow
 returns c =
     let g = c .before .before .before .before .before .before .before .args in
     let w = c .before .before .before .before .before .before .before .pre in
-    let e = c .before .before .before .before .shared .ensures in
+    let e = c .before .before .before .before .box-dims .ensures in
     all-put _ (now (g .pos)) (omega arith) (omega arith) (c .before .put .ensures) ∙ rw (c .before .before .before .raw-row .ensures, e)
 
 pub start-row-spec : {M : Type 1} → statement M
 start-row-spec =
     tie.close
-    (tie.spec shared-requires raw-row-requires slice-aggregate-put put-requires returns)
+    (tie.spec box-dims-requires raw-row-requires slice-aggregate-put put-requires returns)

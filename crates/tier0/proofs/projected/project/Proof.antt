@@ -8,11 +8,11 @@ use Rattle.tier0.proofs.projected.project.Tie as tie
 moves-requires : tie.Need-moves-requires
 moves-requires c κs = search needs
 
-moved-requires : tie.Need-moved-requires
-moved-requires c κs = search needs
+moved-dims-requires : tie.Need-moved-dims-requires
+moved-dims-requires c κs = search needs
 
 returns : tie.Need-returns
-returns c = project-is binary64 _ _ _ _ _ (c .before .before .before .before .moves .ensures) (c .moved .ensures)
+returns c = project-is binary64 _ _ _ _ _ (c .before .before .before .before .moves .ensures) (c .moved-dims .ensures)
 
 pub project-spec : {M : Type 1} → statement M
-project-spec = tie.close (tie.spec moves-requires moved-requires returns)
+project-spec = tie.close (tie.spec moves-requires moved-dims-requires returns)

@@ -12,14 +12,14 @@ armed-requires c κs = search needs
 returns : tie.Need-returns
 returns c = reached-off binary64 _ _ _ (c .before .armed .ensures) (not-true _ (c .if1 .taken))
 
-shared-requires : tie.Need-shared-requires
-shared-requires c κs = search needs
+box-dims-requires : tie.Need-box-dims-requires
+box-dims-requires c κs = search needs
 
 pulled-requires : tie.Need-pulled-requires
 pulled-requires c κs = search needs
 
 returns-2 : tie.Need-returns-2
-returns-2 c = reached-on binary64 _ _ _ (c .before .before .before .armed .ensures) (not-false _ (c .before .before .if1 .left)) (c .before .shared .ensures) (c .pulled .ensures)
+returns-2 c = reached-on binary64 _ _ _ (c .before .before .before .armed .ensures) (not-false _ (c .before .before .if1 .left)) (c .before .box-dims .ensures) (c .pulled .ensures)
 
 pub reached-spec : {M : Type 1} → statement M
-reached-spec = tie.close (tie.spec armed-requires returns shared-requires pulled-requires returns-2)
+reached-spec = tie.close (tie.spec armed-requires returns box-dims-requires pulled-requires returns-2)

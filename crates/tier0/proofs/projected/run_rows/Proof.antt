@@ -28,8 +28,8 @@ raw-row-requires c κs = let g = c .before .before .before .before .before in (g
 next-row-requires : tie.Need-next-row-requires Inv-loop μ-loop
 next-row-requires c κs = search needs
 
-moved-requires : tie.Need-moved-requires Inv-loop μ-loop
-moved-requires c κs = c .before .before .before .before .before .before .before .before .before .before .pre .0
+moved-dims-requires : tie.Need-moved-dims-requires Inv-loop μ-loop
+moved-dims-requires c κs = c .before .before .before .before .before .before .before .before .before .before .pre .0
 
 mul-put-row : tie.Need-mul-put-row Inv-loop μ-loop
 mul-put-row c = let w = c .before .before .before .before .before .before .before .before .before .before .before in let h = size-small (c .before .before .before .before .before .before .before .loop .i) (w .args .s .dim) (omega (arith, c .before .before .before .before .before .before .loop-test .taken, w .pre .1)) (w .pre .0) in omega arith
@@ -44,7 +44,7 @@ loop-less : tie.Need-loop-less Inv-loop μ-loop
 loop-less c = search needs
 
 loop-again : tie.Need-loop-again Inv-loop μ-loop
-loop-again c = let l = c .before .before .before .before .before .before .before .before .before .before .before .before in (omega (arith, c .before .before .before .before .before .before .before .before .before .before .before .loop-test .taken), (ap length (c .before .before .before .put-row .ensures) ∙ length-put _ _ _ _ ∙ l .loop .inv .1 .0, row-turn binary64 _ _ _ _ _ _ _ _ _ _ _ _ _ _ _ (l .loop .inv .1 .1) (c .before .before .before .before .before .before .before .before .before .before .raw-row .ensures) (c .before .before .before .before .before .before .before .before .before .next-row .ensures) (c .before .before .before .before .before .moved .ensures) (c .before .before .before .put-row .ensures)))
+loop-again c = let l = c .before .before .before .before .before .before .before .before .before .before .before .before in (omega (arith, c .before .before .before .before .before .before .before .before .before .before .before .loop-test .taken), (ap length (c .before .before .before .put-row .ensures) ∙ length-put _ _ _ _ ∙ l .loop .inv .1 .0, row-turn binary64 _ _ _ _ _ _ _ _ _ _ _ _ _ _ _ (l .loop .inv .1 .1) (c .before .before .before .before .before .before .before .before .before .before .raw-row .ensures) (c .before .before .before .before .before .before .before .before .before .next-row .ensures) (c .before .before .before .before .before .moved-dims .ensures) (c .before .before .before .put-row .ensures)))
 
 same-length : tie.Need-same-length Inv-loop μ-loop
 same-length c = c .before .loop .inv .1 .0
@@ -53,4 +53,4 @@ returns : tie.Need-returns Inv-loop μ-loop
 returns c = ran binary64 _ _ _ _ _ _ (le-antisymm (c .before .loop .inv .0) (c .loop-test .left)) (c .before .loop .inv .1 .1)
 
 pub run-rows-spec : {M : Type 1} → statement M
-run-rows-spec = tie.close (tie.spec Inv-loop μ-loop loop-holds raw-row-requires next-row-requires moved-requires mul-put-row put-row-requires add-i loop-less loop-again same-length returns)
+run-rows-spec = tie.close (tie.spec Inv-loop μ-loop loop-holds raw-row-requires next-row-requires moved-dims-requires mul-put-row put-row-requires add-i loop-less loop-again same-length returns)

@@ -12,8 +12,8 @@ armed-requires c κs = search needs
 returns : tie.Need-returns
 returns c = reach-off binary64 _ _ _ (c .before .armed .ensures) (not-true _ (c .if1 .taken))
 
-shared-requires : tie.Need-shared-requires
-shared-requires c κs = search needs
+box-dims-requires : tie.Need-box-dims-requires
+box-dims-requires c κs = search needs
 
 distance-requires : tie.Need-distance-requires
 distance-requires c κs = search needs
@@ -22,9 +22,9 @@ finite-requires : tie.Need-finite-requires
 finite-requires c κs = search needs
 
 returns-2 : tie.Need-returns-2
-returns-2 c = reach-on binary64 _ _ _ (c .before .before .before .before .before .armed .ensures) (not-false _ (c .before .before .before .before .if1 .left)) (c .before .before .before .shared .ensures) (c .before .before .distance .ensures) (c .before .finite .ensures)
+returns-2 c = reach-on binary64 _ _ _ (c .before .before .before .before .before .armed .ensures) (not-false _ (c .before .before .before .before .if1 .left)) (c .before .before .before .box-dims .ensures) (c .before .before .distance .ensures) (c .before .finite .ensures)
 
 pub out-of-reach-spec : {M : Type 1} → statement M
 out-of-reach-spec =
     tie.close
-    (tie.spec armed-requires returns shared-requires distance-requires finite-requires returns-2)
+    (tie.spec armed-requires returns box-dims-requires distance-requires finite-requires returns-2)

@@ -9,8 +9,8 @@ use Rattle.tier1.proofs.held.boundary.Tie as tie
 overlap-requires : tie.Need-overlap-requires
 overlap-requires c κs = search needs
 
-shared-requires : tie.Need-shared-requires
-shared-requires c κs = search needs
+box-dims-requires : tie.Need-box-dims-requires
+box-dims-requires c κs = search needs
 
 boundary-bits-requires : tie.Need-boundary-bits-requires
 boundary-bits-requires c κs = search needs
@@ -34,7 +34,7 @@ returns : tie.Need-returns
 returns c =
     let g = c .before .before .before .before .before .before .before .before .before .before .before .before .before .before .before .before .args in
     boundary-is binary64 (g .m) (g .k) (now (g .a)) (now (g .pos)) (g .t) (g .h) (now (g .b))
-    (bits-are binary64 (g .m) (g .k) (now (g .a)) (now (g .pos)) (g .t) (g .h) (now (g .b)) (c .before .before .before .before .before .before .before .before .before .before .before .before .overlap .ensures) (c .before .before .before .before .before .before .before .before .before .before .before .shared .ensures) (c .before .before .before .before .before .before .before .before .before .before .boundary-bits .ensures))
+    (bits-are binary64 (g .m) (g .k) (now (g .a)) (now (g .pos)) (g .t) (g .h) (now (g .b)) (c .before .before .before .before .before .before .before .before .before .before .before .before .overlap .ensures) (c .before .before .before .before .before .before .before .before .before .before .before .box-dims .ensures) (c .before .before .before .before .before .before .before .before .before .before .boundary-bits .ensures))
     (c .before .before .before .before .before .before .before .before .before .met .ensures) (c .before .before .before .before .before .before .before .before .acm-neg .ensures) (c .before .before .before .before .before .before .before .njr .ensures) (c .before .before .before .before .before .before .reach .ensures) (c .before .before .before .before .before .speed-peak .ensures)
 
 pub boundary-spec : {M : Type 1} → statement M
@@ -42,7 +42,7 @@ boundary-spec =
     tie.close
     (tie.spec
     overlap-requires
-    shared-requires
+    box-dims-requires
     boundary-bits-requires
     met-requires
     acm-neg-requires

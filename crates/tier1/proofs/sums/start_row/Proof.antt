@@ -8,8 +8,8 @@ use Rattle.tier1.specs.Rule.{startRow}
 use Rattle.tier1.proofs.sums.start_row.Statement.{statement}
 use Rattle.tier1.proofs.sums.start_row.Tie as tie
 
-shared-requires : tie.Need-shared-requires
-shared-requires c κs = search needs
+box-dims-requires : tie.Need-box-dims-requires
+box-dims-requires c κs = search needs
 
 padded-requires : tie.Need-padded-requires
 padded-requires c κs = search needs
@@ -25,10 +25,10 @@ unfolding startRow
 returns c =
     let g = c .before .before .before .before .before .before .before .args in
     let w = c .before .before .before .before .before .before .before .pre in
-    let e = c .before .before .before .before .shared .ensures in
+    let e = c .before .before .before .before .box-dims .ensures in
     all-put _ (now (g .pos)) (omega arith) (omega arith) (c .before .put .ensures) ∙ rw (all-padded (now (g .b)) (w .0) (w .1) (c .before .before .before .padded .ensures), e)
 
 pub start-row-spec : {M : Type 1} → statement M
 start-row-spec =
     tie.close
-    (tie.spec shared-requires padded-requires slice-aggregate-put put-requires returns)
+    (tie.spec box-dims-requires padded-requires slice-aggregate-put put-requires returns)

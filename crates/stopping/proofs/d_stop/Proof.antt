@@ -1,12 +1,12 @@
--- `stopping::glide` meets its contract, kind by kind.
+-- `stopping::d_stop` meets its contract, kind by kind.
 use mathlib.Core.Path.{sym, ap, _∙_}
 use lib.Ieee.{binary64, ofBits}
 use Rattle.envelope.specs.declared.BrakeKind.{BrakeKind}
-use Rattle.stopping.specs.Rule.{glide}
+use Rattle.stopping.specs.Rule.{dStop}
 use Rattle.checked.specs.Of.{reckonedFrom}
 use borrow.Author.Needs.{needs}
-use Rattle.stopping.proofs.glide.Statement.{statement}
-use Rattle.stopping.proofs.glide.Tie as tie
+use Rattle.stopping.proofs.d_stop.Statement.{statement}
+use Rattle.stopping.proofs.d_stop.Tie as tie
 
 enum-known-brake : tie.Need-enum-known-brake
 enum-known-brake c = search needs
@@ -42,27 +42,27 @@ ramp-requires-3 : tie.Need-ramp-requires-3
 ramp-requires-3 c κs = search needs
 
 returns : tie.Need-returns
-unfolding glide ofBits
-returns c = let s = c .before .before .before .args in sym (ap (λ (b : BrakeKind). reckonedFrom (glide binary64 b (s .a) (s .j) (s .s))) (c .before .brake .given .1))
+unfolding dStop ofBits
+returns c = let s = c .before .before .before .args in sym (ap (λ (b : BrakeKind). reckonedFrom (dStop binary64 b (s .a) (s .j) (s .s))) (c .before .brake .given .1))
 
 returns-2 : tie.Need-returns-2
-unfolding glide
-returns-2 c = let s = c .before .before .before .before .args in c .quotient .ensures ∙ sym (ap (λ (b : BrakeKind). reckonedFrom (glide binary64 b (s .a) (s .j) (s .s))) (c .before .before .brake2 .given .1))
+unfolding dStop
+returns-2 c = let s = c .before .before .before .before .args in c .quotient .ensures ∙ sym (ap (λ (b : BrakeKind). reckonedFrom (dStop binary64 b (s .a) (s .j) (s .s))) (c .before .before .brake2 .given .1))
 
 returns-3 : tie.Need-returns-3
-unfolding glide
-returns-3 c = let s = c .before .before .before .before .args in c .ramp .ensures ∙ sym (ap (λ (b : BrakeKind). reckonedFrom (glide binary64 b (s .a) (s .j) (s .s))) (c .before .before .brake3 .given .1))
+unfolding dStop
+returns-3 c = let s = c .before .before .before .before .args in c .ramp .ensures ∙ sym (ap (λ (b : BrakeKind). reckonedFrom (dStop binary64 b (s .a) (s .j) (s .s))) (c .before .before .brake3 .given .1))
 
 returns-4 : tie.Need-returns-4
-unfolding glide
-returns-4 c = let s = c .before .before .before .before .before .before .args in rw (c .sum .ensures, c .before .ease .ensures, c .before .before .ramp2 .ensures) (sym (ap (λ (b : BrakeKind). reckonedFrom (glide binary64 b (s .a) (s .j) (s .s))) (c .before .before .before .before .brake4 .given .1)))
+unfolding dStop
+returns-4 c = let s = c .before .before .before .before .before .before .args in rw (c .sum .ensures, c .before .ease .ensures, c .before .before .ramp2 .ensures) (sym (ap (λ (b : BrakeKind). reckonedFrom (dStop binary64 b (s .a) (s .j) (s .s))) (c .before .before .before .before .brake4 .given .1)))
 
 returns-5 : tie.Need-returns-5
-unfolding glide
-returns-5 c = let s = c .before .before .before .before .args in c .ramp3 .ensures ∙ sym (ap (λ (b : BrakeKind). reckonedFrom (glide binary64 b (s .a) (s .j) (s .s))) (c .before .before .brake5 .given .1))
+unfolding dStop
+returns-5 c = let s = c .before .before .before .before .args in c .ramp3 .ensures ∙ sym (ap (λ (b : BrakeKind). reckonedFrom (dStop binary64 b (s .a) (s .j) (s .s))) (c .before .before .brake5 .given .1))
 
-pub glide-spec : {M : Type 1} → statement M
-glide-spec =
+pub d-stop-spec : {M : Type 1} → statement M
+d-stop-spec =
     tie.close
     (tie.spec
     enum-known-brake

@@ -1,4 +1,4 @@
--- `tier0::projected::moved` meets its contract: bit by bit, each below the next power of two.
+-- `tier0::projected::moved_dims` meets its contract: bit by bit, each below the next power of two.
 use Prim.Native.Nat.{ℕ, _≤_, _-_, _^_}
 use mathlib.Core.Path.{_≡_, refl}
 use native.Mathlib.Nat.{le-antisymm}
@@ -9,12 +9,12 @@ use lib.Ieee.{ne}
 use Rattle.checked.specs.Each.{at}
 use Rattle.bits.specs.Bits.{bitsWhere}
 use Rattle.bits.proofs.Bits.{Turned, turn}
-use Rattle.tier0.specs.Rule.{moved}
-use Rattle.tier0.proofs.projected.moved.Statement.{statement}
-use Rattle.tier0.proofs.projected.moved.Tie as tie
+use Rattle.tier0.specs.Rule.{movedDims}
+use Rattle.tier0.proofs.projected.moved_dims.Statement.{statement}
+use Rattle.tier0.proofs.projected.moved_dims.Tie as tie
 
 abbrev Inv-loop : tie.InvT-loop
-Inv-loop a b n m₀ w₀ i₀ m w i = (i ≤ n) × ((w ≡ 2 ^ i) × (m ≡ moved a b i))
+Inv-loop a b n m₀ w₀ i₀ m w i = (i ≤ n) × ((w ≡ 2 ^ i) × (m ≡ movedDims a b i))
 
 abbrev μ-loop : tie.MeasureT-loop
 μ-loop a b n m₀ w₀ i₀ m w i = n - i
@@ -59,8 +59,8 @@ loop-again c = let t = turned c in (omega arith, (t .next, t .so-far))
 returns : tie.Need-returns Inv-loop μ-loop
 returns c = rw (le-antisymm (c .before .loop .inv .0) (c .loop-test .left)) at (c .before .loop .inv .1 .1)
 
-pub moved-spec : {M : Type 1} → statement M
-moved-spec =
+pub moved-dims-spec : {M : Type 1} → statement M
+moved-dims-spec =
     tie.close
     (tie.spec
     Inv-loop

@@ -1,4 +1,4 @@
--- `stopping::stopping` meets its contract: the start, then the committed rows, come along all the entries (`Along`).
+-- `stopping::closed_form` meets its contract: the start, then the committed rows, come along all the entries (`Along`).
 use Prim.Native.Nat.{suc, _<_}
 use mathlib.Core.Path.{_≡_, refl, sym, ap, _∙_}
 use mathlib.Core.Bool.{true}
@@ -16,8 +16,8 @@ use Rattle.checked.specs.Of.{reckonedFrom}
 use Rattle.course.specs.Of.{leftOf, shaped}
 use Rattle.course.proofs.Room.{shape-of}
 use Rattle.stopping.proofs.Room.{room-of}
-use Rattle.stopping.proofs.stopping.Statement.{statement}
-use Rattle.stopping.proofs.stopping.Tie as tie
+use Rattle.stopping.proofs.closed_form.Statement.{statement}
+use Rattle.stopping.proofs.closed_form.Tie as tie
 
 roomy-requires : tie.Need-roomy-requires
 roomy-requires c κs = search needs
@@ -76,8 +76,8 @@ returns-2 c =
     let a = along-whole (c .before .before) in
     rw (has-room (c .before .before .before .before .before .before .before .before .before .before)) (run-is (forecast binary64 (task s)) (stand binary64 (task s)) (now (s .args .slack)) _ _ a, written-is (forecast binary64 (task s)) (stand binary64 (task s)) (now (s .args .slack)) _ _ a)
 
-pub stopping-spec : {M : Type 1} → statement M
-stopping-spec =
+pub closed-form-spec : {M : Type 1} → statement M
+closed-form-spec =
     tie.close
     (tie.spec
     roomy-requires

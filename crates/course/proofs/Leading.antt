@@ -7,35 +7,35 @@ use native.Mathlib.Numerals.{add-one}
 use native.Mathlib.Omega.{arith}
 use Rattle.bits.specs.Choice.{if_then_else_}
 use Rattle.checked.specs.Each.{all}
-use Rattle.course.specs.Forecast.{reach}
+use Rattle.course.specs.Forecast.{leading}
 
 module _ (ok : ℕ → Bool) where
   pub all-next : (k : ℕ) → all ok (k + 1) ≡ all ok k && ok k
   unfolding all
   all-next k = rw add-one
 
-  pub reach-whole : (k : ℕ) → all ok k ≡ true → reach ok k ≡ k
-  unfolding reach
-  reach-whole zero h = refl
-  reach-whole (suc k) h = rw h
+  pub leading-whole : (k : ℕ) → all ok k ≡ true → leading ok k ≡ k
+  unfolding leading
+  leading-whole zero h = refl
+  leading-whole (suc k) h = rw h
 
   -- one entry more that is finite, and one that is not
-  pub reach-more : (k : ℕ) → all ok (k + 1) ≡ true → reach ok (k + 1) ≡ k + 1
-  reach-more k h = reach-whole (k + 1) h
+  pub leading-more : (k : ℕ) → all ok (k + 1) ≡ true → leading ok (k + 1) ≡ k + 1
+  leading-more k h = leading-whole (k + 1) h
 
-  pub reach-stays : (k : ℕ) → all ok (k + 1) ≡ false → reach ok (k + 1) ≡ reach ok k
-  unfolding reach
-  reach-stays k h = rw add-one (go (rw add-one at h))
+  pub leading-stays : (k : ℕ) → all ok (k + 1) ≡ false → leading ok (k + 1) ≡ leading ok k
+  unfolding leading
+  leading-stays k h = rw add-one (go (rw add-one at h))
     where
-      go : all ok (suc k) ≡ false → reach ok (suc k) ≡ reach ok k
+      go : all ok (suc k) ≡ false → leading ok (suc k) ≡ leading ok k
       go e = rw e
 
-  pub reach-le : (n : ℕ) → reach ok n ≤ n
-  unfolding reach
-  reach-le zero = omega arith
-  reach-le (suc n) = go (all ok (suc n)) (reach-le n)
+  pub leading-le : (n : ℕ) → leading ok n ≤ n
+  unfolding leading
+  leading-le zero = omega arith
+  leading-le (suc n) = go (all ok (suc n)) (leading-le n)
     where
-      go : (b : Bool) → reach ok n ≤ n → (if b then suc n else reach ok n) ≤ suc n
+      go : (b : Bool) → leading ok n ≤ n → (if b then suc n else leading ok n) ≤ suc n
       go true h = omega arith
       go false h = omega arith
 
