@@ -63,7 +63,7 @@ use Rattle.tier1.proofs.one_tick.Reads as one-tick
 use Rattle.course.proofs.rows_left.Reads as rows-left
 use Rattle.rollout.proofs.rollout.Reads as rollout
 use Rattle.rollout.proofs.stop_distance.Reads as rollout-stop-distance
-use Rattle.stopping.proofs.closed_form.Reads as stopping
+use Rattle.stopping.proofs.closed_form.Reads as closed-form
 use Rattle.stopping.proofs.stop_distance.Reads as stopping-stop-distance
 use Rattle.brake.proofs.brake_feasible.Reads as brake-feasible
 use Rattle.brake.proofs.brake_action.Reads as brake-action
