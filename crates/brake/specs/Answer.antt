@@ -1,4 +1,4 @@
--- What module 7's entries judge, and what they answer.
+-- What the brake's entries judge (R7), and what they answer.
 use Prim.Native.Nat.{ℕ, zero, suc}
 use mathlib.Core.Bool.{Bool, not, _||_}
 use mathlib.Core.List.{List, [], _∷_, _++_}

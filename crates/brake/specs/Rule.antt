@@ -30,7 +30,7 @@ use Rattle.stopping.specs.Rule as stopping
 abbrev pub live : FuseConfig → ℕ
 live c = min (c .dim) (c .«pos_dim»)
 
--- the walls that module 4 derives
+-- the walls that are derived (R4)
 abbrev pub wallsAt : Format → FuseConfig → Walls
 wallsAt f c = record { lo = derived f c .«box_lo»; hi = derived f c .«box_hi» }
 

@@ -55,7 +55,7 @@ pub enum Sent {
     Refused(Refusal),
 }
 
-// The walls that module 4 derives.
+// The walls that are derived (R4).
 fn workspace_of(d: Derived) -> Workspace
     ensures { λ r. ⌜ r ≡ workspaceFrom d ⌝ }
 {
@@ -272,7 +272,7 @@ fn forecast_refusal(
 
 // Whether the arm can still stop inside its walls: from row `from` through the committed rows and the braking after them. The slack
 // entries are filled in order and the rest stays. A computed number that isn't finite is refused with its place, the entries before it
-// being written; any other refusal, by the lowest number that applies, writes nothing.
+// being written; any other refusal, by the first number of the order that applies, writes nothing.
 pub fn brake_feasible(
     c: FuseConfig,
     center: &[f64; 192],
@@ -426,7 +426,7 @@ fn row_refusal(c: FuseConfig, number: u8, unfit: bool, room: usize) -> u8
     0
 }
 
-// The row that brakes, written over the output's first dim numbers. A refusal, by the lowest number that applies, writes nothing.
+// The row that brakes, written over the output's first dim numbers. A refusal, by the first number of the order that applies, writes nothing.
 pub fn brake_action(
     c: FuseConfig,
     center: &[f64; 192],

@@ -1,4 +1,4 @@
--- The answers of module 8's entries: the number of the first refusal that applies, or what the rule gives.
+-- The answers of the gate's entries (R8): the number of the first refusal that applies, or what the rule gives.
 use Prim.Native.Nat.{ℕ}
 use mathlib.Core.Bool.{Bool, true, not}
 use mathlib.Core.List.{[], _∷_, List}

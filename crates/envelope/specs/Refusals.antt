@@ -75,7 +75,7 @@ scalarsOk d =
     (finite (d .«inv_dt») ∷ finite (d .«inv_dt2») ∷ finite (d .«inv_dt3») ∷ finite (d .«step_max»)
     ∷ finite (d .«norm_scale_iso») ∷ [])
 
--- what module 4 derives is finite, and the walls that it moved inward have not crossed
+-- what is derived (R4) is finite, and the walls that it moved inward have not crossed
 unfoldable pub derivedOk : Derived → Bool
 derivedOk d =
     every

@@ -1,4 +1,4 @@
-// The guard's configuration, what module 4 derives from it, and why it is refused.
+// The guard's configuration, what is derived from it (R4), and why it is refused.
 ghost use mathlib.Core.Path.{_≡_};
 ghost use Prim.Native.Nat.{min};
 ghost use lib.Ieee.{binary64};
@@ -116,7 +116,7 @@ pub struct FuseConfig {
     pub horizon_ticks: u32,
 }
 
-// What module 4 derives.
+// What is derived from a configuration (R4).
 pub struct Derived {
     pub inv_dt: f64,
     pub inv_dt2: f64,

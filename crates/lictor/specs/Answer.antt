@@ -46,7 +46,7 @@ fitting fits n = if fits then n else 255
 abbrev pub written : {A : Type 0} → ℕ → A → A → A
 written n new old = if eqb n 0 then new else old
 
--- ---- module 1: a number
+-- ---- fmath (R1): a number
 
 unfoldable pub numberOf : Number → ℕ
 numberOf (N.Value x) = 0
@@ -61,14 +61,14 @@ pub record NumberGiven (a : Number) (r : ℕ) (old new : Float) : Type 0 where
   pub number : r ≡ numberOf a
   pub value : new ≡ valueOf a old
 
--- ---- module 2: a buffer, in 512 numbers and 6 counts
+-- ---- chunk (R2): a buffer, in 512 numbers and 6 counts
 
 pub record FilledGiven (a : Filled) (r : ℕ) (d₀ d : List Float) (h₀ h : List ℕ) : Type 0 where
   pub number : r ≡ a .number
   pub numbers : d ≡ written (a .number) (a .buf .«data») d₀
   pub header : h ≡ written (a .number) (headerFlat (a .buf)) h₀
 
--- ---- module 3: a mask
+-- ---- window (R3): a mask
 
 unfoldable pub maskNumber : Masked → ℕ
 maskNumber (M.Mask m) = 0
@@ -115,13 +115,13 @@ pub record EmptinessGiven (a : Emptiness) (r old new : ℕ) : Type 0 where
   pub number : r ≡ emptinessNumber a
   pub empty : new ≡ emptinessValue a old
 
--- ---- module 4: what is derived, in 29 numbers
+-- ---- envelope (R4): what is derived, in 29 numbers
 
 pub record DerivedGiven (n : ℕ) (d : Derived) (r : ℕ) (old new : List Float) : Type 0 where
   pub number : r ≡ n
   pub numbers : new ≡ written n (derivedFlat d) old
 
--- ---- module 5: trips and clamped_dims in 2 counts, a speed, and the output
+-- ---- tier0 (R5): trips and clamped_dims in 2 counts, a speed, and the output
 
 unfoldable pub checkNumber : Tier0Out → ℕ
 checkNumber (T.Passed trips dims speed) = 0
@@ -148,7 +148,7 @@ pub record CheckGiven (fits : Bool) (a : Tier0Out) (l : List Float) (r : ℕ) (m
   pub speed : x ≡ (if fits then checkSpeed a x₀ else x₀)
   pub output : o ≡ (if fits then l else o₀)
 
--- ---- module 6: the chunk before, whose header stays where no chunk came, the held features with their 2 counts, and the scores; the trail is only read
+-- ---- tier1 (R6): the chunk before, whose header stays where no chunk came, the held features with their 2 counts, and the scores; the trail is only read
 
 pub record FeaturedGiven (fits came : Bool) (a : Featured) (r : ℕ) (d₀ d : List Float) (h₀ h : List ℕ) (f₀ f : List Float) (c₀ c : List ℕ) (s₀ s : List Float) (m₀ m : List ℕ) : Type 0 where
   pub number : r ≡ fitting fits (a .refusal .number)
@@ -178,7 +178,7 @@ pub record ClearedGiven (fits : Bool) (a : Cleared) (r : ℕ) (d₀ d : List Flo
   pub held : f ≡ written (fitting fits (a .refusal .number)) (a .rt .held) f₀
   pub kept : c ≡ written (fitting fits (a .refusal .number)) (heldMarks (a .rt .«have_prev») (a .rt .«held_valid»)) c₀
 
--- ---- module 7: count and feasible in 2 counts, margin and stop distance in 2 numbers, the place of a refusal, and the slacks
+-- ---- brake (R7): count and feasible in 2 counts, margin and stop distance in 2 numbers, the place of a refusal, and the slacks
 
 unfoldable pub forecastNumber : BrakeOut → ℕ
 forecastNumber (F.Accepted count margin feasible stop) = 0
@@ -219,7 +219,7 @@ pub record SentGiven (fits : Bool) (a : Sent) (l : List Float) (r : ℕ) (o₀ o
   pub number : r ≡ fitting fits (sentNumber a)
   pub output : o ≡ (if fits then l else o₀)
 
--- ---- module 8: scores, a verdict, a time bin
+-- ---- conformal (R8): scores, a verdict, a time bin
 
 pub record ScoredGiven (fits : Bool) (a : Scored) (r : ℕ) (s₀ s : List Float) (m₀ m : List ℕ) : Type 0 where
   pub number : r ≡ fitting fits (a .refusal .number)

@@ -47,7 +47,7 @@ pub extern "C" fn lictor_environment(one: f64, least: f64) -> u64
     ((up == one) & (down == one) & (0.0 < half)) as u64
 }
 
-// ---- module 1
+// ---- fmath (R1)
 
 #[no_mangle]
 pub extern "C" fn lictor_min(a: f64, b: f64) -> f64
@@ -91,7 +91,7 @@ pub extern "C" fn lictor_dist(a: &[f64], b: &[f64], n: usize, dist: &mut f64) ->
     answer::put_number(fmath::dist(a, b, n), dist)
 }
 
-// ---- module 2
+// ---- chunk (R2)
 
 #[no_mangle]
 pub extern "C" fn lictor_fill(
@@ -153,7 +153,7 @@ pub extern "C" fn lictor_held_rows(
     chunk::held_rows(numbers, horizon, dim, filled != 0).len()
 }
 
-// ---- module 3
+// ---- window (R3)
 
 #[no_mangle]
 pub extern "C" fn lictor_mask(n: u8, mask: &mut u64) -> u64
@@ -254,7 +254,7 @@ pub extern "C" fn lictor_trail_is_empty(
     answer::put_emptiness(said, empty)
 }
 
-// ---- module 4
+// ---- envelope (R4)
 
 #[no_mangle]
 pub extern "C" fn lictor_derive(
@@ -273,7 +273,7 @@ pub extern "C" fn lictor_derive(
     answer::put_derived(number, compiled.derived, out)
 }
 
-// ---- module 8
+// ---- conformal (R8)
 
 fn calibration(tau: f64, mask: u32, n_terms: u8, terms: &[u32; 8]) -> Calibration
     ensures { λ r. ⌜ r ≡ calibrationAsked tau mask «n_terms» (now (terms .entry)) ⌝ }

@@ -44,7 +44,7 @@ flag b = if b then 1 else 0
 abbrev pub refused : Refusal → List ℕ
 refused r = r .number ∷ r .place ∷ []
 
--- ---- module 7: the desk's cards
+-- ---- brake (R7): the desk's cards
 
 abbrev pub 1! : ℕ
 1! = 0x3ff0_0000_0000_0000
@@ -81,7 +81,7 @@ forecastTold (forecast.Refused r) = refused r
 abbrev pub forecastOf : Card → ℕ → List ℕ
 forecastOf c room = forecastTold (outcomeOf c room) ++ map bits (slacksOf c (replicate room +0))
 
--- ---- module 1
+-- ---- fmath (R1)
 
 abbrev pub numberTold : Number → List ℕ
 numberTold (number.Value x) = 0 ∷ bits x ∷ []
@@ -90,7 +90,7 @@ numberTold (number.Refused r) = refused r
 abbrev pub rootOf : ℕ → List ℕ
 rootOf x = numberTold (sqrtAnswer binary64 (num x))
 
--- ---- module 5: two coordinates, SPEED alone armed, step 5
+-- ---- tier0 (R5): two coordinates, SPEED alone armed, step 5
 
 abbrev pub plane : FuseConfig
 plane = record {
@@ -122,7 +122,7 @@ rowOf x y =
     let origin = +0 ∷ +0 ∷ [] in
     checkTold (chunkAnswer binary64 plane tablesOf origin [] row 1 2 1 2) ++ map bits (chunkOut binary64 plane tablesOf origin [] row 1 2 1 origin)
 
--- ---- module 3: pushes in the order in which they come, with one window length n
+-- ---- window (R3): pushes in the order in which they come, with one window length n
 
 abbrev pub windowAfter : ℕ → List Bool → Window → Window
 windowAfter n [] w = w
@@ -132,7 +132,7 @@ windowAfter n (hit ∷ l) w = windowAfter n l (pushedOf w hit (maskFor n))
 abbrev pub windowOf : ℕ → List Bool → List ℕ
 windowOf n l = let w = windowAfter n l emptyWindow in w .bits ∷ hitsIn (w .bits) ∷ []
 
--- ---- module 8: terms {0,1} and {0}, tau 2, z (2,1)
+-- ---- conformal (R8): terms {0,1} and {0}, tau 2, z (2,1)
 
 abbrev pub gate : Calibration
 gate = record {

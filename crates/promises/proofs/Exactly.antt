@@ -59,7 +59,7 @@ chosen : {A : Type 0} (told : A → ℕ) (n : ℕ) (a b : A) → told a ≡ 0 �
 chosen told zero a b p q = p
 chosen told (suc k) a b p q = rw (ne-eqb (suc k) 0 (λ z. omega arith)) q
 
--- ---- module 1
+-- ---- fmath (R1)
 
 number-told : (n : ℕ) (x : Float) → numberIn (numberOr n x) ≡ n
 unfolding numberIn
@@ -75,7 +75,7 @@ norm-exactly f v n = exactly _ (number-told _ _)
 pub dist-exactly : (f : Format) (a b : List Float) (n : ℕ) → Exactly (numberIn (distAnswer f a b n)) (among (short when (ltb (length a) n || ltb (length b) n) ∷ notFinite when (someNotFinite a || someNotFinite b) ∷ computed when not (dist f a b n .sound) ∷ []))
 dist-exactly f a b n = exactly _ (number-told _ _)
 
--- ---- module 2
+-- ---- chunk (R2)
 
 pub chunk-refusal-exactly : (h d e n : ℕ) → Exactly (refusal (chunkReasons h d e n)) (among (chunkReasons h d e n))
 chunk-refusal-exactly h d e n = exactly _ refl
@@ -111,7 +111,7 @@ pub fill-exactly : (b : ChunkBuf) (s t h d e : ℕ) (l : List Float) → Exactly
 unfolding fillOf
 fill-exactly b s t h d e l = exactly _ (chosen (λ (r : Filled). r .number) (refusal (lentReasons l h d e)) _ _ refl refl)
 
--- ---- module 3
+-- ---- window (R3)
 
 pub mask-exactly : (n : ℕ) → Exactly (maskNumber (maskOf n)) (among (size when (ltb n 1 || ltb 63 n) ∷ []))
 unfolding maskNumber
@@ -141,12 +141,12 @@ pub is-empty-exactly : (t : Trail) → Exactly (emptinessNumber (emptinessOf t))
 unfolding emptinessNumber emptinessOf
 is-empty-exactly t = exactly _ (chosen emptinessNumber (refusal (trailReasons t)) _ _ refl refl)
 
--- ---- module 4
+-- ---- envelope (R4)
 
 pub config-exactly : (c : FuseConfig) (tabs : Tables) → Exactly (refusal (configJudged binary64 c tabs)) (among (configJudged binary64 c tabs))
 config-exactly c tabs = exactly _ refl
 
--- ---- module 5
+-- ---- tier0 (R5)
 
 check-told : (n : ℕ) (j : Judgement) → checkNumber (checks.answerAt n j) ≡ n
 unfolding checkNumber
@@ -165,7 +165,7 @@ pub check-chunk-exactly :
 unfolding chunkAnswer chunkRefusal
 check-chunk-exactly c tabs p aux rows h d e room = exactly _ (check-told _ _)
 
--- ---- module 6
+-- ---- tier1 (R6)
 
 pub features-exactly :
     (c : FuseConfig) (tabs : Tables) (p ext : List Float) (there : Bool) (k : Head) (rows : List Float) (rt : Tier1Rt) (sc : Scores)
@@ -185,7 +185,7 @@ reset-exactly rt = exactly _ (told _)
     told zero = refl
     told (suc n) = refl
 
--- ---- module 7
+-- ---- brake (R7)
 
 applied : (applies : Reason → Bool) (l : List Reason) (k : Reason) → First applies l k → applies k ≡ true
 applied applies l k (here e) = e
@@ -230,7 +230,7 @@ pub hold-action-exactly : (c : FuseConfig) (tabs : Tables) (p : List Float) (roo
 unfolding holdAnswer holdRefusal
 hold-action-exactly c tabs p room = exactly _ (sent-told _)
 
--- ---- module 8
+-- ---- conformal (R8)
 
 -- what is judged of a calibration and scores, by whether each number that was computed is finite
 abbrev scoresJudged : Calibration → Tables → Scores → Bool → List Judged

@@ -129,7 +129,7 @@ With6 {L} {A} {R} {E} Post b c d e f g = (l : L) (a : A) (r s : R) (x y : E) →
 pub one-lictor-environment : One lictor-environment.Post (λ r x. r)
 one-lictor-environment l a r s x y = unique
 
--- ---- module 1
+-- ---- fmath (R1)
 
 pub one-lictor-min : One lictor-min.Post (λ r x. r)
 one-lictor-min l a r s x y = unique
@@ -149,7 +149,7 @@ one-lictor-norm l a r s x y = number-given
 pub one-lictor-dist : OneWithLent lictor-dist.Post (λ x. x .1 .1 .1 .0 .now)
 one-lictor-dist l a r s x y = number-given
 
--- ---- module 2
+-- ---- chunk (R2)
 
 pub one-lictor-fill : With2 lictor-fill.Post (λ x. x .0 .now) (λ x. x .1 .0 .now)
 one-lictor-fill l a r s x y = filled-given
@@ -163,7 +163,7 @@ one-lictor-set-row l a r s x y = unique
 pub one-lictor-held-rows : One lictor-held-rows.Post (λ r x. r)
 one-lictor-held-rows l a r s x y = unique
 
--- ---- module 3
+-- ---- window (R3)
 
 pub one-lictor-mask : OneWithLent lictor-mask.Post (λ x. x .1 .0 .now)
 one-lictor-mask l a r s x y = mask-given
@@ -192,12 +192,12 @@ one-lictor-trail-len l a r s x y = count-given
 pub one-lictor-trail-is-empty : OneWithLent lictor-trail-is-empty.Post (λ x. x .1 .1 .0 .now)
 one-lictor-trail-is-empty l a r s x y = emptiness-given
 
--- ---- module 4
+-- ---- envelope (R4)
 
 pub one-lictor-derive : OneWithLent lictor-derive.Post (λ x. x .1 .1 .1 .1 .0 .now)
 one-lictor-derive l a r s x y = derived-given
 
--- ---- module 5
+-- ---- tier0 (R5)
 
 pub one-lictor-check-chunk : With3 lictor-check-chunk.Post (λ x. x .1 .1 .1 .1 .1 .1 .1 .1 .1 .1 .1 .0 .now) (λ x. x .1 .1 .1 .1 .1 .1 .1 .1 .1 .1 .1 .1 .0 .now) (λ x. x .1 .1 .1 .1 .1 .1 .1 .1 .1 .1 .0 .now)
 one-lictor-check-chunk l a r s x y = check-given
@@ -205,7 +205,7 @@ one-lictor-check-chunk l a r s x y = check-given
 pub one-lictor-check-action : With3 lictor-check-action.Post (λ x. x .1 .1 .1 .1 .1 .1 .1 .1 .1 .0 .now) (λ x. x .1 .1 .1 .1 .1 .1 .1 .1 .1 .1 .0 .now) (λ x. x .1 .1 .1 .1 .1 .1 .1 .1 .0 .now)
 one-lictor-check-action l a r s x y = check-given
 
--- ---- module 6
+-- ---- tier1 (R6)
 
 pub one-lictor-features : With6 lictor-features.Post (λ x. x .1 .1 .1 .1 .0 .now) (λ x. x .1 .1 .1 .1 .1 .0 .now) (λ x. x .1 .1 .1 .1 .1 .1 .1 .1 .0 .now) (λ x. x .1 .1 .1 .1 .1 .1 .1 .1 .1 .0 .now) (λ x. x .1 .1 .1 .1 .1 .1 .1 .1 .1 .1 .1 .1 .1 .1 .1 .1 .1 .1 .1 .0 .now) (λ x. x .1 .1 .1 .1 .1 .1 .1 .1 .1 .1 .1 .1 .1 .1 .1 .1 .1 .1 .1 .1 .0 .now)
 one-lictor-features l a r s x y = featured-given
@@ -216,7 +216,7 @@ one-lictor-tier1-new l a r s x y = state-laid
 pub one-lictor-tier1-reset : With6 lictor-tier1-reset.Post (λ x. x .0 .now) (λ x. x .1 .0 .now) (λ x. x .1 .1 .0 .now) (λ x. x .1 .1 .1 .0 .now) (λ x. x .1 .1 .1 .1 .0 .now) (λ x. x .1 .1 .1 .1 .1 .0 .now)
 one-lictor-tier1-reset l a r s x y = cleared-given
 
--- ---- module 7
+-- ---- brake (R7)
 
 pub one-lictor-brake-feasible : With4 lictor-brake-feasible.Post (λ x. x .1 .1 .1 .1 .1 .1 .1 .1 .1 .1 .1 .1 .0 .now) (λ x. x .1 .1 .1 .1 .1 .1 .1 .1 .1 .1 .1 .1 .1 .0 .now) (λ x. x .1 .1 .1 .1 .1 .1 .1 .1 .1 .1 .1 .1 .1 .1 .0 .now) (λ x. x .1 .1 .1 .1 .1 .1 .1 .1 .1 .1 .1 .0 .now)
 one-lictor-brake-feasible l a r s x y = forecast-given
@@ -227,7 +227,7 @@ one-lictor-brake-action l a r s x y = sent-given
 pub one-lictor-hold-action : OneWithLent lictor-hold-action.Post (λ x. x .1 .1 .1 .1 .1 .0 .now)
 one-lictor-hold-action l a r s x y = sent-given
 
--- ---- module 8
+-- ---- conformal (R8)
 
 pub one-lictor-standardise : With2 lictor-standardise.Post (λ x. x .1 .1 .1 .1 .1 .1 .1 .0 .now) (λ x. x .1 .1 .1 .1 .1 .1 .1 .1 .0 .now)
 one-lictor-standardise l a r s x y = scored-given

@@ -129,12 +129,12 @@ OneWithLent {L} {A} {R} {E} Post lent = (l : L) (a : A) (r s : R) (x y : E) → 
 abbrev BothLent : {L A R E B C : Type 0} → (L → A → R → E → Type 0) → (E → B) → (E → C) → Type 0
 BothLent {L} {A} {R} {E} Post first second = (l : L) (a : A) (r s : R) (x y : E) → Post l a r x → Post l a s y → (first x ≡ first y) × (second x ≡ second y)
 
--- ---- root (module 1)
+-- ---- root (R1)
 
 pub one-root-sqrt : One root-sqrt.Post (λ r x. r)
 one-root-sqrt l a r s x y = unique
 
--- ---- fmath (module 1)
+-- ---- fmath (R1)
 
 pub one-finite : One finite.Post (λ r x. r)
 one-finite l a r s x y = unique
@@ -187,7 +187,7 @@ one-norm l a r s x y = unique
 pub one-dist : One dist.Post (λ r x. r)
 one-dist l a r s x y = unique
 
--- ---- chunk (module 2)
+-- ---- chunk (R2)
 
 pub one-chunk-refusal : One chunk-refusal.Post (λ r x. r)
 one-chunk-refusal l a r s x y = unique
@@ -219,7 +219,7 @@ one-held-rows l a r s x y = unique
 pub one-action : One action.Post (λ r x. r .now)
 one-action l a r s x y = unique
 
--- ---- window (module 3)
+-- ---- window (R3)
 
 pub one-mask : One mask.Post (λ r x. r)
 one-mask l a r s x y = unique
@@ -269,7 +269,7 @@ one-trail-len l a r s x y = unique
 pub one-trail-is-empty : One trail-is-empty.Post (λ r x. r)
 one-trail-is-empty l a r s x y = unique
 
--- ---- envelope (module 4)
+-- ---- envelope (R4)
 
 pub one-substeps-in : One substeps-in.Post (λ r x. r)
 one-substeps-in l a r s x y = unique
@@ -300,7 +300,7 @@ one-slack-abreast l a r s x y = unique
 pub one-slack-within : One slack-within.Post (λ r x. r)
 one-slack-within l a r s x y = unique
 
--- ---- tier0 (module 5)
+-- ---- tier0 (R5)
 
 pub one-check-action : OneWithLent check-action.Post (λ x. x .1 .1 .1 .1 .1 .1 .1 .0 .now)
 one-check-action l a r s x y = both
@@ -308,7 +308,7 @@ one-check-action l a r s x y = both
 pub one-check-chunk : OneWithLent check-chunk.Post (λ x. x .1 .1 .1 .1 .1 .1 .1 .1 .1 .0 .now)
 one-check-chunk l a r s x y = both
 
--- ---- tier1 (module 6)
+-- ---- tier1 (R6)
 
 pub one-tier1-rt-new : One tier1-rt-new.Post (λ r x. r)
 one-tier1-rt-new l a r s x y = unique
@@ -322,7 +322,7 @@ one-features l a r s x y = unique
 pub one-one-tick : One one-tick.Post (λ r x. r)
 one-one-tick l a r s x y = unique
 
--- ---- rollout (module 7)
+-- ---- rollout (R7)
 
 pub one-rows-left : One rows-left.Post (λ r x. r .0)
 one-rows-left l a r s x y = unique
@@ -333,7 +333,7 @@ one-rollout l a r s x y = both
 pub one-rollout-stop-distance : One rollout-stop-distance.Post (λ r x. r)
 one-rollout-stop-distance l a r s x y = unique
 
--- ---- stopping (module 7)
+-- ---- stopping (R7)
 
 pub one-closed-form : OneWithLent closed-form.Post (λ x. x .1 .1 .1 .1 .1 .1 .0 .now)
 one-closed-form l a r s x y = both
@@ -341,7 +341,7 @@ one-closed-form l a r s x y = both
 pub one-stopping-stop-distance : One stopping-stop-distance.Post (λ r x. r)
 one-stopping-stop-distance l a r s x y = unique
 
--- ---- brake (module 7)
+-- ---- brake (R7)
 
 pub one-brake-feasible : OneWithLent brake-feasible.Post (λ x. x .1 .1 .1 .1 .1 .1 .1 .1 .1 .1 .0 .now)
 one-brake-feasible l a r s x y = both
@@ -352,7 +352,7 @@ one-brake-action l a r s x y = both
 pub one-hold-action : OneWithLent hold-action.Post (λ x. x .1 .1 .1 .1 .0 .now)
 one-hold-action l a r s x y = both
 
--- ---- conformal (module 8)
+-- ---- conformal (R8)
 
 pub one-sizes-ok : One sizes-ok.Post (λ r x. r)
 one-sizes-ok l a r s x y = unique

@@ -190,7 +190,7 @@ fn judge_action(s: Checks, pos: &[f64], aux: &[f64], prev: &[f64], a: &[f64]) ->
 }
 
 // The check of the action a against its predecessor: which limits it exceeds, its speed, and, in out, its projection; the
-// rest of out stays. A refusal, by the lowest number that applies, leaves out as it was.
+// rest of out stays. A refusal, by the first number of the order that applies, leaves out as it was.
 pub fn check_action(
     c: FuseConfig,
     center: &[f64; 192],
@@ -262,7 +262,7 @@ fn judge_chunk(
 }
 
 // The check of a chunk of rows: which limits they exceed, the greatest speed, and, in out, the projected rows; the rest of
-// out stays. A refusal, by the lowest number that applies, leaves out as it was.
+// out stays. A refusal, by the first number of the order that applies, leaves out as it was.
 pub fn check_chunk(
     c: FuseConfig,
     center: &[f64; 192],

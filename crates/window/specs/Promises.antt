@@ -1,4 +1,4 @@
--- What module 3 promises beyond its rules. Pushes are listed newest first.
+-- What window and trail (R3) promise beyond their rules. Pushes are listed newest first.
 use Prim.Native.Nat.{ℕ, _+_, _*_, _/_, _%_, _^_, _≤_, _<_, min}
 use mathlib.Core.Path.{_≡_}
 use mathlib.Core.Bool.{Bool, false}
