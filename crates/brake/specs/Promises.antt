@@ -14,6 +14,7 @@ use Rattle.envelope.specs.declared.ActionKind.{ActionKind}
 use Rattle.envelope.specs.declared.ActionKind.the-variants.{EePosition, EeDelta, JointPosition, JointVelocity, Other}
 use Rattle.envelope.specs.declared.BrakeKind.the-variants.{PdSecondOrder}
 use Rattle.envelope.specs.declared.ControlSteps.{ControlSteps}
+use Rattle.envelope.specs.Promises.{brakedBy}
 use Rattle.envelope.specs.declared.FuseConfig.{FuseConfig}
 use Rattle.workspace.specs.Rule.{slack}
 use Rattle.rollout.specs.Plant.{Gains}
@@ -127,22 +128,13 @@ pub record Demand3 (x : Call) (g : Gains) : Type 0 where
 
 -- the call with another number of braking steps and other lent entries
 abbrev pub withBraking : FuseConfig → ControlSteps → FuseConfig
-withBraking c b = record {
-  kind = c .kind;
-  dim = c .dim;
-  «pos_dim» = c .«pos_dim»;
-  limits = c .limits;
-  norm = c .norm;
-  walls = c .walls;
-  contact = c .contact;
-  brake = record { kind = c .brake .kind; substeps = c .brake .substeps; commit = c .brake .commit; «brake_steps» = b; «react_ticks» = c .brake .«react_ticks» };
-  clamp = c .clamp;
-  armed = c .armed;
-  «aux_count» = c .«aux_count»;
-  calibrated = c .calibrated;
-  calib = c .calib;
-  «horizon_ticks» = c .«horizon_ticks»;
-}
+withBraking c b = brakedBy c (record {
+  kind = c .brake .kind;
+  substeps = c .brake .substeps;
+  commit = c .brake .commit;
+  «brake_steps» = b;
+  «react_ticks» = c .brake .«react_ticks»;
+})
 
 abbrev pub braked : Call → ControlSteps → List Float → Call
 braked x b l = record {

@@ -23,9 +23,9 @@ pub record Fit (f : Format) (c : FuseConfig) (t : Tables) : Type 0 where
   pub counts : stepsOk c ≡ true
   pub apart : channelsFit c ≡ true
 
--- c with other norms, walls, armed bits, calibration and horizon
-abbrev pub altered : FuseConfig → Norm → Box → ℕ → Calibration → ℕ → FuseConfig
-altered c n w bits cal ticks = record {
+-- c with other norms, walls, brake, armed bits, calibration and horizon: the one place where a changed configuration is spelled out
+abbrev pub altered : FuseConfig → Norm → Box → BrakeModel → ℕ → Calibration → ℕ → FuseConfig
+altered c n w b bits cal ticks = record {
   kind = c .kind;
   dim = c .dim;
   «pos_dim» = c .«pos_dim»;
@@ -33,7 +33,7 @@ altered c n w bits cal ticks = record {
   norm = n;
   walls = w;
   contact = c .contact;
-  brake = c .brake;
+  brake = b;
   clamp = c .clamp;
   armed = bits;
   «aux_count» = c .«aux_count»;
@@ -43,13 +43,16 @@ altered c n w bits cal ticks = record {
 }
 
 abbrev pub calibratedBy : FuseConfig → Calibration → ℕ → FuseConfig
-calibratedBy c cal ticks = altered c (c .norm) (c .walls) (c .armed) cal ticks
+calibratedBy c cal ticks = altered c (c .norm) (c .walls) (c .brake) (c .armed) cal ticks
 
 abbrev pub armedBy : FuseConfig → ℕ → FuseConfig
-armedBy c bits = altered c (c .norm) (c .walls) bits (c .calib) (c .«horizon_ticks»)
+armedBy c bits = altered c (c .norm) (c .walls) (c .brake) bits (c .calib) (c .«horizon_ticks»)
 
 abbrev pub measuredBy : FuseConfig → Norm → Box → FuseConfig
-measuredBy c n w = altered c n w (c .armed) (c .calib) (c .«horizon_ticks»)
+measuredBy c n w = altered c n w (c .brake) (c .armed) (c .calib) (c .«horizon_ticks»)
+
+abbrev pub brakedBy : FuseConfig → BrakeModel → FuseConfig
+brakedBy c b = altered c (c .norm) (c .walls) b (c .armed) (c .calib) (c .«horizon_ticks»)
 
 -- two lists that agree on the first n entries
 abbrev pub Agree : ℕ → List Float → List Float → Type 0

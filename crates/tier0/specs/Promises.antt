@@ -13,6 +13,7 @@ use Rattle.workspace.specs.Of.{wallsOf}
 use Rattle.workspace.specs.Rule.{beyond}
 use Rattle.conformal.specs.Rule.{Tables}
 use Rattle.envelope.specs.declared.Contact.the-variants.{None}
+use Rattle.envelope.specs.Promises.{armedBy}
 use Rattle.envelope.specs.declared.FuseConfig.{FuseConfig}
 use Rattle.tier0.specs.declared.Tier0Out.{Tier0Out}
 use Rattle.tier0.specs.declared.Tier0Out.the-variants.{Passed, Refused}
@@ -121,22 +122,7 @@ abbrev pub withoutContact : ℕ → ℕ
 withoutContact armed = armed - bit (raised CONTACT armed) CONTACT
 
 abbrev pub contactUnarmed : FuseConfig → FuseConfig
-contactUnarmed c = record {
-  kind = c .kind;
-  dim = c .dim;
-  «pos_dim» = c .«pos_dim»;
-  limits = c .limits;
-  norm = c .norm;
-  walls = c .walls;
-  contact = c .contact;
-  brake = c .brake;
-  clamp = c .clamp;
-  armed = withoutContact (c .armed);
-  «aux_count» = c .«aux_count»;
-  calibrated = c .calibrated;
-  calib = c .calib;
-  «horizon_ticks» = c .«horizon_ticks»;
-}
+contactUnarmed c = armedBy c (withoutContact (c .armed))
 
 -- ---- all of it
 
