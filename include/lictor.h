@@ -67,7 +67,7 @@ extern "C" {
 
 /* ---- where it runs */
 
-/* What an entry needs of the stack, at most. Measured with the kit's clang 22 at -O3: 18,959 bytes on Arm and 18,904 on x86-64, both by
+/* What an entry needs of the stack, at most. Measured with the kit's clang 22 at -O3: 18,959 bytes on Arm and 18,951 on x86-64, both by
    lictor_tier1_reset. */
 #define LICTOR_STACK 32768
 
