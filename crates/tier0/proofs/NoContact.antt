@@ -24,7 +24,7 @@ use Rattle.tier0.specs.Rule.{WORKSPACE, SPEED, ACCEL, JERK, REACH, CONTA
 use Rattle.tier0.specs.Chunk.{rawRow, startRow, someOutOfBox, someOf, largeAt, tooLarge, nextRow, runRows, projectedRows, checkChunk}
 use Rattle.tier0.specs.Of.{checksOf, actionRuling, actionRefusal, actionAnswer, actionOut, chunkRuling, chunkRefusal, chunkAnswer, chunkOut}
 use Rattle.tier0.specs.Promises.{raised, withoutContact, contactUnarmed, Promised}
-use Rattle.tier0.proofs.Promises.{no-contact}
+use Rattle.tier0.proofs.Promises.{chunk-raised, action-raised, walls-touched, no-contact, outside-radius, no-zone-no-leash, unarmed-action, unarmed-chunk}
 use Rattle.tier0.proofs.Within.{chunk-workspace-touched, chunk-speed-touched, chunk-contact-touched, chunk-accel-touched, chunk-jerk-touched, chunk-reach-touched, chunk-touched, action-workspace-touched, action-speed-touched, action-contact-touched, action-reach-touched, action-touched}
 
 -- ---- every other check is armed as before
@@ -214,4 +214,12 @@ promised = record {
     same-action-answer = no-contact-action-answer f c t none;
     same-action-row = no-contact-action-row f c t none;
   };
+  chunk-raised = chunk-raised;
+  action-raised = action-raised;
+  walls-touched = walls-touched;
+  no-contact = no-contact;
+  outside-radius = outside-radius;
+  no-zone-no-leash = no-zone-no-leash;
+  unarmed-action = unarmed-action;
+  unarmed-chunk = unarmed-chunk;
 }

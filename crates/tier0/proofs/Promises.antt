@@ -1,5 +1,5 @@
 -- What follows from tier 0's rules: when each bit is raised, that a wall which is touched is not exceeded, when there is no slow zone, that
--- unarmed checks move nothing. (That the box move ends inside the box is workspace's `Inside.inward-inside`.) A projected row re-passing its check is not promised.
+-- unarmed checks move nothing.
 use Prim.Native.Nat.{ℕ, zero, suc, _+_, _*_, _≤_, _<_}
 use mathlib.Core.Path.{_≡_, refl, sym, ap, _∙_}
 use mathlib.Core.Bool.{Bool, true, false, _&&_, false≢true}
@@ -18,19 +18,18 @@ use Rattle.checked.specs.Checked.{Checked, pure}
 use Rattle.fmath.specs.Norm.{dist}
 use Rattle.checked.proofs.Copy.{padded-at}
 use Rattle.checked.proofs.Ordered.{lt-irrefl}
-use Rattle.workspace.specs.Rule.{Walls, beyond}
+use Rattle.workspace.specs.Rule.{Walls}
 use Rattle.bits.specs.Bits.{bit, bitsWhere}
 use Rattle.bits.proofs.Bits.{bit-where}
 use Rattle.envelope.specs.declared.ClampMode.{ClampMode}
 use Rattle.envelope.specs.declared.ClampMode.the-variants.{Off, Project}
 use Rattle.envelope.specs.declared.Contact.{Contact}
-use Rattle.envelope.specs.declared.Contact.the-variants.{None, Zone}
+use Rattle.envelope.specs.declared.Contact.the-variants.{None}
 use Rattle.chunk.proofs.Rows.{row-fits}
 use Rattle.tier0.specs.declared.Checks.{Checks}
-use Rattle.tier0.specs.declared.Difference.the-variants.{Accel, Jerk}
-use Rattle.tier0.specs.Rule.{WORKSPACE, SPEED, ACCEL, JERK, REACH, CONTACT, arms, Slow, clear, seen, inZone, zoneIn, slowZone, outOfBox, outOfReach, tripBits, leash, boxed, leashed, reached, moves, movedDims, project, projection, checkAction}
-use Rattle.tier0.specs.Promises.{raised}
-use Rattle.tier0.specs.Chunk.{startRow, someLonger, someOutOfBox, tooLarge, rawRow, putRow, nextRow, runRows, projectedRows, checkChunk}
+use Rattle.tier0.specs.Rule.{WORKSPACE, SPEED, ACCEL, JERK, REACH, CONTACT, arms, Slow, clear, seen, inZone, zoneIn, slowZone, tripBits, boxed, leashed, reached, moves, movedDims, project, projection, checkAction}
+use Rattle.tier0.specs.Promises.{raised, chunkTrips, actionTrips, ChunkRaised, ActionRaised, WallsTouched, NoContact, OutsideRadius, NoZoneNoLeash, UnarmedAction, UnarmedChunk}
+use Rattle.tier0.specs.Chunk.{startRow, someLonger, rawRow, putRow, nextRow, runRows, projectedRows, checkChunk}
 
 -- ---- the bits
 
@@ -50,92 +49,41 @@ module _ (a b c d e g : Bool) where
       says : (j : ℕ) → j < 6 → bit (bitsWhere tests 6) j ≡ tests j
       says = bit-where tests 6
 
--- ---- check_chunk: each check is raised exactly when it is armed and some row strictly exceeds
+-- ---- each check is raised exactly when it is armed and strictly exceeded
 
-module _ (f : Format) (s : Checks) (p aux rows l : List Float) (h : ℕ) where
-  abbrev pub chunkTrips : ℕ
-  chunkTrips = checkChunk f s p aux rows l h .value .trips
+pub chunk-raised : (f : Format) (s : Checks) (p aux rows l : List Float) (h : ℕ) → ChunkRaised f s p aux rows l h
+unfolding checkChunk
+chunk-raised f s p aux rows l h = record {
+  workspace = bits _ _ _ _ _ _ .0;
+  speed = bits _ _ _ _ _ _ .1;
+  accel = bits _ _ _ _ _ _ .2;
+  jerk = bits _ _ _ _ _ _ .3;
+  reach = bits _ _ _ _ _ _ .4;
+  contact = bits _ _ _ _ _ _ .5;
+}
 
-  abbrev q : List Float
-  q = startRow s p rows
-
-  abbrev z : Slow
-  z = slowZone f s p aux .value
-
-  pub chunk-workspace-exactly : raised WORKSPACE chunkTrips ≡ someOutOfBox f s rows h .value
-  unfolding checkChunk
-  chunk-workspace-exactly = bits _ _ _ _ _ _ .0
-
-  pub chunk-speed-exactly : raised SPEED chunkTrips ≡ (arms s SPEED && someLonger f q rows (s .dim) (s .«step_max») h)
-  unfolding checkChunk
-  chunk-speed-exactly = bits _ _ _ _ _ _ .1
-
-  pub chunk-accel-exactly : raised ACCEL chunkTrips ≡ tooLarge f s Accel q rows h .value
-  unfolding checkChunk
-  chunk-accel-exactly = bits _ _ _ _ _ _ .2
-
-  pub chunk-jerk-exactly : raised JERK chunkTrips ≡ tooLarge f s Jerk q rows h .value
-  unfolding checkChunk
-  chunk-jerk-exactly = bits _ _ _ _ _ _ .3
-
-  pub chunk-reach-exactly : raised REACH chunkTrips ≡ outOfReach f s p (rawRow rows (s .dim) 0) .value
-  unfolding checkChunk
-  chunk-reach-exactly = bits _ _ _ _ _ _ .4
-
-  pub chunk-contact-exactly : raised CONTACT chunkTrips ≡ (z .inside && someLonger f q rows (s .dim) (z .step) h)
-  unfolding checkChunk
-  chunk-contact-exactly = bits _ _ _ _ _ _ .5
-
--- ---- check_action, likewise; ACCEL and JERK are a chunk's
-
-module _ (f : Format) (s : Checks) (p aux prev a : List Float) where
-  abbrev pub actionTrips : ℕ
-  actionTrips = checkAction f s p aux prev a .value .trips
-
-  -- the computed step
-  abbrev step : Float
-  step = dist f a prev (s .dim) .value
-
-  abbrev zone : Slow
-  zone = slowZone f s p aux .value
-
-  pub action-workspace-exactly : raised WORKSPACE actionTrips ≡ outOfBox f s a .value
-  unfolding checkAction
-  action-workspace-exactly = bits _ _ _ _ _ _ .0
-
-  pub action-speed-exactly : raised SPEED actionTrips ≡ (arms s SPEED && lt (s .«step_max») step)
-  unfolding checkAction
-  action-speed-exactly = bits _ _ _ _ _ _ .1
-
-  pub action-accel-never : raised ACCEL actionTrips ≡ false
-  unfolding checkAction
-  action-accel-never = bits _ _ _ _ _ _ .2
-
-  pub action-jerk-never : raised JERK actionTrips ≡ false
-  unfolding checkAction
-  action-jerk-never = bits _ _ _ _ _ _ .3
-
-  pub action-reach-exactly : raised REACH actionTrips ≡ outOfReach f s p a .value
-  unfolding checkAction
-  action-reach-exactly = bits _ _ _ _ _ _ .4
-
-  pub action-contact-exactly : raised CONTACT actionTrips ≡ (zone .inside && lt (zone .step) step)
-  unfolding checkAction
-  action-contact-exactly = bits _ _ _ _ _ _ .5
+pub action-raised : (f : Format) (s : Checks) (p aux prev a : List Float) → ActionRaised f s p aux prev a
+unfolding checkAction
+action-raised f s p aux prev a = record {
+  workspace = bits _ _ _ _ _ _ .0;
+  speed = bits _ _ _ _ _ _ .1;
+  accel = bits _ _ _ _ _ _ .2;
+  jerk = bits _ _ _ _ _ _ .3;
+  reach = bits _ _ _ _ _ _ .4;
+  contact = bits _ _ _ _ _ _ .5;
+}
 
 -- ---- touched
 
--- a coordinate on one of its walls is not beyond them
-pub low-wall-touched : (w : Walls) (a : List Float) (j : ℕ) → lt (at (w .hi) j) (at (w .lo) j) ≡ false → at a j ≡ at (w .lo) j → beyond w a j ≡ false
-low-wall-touched w a j o e = rw (e, lt-irrefl (at (w .lo) j), o)
-
-pub high-wall-touched : (w : Walls) (a : List Float) (j : ℕ) → lt (at (w .hi) j) (at (w .lo) j) ≡ false → at a j ≡ at (w .hi) j → beyond w a j ≡ false
-high-wall-touched w a j o e = rw (e, lt-irrefl (at (w .hi) j), o)
+pub walls-touched : (w : Walls) (a : List Float) (j : ℕ) → WallsTouched w a j
+walls-touched w a j = record {
+  low = λ o e. rw (e, lt-irrefl (at (w .lo) j), o);
+  high = λ o e. rw (e, lt-irrefl (at (w .hi) j), o);
+}
 
 -- ---- no slow zone
 
--- with no contact configured there is none, whatever the camera says
-pub no-contact : (f : Format) (s : Checks) (p aux : List Float) → s .contact ≡ None → slowZone f s p aux ≡ pure clear
+pub no-contact : NoContact
 unfolding slowZone zoneIn
 no-contact f s p aux e = go (arms s CONTACT) (s .contact) e
   where
@@ -151,23 +99,21 @@ or-clear : (b : Bool) (x : Checked Slow) → x .value ≡ clear → (if b then x
 or-clear true x e = e
 or-clear false x e = refl
 
--- outside the radius of the configured one likewise
-pub outside-radius : (f : Format) (s : Checks) (p aux : List Float) (radius speed : Float) (i j : ℕ) → s .contact ≡ Zone radius speed i j → le (dist f p (at aux i ∷ at aux j ∷ []) 2 .value) radius ≡ false → slowZone f s p aux .value ≡ clear
+pub outside-radius : OutsideRadius
 unfolding slowZone zoneIn
 outside-radius f s p aux radius speed i j e far =
     or-clear (arms s CONTACT) (zoneIn f (s .dt) (s .contact) p aux)
     (rw e (or-clear (seen p aux i j) (inZone f (s .dt) radius speed i j p aux) (far-clear f (s .dt) radius speed i j p aux far)))
 
--- where there is none CONTACT is not raised: neither of a chunk ..
+-- where there is none CONTACT is not raised
 pub clear-no-trip : (f : Format) (s : Checks) (p aux rows l : List Float) (h : ℕ) → slowZone f s p aux .value ≡ clear → raised CONTACT (chunkTrips f s p aux rows l h) ≡ false
 clear-no-trip f s p aux rows l h e =
-    chunk-contact-exactly f s p aux rows l h
+    chunk-raised f s p aux rows l h .contact
     ∙ ap (λ (x : Slow). x .inside && someLonger f (startRow s p rows) rows (s .dim) (x .step) h) e
 
--- without a zone CONTACT is not raised of an action
 pub clear-no-action-trip : (f : Format) (s : Checks) (p aux prev a : List Float) → slowZone f s p aux .value ≡ clear → raised CONTACT (actionTrips f s p aux prev a) ≡ false
 clear-no-action-trip f s p aux prev a e =
-    action-contact-exactly f s p aux prev a
+    action-raised f s p aux prev a .contact
     ∙ ap (λ (x : Slow). x .inside && lt (x .step) (dist f a prev (s .dim) .value)) e
 
 -- with no contact configured, in particular
@@ -177,10 +123,9 @@ no-contact-no-trip f s p aux rows l h e = clear-no-trip f s p aux rows l h (ap (
 pub no-contact-no-action-trip : (f : Format) (s : Checks) (p aux prev a : List Float) → s .contact ≡ None → raised CONTACT (actionTrips f s p aux prev a) ≡ false
 no-contact-no-action-trip f s p aux prev a e = clear-no-action-trip f s p aux prev a (ap (λ (x : Checked Slow). x .value) (no-contact f s p aux e))
 
--- without a zone no slow step enters the leash
-pub no-contact-no-leash : (speed : Bool) (most : Float) → leash speed most clear ≡ (if speed then most else clear .step)
-no-contact-no-leash true most = refl
-no-contact-no-leash false most = refl
+pub no-zone-no-leash : NoZoneNoLeash
+no-zone-no-leash true most = refl
+no-zone-no-leash false most = refl
 
 -- ---- with everything unarmed nothing is moved
 
@@ -235,11 +180,6 @@ module _ (f : Format) (s : Checks) (e : s .armed ≡ 0) (p : List Float) where
   after-unarmed Off x prev b ex real = refl
   after-unarmed Project x prev b ex real = rw (ex, unarmed-stays f s p prev b true e, unmoved b (s .dim) real)
 
-  -- an action comes out as it went in, and clamped_dims is 0
-  pub unarmed-action : (aux prev a : List Float) → ((j : ℕ) → j < s .dim → finite (at (padded a (s .dim)) j) ≡ true) → checkAction f s p aux prev a .value .after ≡ record { rows = padded a (s .dim); mask = 0 }
-  unfolding checkAction
-  unarmed-action aux prev a real = after-unarmed (s .clamp) (slowZone f s p aux) prev (padded a (s .dim)) (unarmed-no-zone f s p aux e) real
-
   module _ (rows q l : List Float) where
     -- each row of a chunk is written as it came
     unarmed-row : (i : ℕ) → runRows f s clear p rows q l (suc i) .value .out ≡ putRow (rawRow rows (s .dim) i) (runRows f s clear p rows q l i .value .out) (i * s .dim) (s .dim)
@@ -278,7 +218,10 @@ module _ (f : Format) (s : Checks) (e : s .armed ≡ 0) (p : List Float) where
       let each-real : (i j : ℕ) → i < h → j < s .dim → finite (at (rawRow rows (s .dim) i) j) ≡ true = λ i j a b. ap finite (row-at rows (s .dim) i w j b) ∙ real (i * s .dim + j) (below-rows i h j (s .dim) a b) in
       rw (ex, unarmed-rows rows q l w h, unarmed-mask rows q l h each-real)
 
-  -- the rows of a chunk come out as they went in, and clamped_dims is 0
-  pub unarmed-chunk : (aux rows l : List Float) (h : ℕ) → s .dim ≤ 8 → ((k : ℕ) → k < h * s .dim → finite (at rows k) ≡ true) → checkChunk f s p aux rows l h .value .after ≡ record { rows = over (at rows) l (h * s .dim); mask = 0 }
-  unfolding checkChunk
-  unarmed-chunk aux rows l h w real = rows-unarmed (s .clamp) (slowZone f s p aux) rows (startRow s p rows) l h (unarmed-no-zone f s p aux e) w real
+pub unarmed-action : UnarmedAction
+unfolding checkAction
+unarmed-action f s e p aux prev a real = after-unarmed f s e p (s .clamp) (slowZone f s p aux) prev (padded a (s .dim)) (unarmed-no-zone f s p aux e) real
+
+pub unarmed-chunk : UnarmedChunk
+unfolding checkChunk
+unarmed-chunk f s e p aux rows l h w real = rows-unarmed f s e p (s .clamp) (slowZone f s p aux) rows (startRow s p rows) l h (unarmed-no-zone f s p aux e) w real

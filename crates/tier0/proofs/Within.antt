@@ -22,8 +22,8 @@ use Rattle.tier0.specs.Rule.{WORKSPACE, SPEED, ACCEL, JERK, REACH, CONTA
 use Rattle.tier0.specs.Chunk.{rawRow, stepTo, someLonger, someOutOfBox, someOf, exceeds, largeAt, further, tripOf, tooLarge, checkChunk}
 use Rattle.tier0.specs.Refusals.{answerAt}
 use Rattle.tier0.specs.Of.{checksOf, actionRuling, actionRefusal, actionAnswer, chunkRuling, chunkRefusal, chunkAnswer}
-use Rattle.tier0.specs.Promises.{tripsIn, raised, beforeFirst, zoneNow, ChunkInBox, ChunkSlowEnough, ChunkSlowInZone, ChunkBendsLittle, ChunkJoltsLittle, ChunkInReach, ChunkWithin, zoneHere, actionStep, ActionInBox, ActionSlowEnough, ActionSlowInZone, ActionInReach, ActionWithin}
-use Rattle.tier0.proofs.Promises.{chunkTrips, chunk-workspace-exactly, chunk-speed-exactly, chunk-accel-exactly, chunk-jerk-exactly, chunk-reach-exactly, chunk-contact-exactly, actionTrips, action-workspace-exactly, action-speed-exactly, action-reach-exactly, action-contact-exactly}
+use Rattle.tier0.specs.Promises.{tripsIn, raised, chunkTrips, actionTrips, beforeFirst, zoneNow, ChunkInBox, ChunkSlowEnough, ChunkSlowInZone, ChunkBendsLittle, ChunkJoltsLittle, ChunkInReach, ChunkWithin, zoneHere, actionStep, ActionInBox, ActionSlowEnough, ActionSlowInZone, ActionInReach, ActionWithin}
+use Rattle.tier0.proofs.Promises.{chunk-raised, action-raised}
 
 -- ---- comparisons of which none holds
 
@@ -105,22 +105,22 @@ module _ (f : Format) (c : FuseConfig) (t : Tables) (p aux rows : List Float) (h
 
   -- each limit by itself ..
   pub chunk-workspace-touched : ChunkInBox f c p aux rows h → raised WORKSPACE trips ≡ false
-  chunk-workspace-touched w = from-rule WORKSPACE refl (chunk-workspace-exactly f s p aux rows l h ∙ not-out w)
+  chunk-workspace-touched w = from-rule WORKSPACE refl (chunk-raised f s p aux rows l h .workspace ∙ not-out w)
 
   pub chunk-speed-touched : ChunkSlowEnough f c p aux rows h → raised SPEED trips ≡ false
-  chunk-speed-touched w = from-rule SPEED refl (chunk-speed-exactly f s p aux rows l h ∙ not-fast w)
+  chunk-speed-touched w = from-rule SPEED refl (chunk-raised f s p aux rows l h .speed ∙ not-fast w)
 
   pub chunk-accel-touched : ChunkBendsLittle f c p aux rows h → raised ACCEL trips ≡ false
-  chunk-accel-touched w = from-rule ACCEL refl (chunk-accel-exactly f s p aux rows l h ∙ not-bent w)
+  chunk-accel-touched w = from-rule ACCEL refl (chunk-raised f s p aux rows l h .accel ∙ not-bent w)
 
   pub chunk-jerk-touched : ChunkJoltsLittle f c p aux rows h → raised JERK trips ≡ false
-  chunk-jerk-touched w = from-rule JERK refl (chunk-jerk-exactly f s p aux rows l h ∙ not-jolted w)
+  chunk-jerk-touched w = from-rule JERK refl (chunk-raised f s p aux rows l h .jerk ∙ not-jolted w)
 
   pub chunk-reach-touched : ChunkInReach f c p aux rows → raised REACH trips ≡ false
-  chunk-reach-touched w = from-rule REACH refl (chunk-reach-exactly f s p aux rows l h ∙ not-far w)
+  chunk-reach-touched w = from-rule REACH refl (chunk-raised f s p aux rows l h .reach ∙ not-far w)
 
   pub chunk-contact-touched : ChunkSlowInZone f c p aux rows h → raised CONTACT trips ≡ false
-  chunk-contact-touched w = from-rule CONTACT refl (chunk-contact-exactly f s p aux rows l h ∙ not-close w)
+  chunk-contact-touched w = from-rule CONTACT refl (chunk-raised f s p aux rows l h .contact ∙ not-close w)
 
   -- where none of them is exceeded, nothing is raised
   none-tripped : ChunkWithin f c p aux rows h → chunkTrips f s p aux rows l h ≡ 0
@@ -148,16 +148,16 @@ module _ (f : Format) (c : FuseConfig) (t : Tables) (p aux prev a : List Float) 
   action-not-close w = where-so (zoneHere f c p aux prev a .inside) _ w
 
   pub action-workspace-touched : ActionInBox f c p aux prev a → raised WORKSPACE trips-of ≡ false
-  action-workspace-touched w = action-from-rule WORKSPACE refl (action-workspace-exactly f (checksOf f c) p aux prev a ∙ in-box f (checksOf f c) a w)
+  action-workspace-touched w = action-from-rule WORKSPACE refl (action-raised f (checksOf f c) p aux prev a .workspace ∙ in-box f (checksOf f c) a w)
 
   pub action-speed-touched : ActionSlowEnough f c p aux prev a → raised SPEED trips-of ≡ false
-  action-speed-touched w = action-from-rule SPEED refl (action-speed-exactly f (checksOf f c) p aux prev a ∙ action-not-fast w)
+  action-speed-touched w = action-from-rule SPEED refl (action-raised f (checksOf f c) p aux prev a .speed ∙ action-not-fast w)
 
   pub action-reach-touched : ActionInReach f c p aux prev a → raised REACH trips-of ≡ false
-  action-reach-touched w = action-from-rule REACH refl (action-reach-exactly f (checksOf f c) p aux prev a ∙ in-reach f (checksOf f c) p a w)
+  action-reach-touched w = action-from-rule REACH refl (action-raised f (checksOf f c) p aux prev a .reach ∙ in-reach f (checksOf f c) p a w)
 
   pub action-contact-touched : ActionSlowInZone f c p aux prev a → raised CONTACT trips-of ≡ false
-  action-contact-touched w = action-from-rule CONTACT refl (action-contact-exactly f (checksOf f c) p aux prev a ∙ action-not-close w)
+  action-contact-touched w = action-from-rule CONTACT refl (action-raised f (checksOf f c) p aux prev a .contact ∙ action-not-close w)
 
   action-none-tripped : ActionWithin f c p aux prev a → actionTrips f (checksOf f c) p aux prev a ≡ 0
   unfolding checkAction tripBits

@@ -1,25 +1,30 @@
--- What is promised of the answers of `check_chunk` and `check_action`. The proofs are `proofs/Within.antt` and `proofs/NoContact.antt`, where `promised` is all of it.
-use Prim.Native.Nat.{ℕ, _+_, _-_, _/_, _%_, _<_}
+-- What is promised of the answers of `check_chunk` and `check_action`, and what follows from the rules that they cite. `proofs/NoContact.promised` is all of it. A
+-- projected row that passes its check again is not promised.
+use Prim.Native.Nat.{ℕ, _+_, _-_, _*_, _/_, _%_, _≤_, _<_}
 use mathlib.Core.Path.{_≡_}
-use mathlib.Core.Bool.{Bool, true, false}
-use mathlib.Core.List.{List}
+use mathlib.Core.Bool.{Bool, true, false, _&&_}
+use mathlib.Core.List.{List, [], _∷_}
 use lib.Dec.{eqb}
 use lib.ListN.{replicate}
-use lib.Ieee.{Float, Format, mul, lt}
-use Rattle.checked.specs.Finite.{+0}
-use Rattle.checked.specs.Checked.{Checked, each}
+use lib.Ieee.{Float, Format, mul, lt, le}
+use Rattle.bits.specs.Choice.{if_then_else_}
+use Rattle.checked.specs.Each.{at, over}
+use Rattle.checked.specs.Row.{padded}
+use Rattle.checked.specs.Finite.{+0, finite}
+use Rattle.checked.specs.Checked.{Checked, each, pure}
 use Rattle.fmath.specs.Norm.{norm, dist}
 use Rattle.workspace.specs.Of.{wallsOf}
-use Rattle.workspace.specs.Rule.{beyond}
+use Rattle.workspace.specs.Rule.{Walls, beyond}
 use Rattle.conformal.specs.Rule.{Tables}
-use Rattle.envelope.specs.declared.Contact.the-variants.{None}
+use Rattle.envelope.specs.declared.Contact.the-variants.{None, Zone}
 use Rattle.envelope.specs.Promises.{armedBy}
 use Rattle.envelope.specs.declared.FuseConfig.{FuseConfig}
 use Rattle.tier0.specs.declared.Tier0Out.{Tier0Out}
 use Rattle.tier0.specs.declared.Tier0Out.the-variants.{Passed, Refused}
 use Rattle.tier0.specs.declared.Checks.{Checks}
-use Rattle.tier0.specs.Rule.{WORKSPACE, SPEED, ACCEL, JERK, REACH, CONTACT, bit, boxDims, Slow, slowZone}
-use Rattle.tier0.specs.Chunk.{rawRow, startRow, rowBefore, stepTo, bends, jolts}
+use Rattle.tier0.specs.declared.Difference.the-variants.{Accel, Jerk}
+use Rattle.tier0.specs.Rule.{WORKSPACE, SPEED, ACCEL, JERK, REACH, CONTACT, bit, arms, boxDims, Slow, clear, slowZone, outOfBox, outOfReach, leash, checkAction}
+use Rattle.tier0.specs.Chunk.{rawRow, startRow, rowBefore, stepTo, bends, jolts, someLonger, someOutOfBox, tooLarge, checkChunk}
 use Rattle.tier0.specs.Of.{checksOf, actionAnswer, actionOut, chunkAnswer, chunkOut}
 
 -- the trips of an answer: none where it is refused
@@ -124,6 +129,58 @@ withoutContact armed = armed - bit (raised CONTACT armed) CONTACT
 abbrev pub contactUnarmed : FuseConfig → FuseConfig
 contactUnarmed c = armedBy c (withoutContact (c .armed))
 
+-- ---- what follows from the rules themselves
+
+-- the trips that the rule finds in a chunk, and in an action
+abbrev pub chunkTrips : Format → Checks → (p aux rows l : List Float) → ℕ → ℕ
+chunkTrips f s p aux rows l h = checkChunk f s p aux rows l h .value .trips
+
+abbrev pub actionTrips : Format → Checks → (p aux prev a : List Float) → ℕ
+actionTrips f s p aux prev a = checkAction f s p aux prev a .value .trips
+
+-- each check of a chunk is raised exactly when it is armed and some row strictly exceeds
+pub record ChunkRaised (f : Format) (s : Checks) (p aux rows l : List Float) (h : ℕ) : Type 0 where
+  pub workspace : raised WORKSPACE (chunkTrips f s p aux rows l h) ≡ someOutOfBox f s rows h .value
+  pub speed : raised SPEED (chunkTrips f s p aux rows l h) ≡ (arms s SPEED && someLonger f (startRow s p rows) rows (s .dim) (s .«step_max») h)
+  pub accel : raised ACCEL (chunkTrips f s p aux rows l h) ≡ tooLarge f s Accel (startRow s p rows) rows h .value
+  pub jerk : raised JERK (chunkTrips f s p aux rows l h) ≡ tooLarge f s Jerk (startRow s p rows) rows h .value
+  pub reach : raised REACH (chunkTrips f s p aux rows l h) ≡ outOfReach f s p (rawRow rows (s .dim) 0) .value
+  pub contact : raised CONTACT (chunkTrips f s p aux rows l h) ≡ (slowZone f s p aux .value .inside && someLonger f (startRow s p rows) rows (s .dim) (slowZone f s p aux .value .step) h)
+
+-- those of an action likewise; ACCEL and JERK are a chunk's
+pub record ActionRaised (f : Format) (s : Checks) (p aux prev a : List Float) : Type 0 where
+  pub workspace : raised WORKSPACE (actionTrips f s p aux prev a) ≡ outOfBox f s a .value
+  pub speed : raised SPEED (actionTrips f s p aux prev a) ≡ (arms s SPEED && lt (s .«step_max») (dist f a prev (s .dim) .value))
+  pub accel : raised ACCEL (actionTrips f s p aux prev a) ≡ false
+  pub jerk : raised JERK (actionTrips f s p aux prev a) ≡ false
+  pub reach : raised REACH (actionTrips f s p aux prev a) ≡ outOfReach f s p a .value
+  pub contact : raised CONTACT (actionTrips f s p aux prev a) ≡ (slowZone f s p aux .value .inside && lt (slowZone f s p aux .value .step) (dist f a prev (s .dim) .value))
+
+-- a coordinate on one of its walls is not beyond them
+pub record WallsTouched (w : Walls) (a : List Float) (j : ℕ) : Type 0 where
+  pub low : lt (at (w .hi) j) (at (w .lo) j) ≡ false → at a j ≡ at (w .lo) j → beyond w a j ≡ false
+  pub high : lt (at (w .hi) j) (at (w .lo) j) ≡ false → at a j ≡ at (w .hi) j → beyond w a j ≡ false
+
+-- with no contact configured there is no slow zone, whatever the camera says
+abbrev pub NoContact : Type 0
+NoContact = (f : Format) (s : Checks) (p aux : List Float) → s .contact ≡ None → slowZone f s p aux ≡ pure clear
+
+-- nor is there one outside the radius of the configured one
+abbrev pub OutsideRadius : Type 0
+OutsideRadius = (f : Format) (s : Checks) (p aux : List Float) (radius speed : Float) (i j : ℕ) → s .contact ≡ Zone radius speed i j → le (dist f p (at aux i ∷ at aux j ∷ []) 2 .value) radius ≡ false → slowZone f s p aux .value ≡ clear
+
+-- without a zone no slow step enters the leash
+abbrev pub NoZoneNoLeash : Type 0
+NoZoneNoLeash = (speed : Bool) (most : Float) → leash speed most clear ≡ (if speed then most else clear .step)
+
+-- with nothing armed an action comes out as it went in, and clamped_dims is 0
+abbrev pub UnarmedAction : Type 0
+UnarmedAction = (f : Format) (s : Checks) → s .armed ≡ 0 → (p aux prev a : List Float) → ((j : ℕ) → j < s .dim → finite (at (padded a (s .dim)) j) ≡ true) → checkAction f s p aux prev a .value .after ≡ record { rows = padded a (s .dim); mask = 0 }
+
+-- and so do the rows of a chunk
+abbrev pub UnarmedChunk : Type 0
+UnarmedChunk = (f : Format) (s : Checks) → s .armed ≡ 0 → (p aux rows l : List Float) (h : ℕ) → s .dim ≤ 8 → ((k : ℕ) → k < h * s .dim → finite (at rows k) ≡ true) → checkChunk f s p aux rows l h .value .after ≡ record { rows = over (at rows) l (h * s .dim); mask = 0 }
+
 -- ---- all of it
 
 -- a limit that is not exceeded is not raised by `check_chunk`, and where none is exceeded nothing is
@@ -155,3 +212,11 @@ pub record Promised : Type 0 where
   pub chunk-may-touch : (f : Format) (c : FuseConfig) (t : Tables) (p aux rows : List Float) (h d e room : ℕ) → ChunkTouched f c t p aux rows h d e room
   pub action-may-touch : (f : Format) (c : FuseConfig) (t : Tables) (p aux prev a : List Float) (room : ℕ) → ActionTouched f c t p aux prev a room
   pub no-contact-as-unarmed : (f : Format) (c : FuseConfig) (t : Tables) → c .contact ≡ None → AsUnarmed f c t
+  pub chunk-raised : (f : Format) (s : Checks) (p aux rows l : List Float) (h : ℕ) → ChunkRaised f s p aux rows l h
+  pub action-raised : (f : Format) (s : Checks) (p aux prev a : List Float) → ActionRaised f s p aux prev a
+  pub walls-touched : (w : Walls) (a : List Float) (j : ℕ) → WallsTouched w a j
+  pub no-contact : NoContact
+  pub outside-radius : OutsideRadius
+  pub no-zone-no-leash : NoZoneNoLeash
+  pub unarmed-action : UnarmedAction
+  pub unarmed-chunk : UnarmedChunk
