@@ -1,4 +1,4 @@
--- Where the input is cut into blocks does not matter, as long as each but the last has whole records: their texts, one after the other, are the text of all the input.
+-- Where the input is cut into blocks does not matter.
 use mathlib.Core.Path.{_≡_, refl}
 use mathlib.Core.List.{List, [], _∷_, _++_, flatten, append-assoc, append-nil}
 use Prim.Native.Nat.{ℕ, zero, suc, _+_, _*_, _/_, _%_, _≤_}
@@ -9,7 +9,8 @@ use lib.ListN.{length, length-append, List·getD-append}
 use lib.Seq.{getD-append-add}
 use Rattle.words.specs.Little.{little}
 use Rattle.card.specs.Record.{cardAt}
-use Rattle.card.specs.Block.{lineAt, lines, rest, text, texts, WholeButLast}
+use Rattle.card.specs.Block.{lineAt, lines, rest, text, texts}
+use Rattle.card.specs.Promises.{Blocks}
 
 module _ (a b : List ℕ) where
   little-left : (k at : ℕ) → at + k ≤ length a → little k (a ++ b) at ≡ little k a at
@@ -93,8 +94,7 @@ whole-text : (n : ℕ) (a : List ℕ) → length a % 96 ≡ 0 → text n a ≡ l
 unfolding text rest
 whole-text n a h = rw (eq-eqb (length a % 96) 0 h, append-nil)
 
--- any number of blocks, each numbered from where the one before it ended
-pub blocks : (n : ℕ) (bs : List (List ℕ)) → WholeButLast bs → texts n bs ≡ text n (flatten bs)
+pub blocks : Blocks
 unfolding texts text rest lines flatten
 blocks n [] h = refl
 blocks n (a ∷ []) h = rw (append-nil (text n a), append-nil a)

@@ -3,3 +3,4 @@ pub mod Desk
 pub mod Text
 pub mod Block
 pub mod Worked
+pub mod Promises

@@ -1,5 +1,4 @@
--- The number that C is given for a count is the table's for the count as it came. A count that its field cannot hold is cut to the field's largest, and each
--- condition of the table says of that what it says of the count; where the table accepts the count itself, the boundary has given 255.
+-- The number that C is given for a count is the table's for the count as it came (`specs/Counts.antt`).
 use Prim.Native.Nat.{ℕ, zero, suc, _+_, _*_, _≤_, _<_, min}
 use mathlib.Core.Path.{_≡_, refl, sym, _∙_}
 use mathlib.Core.Bool.{Bool, true, false, not, _&&_, _||_}
@@ -14,14 +13,12 @@ use Rattle.bits.specs.Choice.{if_then_else_}
 use Rattle.checked.specs.Each.{at, all, every, every-from}
 use Rattle.checked.proofs.Each.{and-left, and-right}
 use Rattle.chunk.specs.Refusals.{heldReasons}
-use Rattle.chunk.specs.Of.{clearedOf}
-use Rattle.window.specs.Rule.{bit}
-use Rattle.window.specs.Answer.{outOfSize}
-use Rattle.conformal.specs.Refusals.{named, sizesOk}
+use Rattle.conformal.specs.Refusals.{sizesOk}
 use Rattle.envelope.specs.Refusals.{countsOk, channelsOk}
 use Rattle.layout.specs.Places.{count, in8, in16}
-use Rattle.layout.specs.Chunk.{chunkOf, headerFlat, unheld}
+use Rattle.layout.specs.Chunk.{chunkOf}
 use Rattle.layout.specs.Trail.{trailOf}
+use Rattle.promises.specs.Counts.{TrailCounts, GateCounts, StepCounts, ChannelCounts, HeaderCounts, HeaderKept, HeaderLetGo}
 use Rattle.layout.specs.Config.{brakeOf, gateOf, calibrationOf, contactOf, channelOf, zoneOf, zoneFits}
 
 -- ---- a test against a number that the field holds is the same of a count x and of the cut one
@@ -56,11 +53,11 @@ none x m h = none-by x m (eqb x 0) h refl
 
 -- ---- row 1: a trail's counts, and a calibration's
 
-pub trail-counts : (l : List Float) (c : List ℕ) → outOfSize (trailOf l c) ≡ (ltb 31 (count c 0) || ltb 32 (count c 1))
+pub trail-counts : TrailCounts
 unfolding trailOf
 trail-counts l c = rw (at-least (count c 0) 255 32 (omega arith), at-least (count c 1) 255 33 (omega arith))
 
-pub gate-counts : (n : List Float) (c : List ℕ) → sizesOk (calibrationOf n c) ≡ every (leb (count c 24) 8 ∷ named (count c 23) ∷ all (λ (i : ℕ). leb (count c 24) i || named (count c (12 + i))) 8 ∷ [])
+pub gate-counts : GateCounts
 unfolding sizesOk calibrationOf gateOf all
 gate-counts n c =
     rw (
@@ -106,7 +103,7 @@ steps-in s m b t =
     let rows = leb-true m 64 (and-right (leb 1 s && leb s 64) (leb m 64) t) in
     rw (min-eq-left {n = s} {m = 65535} (omega (arith, few)), min-eq-left {n = m} {m = 65535} (omega (arith, rows))) (braked s m b (leb b 65535) some refl)
 
-pub step-counts : (n : List Float) (c : List ℕ) → countsOk (brakeOf n c) ≡ every (leb 1 (count c 8) ∷ leb (count c 8) 64 ∷ leb (count c 9) 64 ∷ leb ((count c 9 + count c 10) * count c 8) 4096 ∷ [])
+pub step-counts : StepCounts
 unfolding countsOk brakeOf every every-from
 step-counts n c =
     rw
@@ -137,7 +134,7 @@ unfolding contactOf
 channels-of zero i j aux r s h = refl
 channels-of (suc k) i j aux r s h = paired i j aux (leb i 255) (leb j 255) refl refl (rw (eqb·suc-zero k) at h)
 
-pub channel-counts : (n : List Float) (c : List ℕ) → (eqb (count c 5) 0 || zoneFits c) ≡ true → channelsOk (zoneOf n c) (count c 21) ≡ channelsOk (contactOf (count c 5) (at n 9) (at n 10) (count c 6) (count c 7)) (count c 21)
+pub channel-counts : ChannelCounts
 unfolding zoneOf zoneFits
 channel-counts n c h = channels-of (count c 5) (count c 6) (count c 7) (count c 21) (at n 9) (at n 10) h
 
@@ -152,16 +149,16 @@ header-by l h d e false false false p q r =
     let thin = ltb-false 8 d r in
     rw (min-eq-left {n = h} {m = 65535} (omega (arith, few)), min-eq-left {n = d} {m = 65535} (omega (arith, thin)), at-least e 65535 (suc h) (omega (arith, few)))
 
-pub header-counts : (l : List Float) (h d e : ℕ) → refusal (heldReasons l (in16 h) (in16 d) (in16 e)) ≡ refusal (heldReasons l h d e)
+pub header-counts : HeaderCounts
 header-counts l h d e = header-by l h d e (eqb h 0 || eqb d 0) (ltb 64 h) (ltb 8 d) refl refl refl
 
 -- ---- a header that is left as it came is the one of the entry's answer, where its counts fit: after a tick without a chunk, and after a reset
 
-pub header-kept : (l : List Float) (s t h d e : ℕ) (f : Bool) → s ≤ 4294967295 → t ≤ 4294967295 → h ≤ 65535 → d ≤ 65535 → e ≤ 65535 → headerFlat (chunkOf l (s ∷ t ∷ h ∷ d ∷ e ∷ bit f ∷ [])) ≡ s ∷ t ∷ h ∷ d ∷ e ∷ bit f ∷ []
+pub header-kept : HeaderKept
 unfolding chunkOf
 header-kept l s t h d e true a b p q r = rw (min-eq-left a, min-eq-left b, min-eq-left p, min-eq-left q, min-eq-left r)
 header-kept l s t h d e false a b p q r = rw (min-eq-left a, min-eq-left b, min-eq-left p, min-eq-left q, min-eq-left r)
 
-pub header-let-go : (l : List Float) (s t h d e f : ℕ) → s ≤ 4294967295 → t ≤ 4294967295 → h ≤ 65535 → d ≤ 65535 → e ≤ 65535 → headerFlat (clearedOf (chunkOf l (s ∷ t ∷ h ∷ d ∷ e ∷ f ∷ []))) ≡ unheld (s ∷ t ∷ h ∷ d ∷ e ∷ f ∷ [])
+pub header-let-go : HeaderLetGo
 unfolding chunkOf
 header-let-go l s t h d e f a b p q r = rw (min-eq-left a, min-eq-left b, min-eq-left p, min-eq-left q, min-eq-left r)

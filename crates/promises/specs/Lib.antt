@@ -1,2 +1,3 @@
 pub mod Beliefs
 pub mod Refused
+pub mod Counts
