@@ -1,8 +1,11 @@
 -- `conformal::standards` meets its contract: the loop keeps the table and the soundness of the features passed.
 use Prim.Native.Nat.{ℕ, _≤_, _-_}
+use mathlib.Core.Bool.{Bool}
+use mathlib.Core.List.{List}
 use mathlib.Core.Path.{_≡_, refl, ap, _∙_}
 use native.Mathlib.Omega.{arith}
 use borrow.Author.Needs.{needs}
+use lib.Ieee.{Float}
 use lib.ListN.{length, take, length-set}
 use lib.Ieee.{binary64}
 use Rattle.checked.specs.Each.{all, at, table}
@@ -14,8 +17,15 @@ use Rattle.conformal.specs.Rule.{live, standardAt, standards}
 use Rattle.conformal.proofs.standards.Statement.{statement}
 use Rattle.conformal.proofs.standards.Tie as tie
 
+-- the first j features are standardised
+record Scored (center scale : List Float) (bin mask valid : ℕ) (x : List Float) (z : List Float) (sound : Bool) (j : ℕ) : Type 0 where
+  along : j ≤ 12
+  wide : length z ≡ 12
+  so-far : take j z ≡ table (λ (k : ℕ). standardAt binary64 (tables center scale) bin (live mask valid) x k .value) j
+  told : sound ≡ all (λ (k : ℕ). standardAt binary64 (tables center scale) bin (live mask valid) x k .sound) j
+
 abbrev Inv-loop : tie.InvT-loop
-Inv-loop center scale bin mask valid x row z₀ sound₀ j₀ z sound j = (j ≤ 12) × ((length z ≡ 12) × ((take j z ≡ table (λ (k : ℕ). standardAt binary64 (tables center scale) bin (live mask valid) x k .value) j) × (sound ≡ all (λ (k : ℕ). standardAt binary64 (tables center scale) bin (live mask valid) x k .sound) j)))
+Inv-loop center scale bin mask valid x row z₀ sound₀ j₀ z sound j = Scored center scale bin mask valid x z sound j
 
 abbrev μ-loop : tie.MeasureT-loop
 μ-loop center scale bin mask valid x row z₀ sound₀ j₀ z sound j = 12 - j
@@ -28,7 +38,13 @@ mul-row c = search needs
 
 loop-holds : tie.Need-loop-holds Inv-loop μ-loop
 unfolding all table
-loop-holds c = (search needs, (refl, (refl, refl)))
+loop-holds c =
+    record {
+      along = search needs;
+      wide = refl;
+      so-far = refl;
+      told = refl;
+    }
 
 bit-requires : tie.Need-bit-requires Inv-loop μ-loop
 bit-requires c κs = omega arith
@@ -80,15 +96,19 @@ loop-again c =
     let l = c .before .before .before .before .before .before .before .before .loop in
     let a = c .before .before .before .before .before .before .before .before .before .before .args in
     let e : c .before .standard .result ≡ reckonedFrom (standardAt binary64 (tables (a .center .now) (a .scale .now)) (a .bin) (live (a .mask) (a .valid)) (a .x .now) (l .j))
-    = (c .before .standard .ensures) ∙ rw (c .before .before .before .before .before .before .bit .ensures, c .before .before .before .before .before .bit2 .ensures, c .before .before .before .before .before .before .before .before .before .last-bin .ensures) in
-    (omega arith, (simp length-set (l .inv .1 .0), (table-more _ _ _ _ (omega arith) (l .inv .1 .1 .0) (ap (λ (r : Reckoned). r .value) e), all-more _ _ _ _ (l .inv .1 .1 .1) (ap (λ (r : Reckoned). r .sound) e))))
+    = (c .before .standard .ensures) ∙ rw (c .before .before .before .before .before .before .bit .ensures, c .before .before .before .before .before .bit2 .ensures, c .before .before .before .before .before .before .before .before .before .last-bin .ensures) in record {
+      along = omega arith;
+      wide = simp length-set (l .inv .wide);
+      so-far = table-more _ _ _ _ (omega arith) (l .inv .so-far) (ap (λ (r : Reckoned). r .value) e);
+      told = all-more _ _ _ _ (l .inv .told) (ap (λ (r : Reckoned). r .sound) e);
+    }
 
 returns : tie.Need-returns Inv-loop μ-loop
 unfolding standards
 returns c =
     let l = c .before .loop in
     let e : l .j ≡ 12 = omega arith in
-    rw (table-all _ 12 (l .j) (l .z) e (l .inv .1 .0) (l .inv .1 .1 .0), rw e at (l .inv .1 .1 .1))
+    rw (table-all _ 12 (l .j) (l .z) e (l .inv .wide) (l .inv .so-far), rw e at (l .inv .told))
 
 pub standards-spec : {M : Type 1} → statement M
 standards-spec =

@@ -9,6 +9,8 @@ use borrow.Author.Tests.{not-true, not-false}
 use denote.Ref.{now}
 use lib.ListN.{length, length-set}
 use lib.Ieee.{Float, binary64}
+use Rattle.workspace.specs.declared.Workspace.{Workspace}
+use Rattle.rollout.specs.declared.Law.{Law}
 use Rattle.checked.specs.Each.{at}
 use Rattle.checked.specs.Row.{padded}
 use Rattle.checked.proofs.Copy.{all-padded, padded-at}
@@ -30,14 +32,17 @@ first still margin done = record { plant = still; margin = margin; done = done; 
 taken-in : (n : ℕ) (a : List Float) {r : List Float} → n ≤ 8 → n ≤ length a → r ≡ padded a (min n (min (length a) 8)) → (j : ℕ) → j < n → at r j ≡ at a j
 taken-in n a hn ha e j hj = ap (λ (l : List Float). at l j) (all-padded a hn ha e) ∙ padded-at a n j hn hj
 
+-- s of count substeps are run, all eight axes at once
+record Coming (g : Law) (w : Workspace) (n : ℕ) (a : List Float) (count : ℕ) (slack₀ : List Float) (still : Plant) (margin₀ : Float) (at₀ : ℕ) (slack : List Float) (moved : Plant) (margin : Float) (at s : ℕ) : Type 0 where
+  turns : s ≤ count
+  same : length slack ≡ length slack₀
+  written : at ≤ at₀ + s
+  places : length (moved .p) ≡ 8
+  rates : length (moved .v) ≡ 8
+  comes : ((t : Task) (l : List Float) (k : ℕ) → Under t g w n → Along binary64 t l k (first still margin₀ at₀) slack₀ → Towards binary64 t k count a (first still margin₀ at₀) → Along binary64 t l (k + s) (running moved still n margin at) slack)
+
 abbrev Inv-loop : tie.InvT-loop
-Inv-loop g w n a count slack₀ still aim moved₀ margin₀ at₀ s₀ slack moved margin at s =
-    (s ≤ count)
-    × ((length slack ≡ length slack₀)
-    × ((at ≤ at₀ + s)
-    × ((length (moved .p) ≡ 8)
-    × ((length (moved .v) ≡ 8)
-    × ((t : Task) (l : List Float) (k : ℕ) → Under t g w n → Along binary64 t l k (first still margin₀ at₀) slack₀ → Towards binary64 t k count a (first still margin₀ at₀) → Along binary64 t l (k + s) (running moved still n margin at) slack)))))
+Inv-loop g w n a count slack₀ still aim moved₀ margin₀ at₀ s₀ slack moved margin at s = Coming g w n a count slack₀ still margin₀ at₀ slack moved margin at s
 
 abbrev μ-loop : tie.MeasureT-loop
 μ-loop g w n a count slack₀ still aim moved₀ margin₀ at₀ s₀ slack moved margin at s = count - s
@@ -54,24 +59,16 @@ padded-requires c κs = search needs
 
 loop-holds : tie.Need-loop-holds Inv-loop μ-loop
 loop-holds c =
-    let s = c .before .before .before .before .before .before .before .args in (
-      omega arith,
-      (
-        refl,
-        (
-          omega arith,
-          (
-            search needs,
-            (
-              search needs,
-              λ t l k u h go.
-                  along-zero (forecast binary64 t) (after binary64 t) l k _ _
-                  (subst (λ (q : Plant). Along binary64 t l k (first q (s .run .margin) (s .run .done)) (now (s .slack))) (sym (joined-itself (s .run .plant) (s .n))) h),
-            ),
-          ),
-        ),
-      ),
-    )
+    let s = c .before .before .before .before .before .before .before .args in record {
+      turns = omega arith;
+      same = refl;
+      written = omega arith;
+      places = search needs;
+      rates = search needs;
+      comes = λ t l k u h go.
+          along-zero (forecast binary64 t) (after binary64 t) l k _ _
+          (subst (λ (q : Plant). Along binary64 t l k (first q (s .run .margin) (s .run .done)) (now (s .slack))) (sym (joined-itself (s .run .plant) (s .n))) h);
+    }
 
 slice-aggregate-substep : tie.Need-slice-aggregate-substep Inv-loop μ-loop
 slice-aggregate-substep c = search needs
@@ -86,7 +83,7 @@ ended-requires : tie.Need-ended-requires Inv-loop μ-loop
 ended-requires c κs = search needs
 
 same-length : tie.Need-same-length Inv-loop μ-loop
-same-length c = c .before .before .before .before .before .before .before .before .loop .inv .1 .0
+same-length c = c .before .before .before .before .before .before .before .before .loop .inv .same
 
 returns-2 : tie.Need-returns-2 Inv-loop μ-loop
 returns-2 c =
@@ -95,27 +92,27 @@ returns-2 c =
     let sound : s .args .run .sound ≡ true = not-false _ (c .before .before .before .before .before .before .before .before .before .before .before .before .if1 .left) in
     let turns = c .before .before .before .before .before .before .before .loop-test .taken in
     rw (c .ended .ensures) (
-      omega (arith, i .inv .1 .1 .0, turns),
+      omega (arith, i .inv .written, turns),
       λ t l k u r towards.
           let h = subst (λ (q : Run). Along binary64 t l k q (now (s .args .slack))) (going (s .args .run) sound) r in
           let go : Towards binary64 t k (s .args .count) (now (s .args .a)) (first (s .args .run .plant) (s .args .run .margin) (s .args .run .done)) = λ _. towards sound in
           along-at (forecast binary64 t) (after binary64 t) l (k + s .args .count) _ _ (k + i .s + 1 + (s .args .count - i .s - 1)) (omega (arith, turns))
           (along-rest (forecast binary64 t) (after binary64 t) l (k + i .s + 1) _ _ refl
           (wide-fails binary64 t l (k + i .s) (i .moved) (s .args .run .plant) (s .args .n) (i .margin) (i .at) (i .slack) (s .args .g) (s .args .w) (now (s .args .a)) (c .before .before .before .before .before .before .before .before .before .before .padded .result) u
-          (i .inv .1 .1 .1 .1 .1 t l k u h go)
-          (towards-next binary64 t l k (s .args .count) (i .s) (now (s .args .a)) (first (s .args .run .plant) (s .args .run .margin) (s .args .run .done)) (running (i .moved) (s .args .run .plant) (s .args .n) (i .margin) (i .at)) (now (s .args .slack)) (i .slack) h go (i .inv .1 .1 .1 .1 .1 t l k u h go) (omega arith))
-          (s .pre .0) (i .inv .1 .1 .1 .0) (i .inv .1 .1 .1 .1 .0) (long s .0) (long s .1) (taken-in (s .args .n) (now (s .args .a)) (s .pre .0) (s .pre .1) (c .before .before .before .before .before .before .before .before .before .before .padded .ensures)) (c .before .before .before .before .before .substep .result) (c .before .before .before .before .before .substep .ensures) (c .before .before .before .slack-abreast .result) (c .before .before .before .slack-abreast .ensures) (not-true _ (c .before .if2 .taken)))
+          (i .inv .comes t l k u h go)
+          (towards-next binary64 t l k (s .args .count) (i .s) (now (s .args .a)) (first (s .args .run .plant) (s .args .run .margin) (s .args .run .done)) (running (i .moved) (s .args .run .plant) (s .args .n) (i .margin) (i .at)) (now (s .args .slack)) (i .slack) h go (i .inv .comes t l k u h go) (omega arith))
+          (s .pre .0) (i .inv .places) (i .inv .rates) (long s .0) (long s .1) (taken-in (s .args .n) (now (s .args .a)) (s .pre .0) (s .pre .1) (c .before .before .before .before .before .before .before .before .before .before .padded .ensures)) (c .before .before .before .before .before .substep .result) (c .before .before .before .before .before .substep .ensures) (c .before .before .before .slack-abreast .result) (c .before .before .before .slack-abreast .ensures) (not-true _ (c .before .if2 .taken)))
           (s .args .count - i .s - 1)),
     )
 
 mul-slack : tie.Need-mul-slack Inv-loop μ-loop
 mul-slack c =
     let i = c .before .before .before .before .before .before .before .loop in
-    let e : i .at < length (now (c .before .before .before .before .before .before .before .before .before .before .before .before .before .before .before .args .slack)) = omega (arith, i .inv .1 .1 .0, c .before .before .before .before .before .before .loop-test .taken, c .before .before .before .before .before .before .before .before .before .before .before .before .before .before .before .pre .2) in
+    let e : i .at < length (now (c .before .before .before .before .before .before .before .before .before .before .before .before .before .before .before .args .slack)) = omega (arith, i .inv .written, c .before .before .before .before .before .before .loop-test .taken, c .before .before .before .before .before .before .before .before .before .before .before .before .before .before .before .pre .2) in
     search (needs, e, c .before .before .before .before .before .before .before .before .before .before .before .before .before .before .before .good .1 .1 .1 .1 .1 .1 .0)
 
 slice-write-slack : tie.Need-slice-write-slack Inv-loop μ-loop
-slice-write-slack c = let i = c .before .before .before .before .before .before .before .loop in omega (arith, i .inv .1 .0, i .inv .1 .1 .0, c .before .before .before .before .before .before .loop-test .taken, c .before .before .before .before .before .before .before .before .before .before .before .before .before .before .before .pre .2)
+slice-write-slack c = let i = c .before .before .before .before .before .before .before .loop in omega (arith, i .inv .same, i .inv .written, c .before .before .before .before .before .before .loop-test .taken, c .before .before .before .before .before .before .before .before .before .before .before .before .before .before .before .pre .2)
 
 min-requires : tie.Need-min-requires Inv-loop μ-loop
 min-requires c κs = search needs
@@ -123,7 +120,7 @@ min-requires c κs = search needs
 add-at : tie.Need-add-at Inv-loop μ-loop
 add-at c =
     let i = c .before .before .before .before .before .before .before .before .loop in
-    let e : i .at < length (now (c .before .before .before .before .before .before .before .before .before .before .before .before .before .before .before .before .args .slack)) = omega (arith, i .inv .1 .1 .0, c .before .before .before .before .before .before .before .loop-test .taken, c .before .before .before .before .before .before .before .before .before .before .before .before .before .before .before .before .pre .2) in
+    let e : i .at < length (now (c .before .before .before .before .before .before .before .before .before .before .before .before .before .before .before .before .args .slack)) = omega (arith, i .inv .written, c .before .before .before .before .before .before .before .loop-test .taken, c .before .before .before .before .before .before .before .before .before .before .before .before .before .before .before .before .pre .2) in
     search (needs, e, c .before .before .before .before .before .before .before .before .before .before .before .before .before .before .before .before .good .1 .1 .1 .1 .1 .1 .0)
 
 add-s : tie.Need-add-s Inv-loop μ-loop
@@ -136,33 +133,25 @@ loop-again : tie.Need-loop-again Inv-loop μ-loop
 loop-again c =
     let s = c .before .before .before .before .before .before .before .before .before .before .before .before .before .before .before .before in
     let kept = as-long binary64 (gainsOf (s .args .g)) (c .before .before .before .before .before .before .before .before .before .before .padded .result) 8 (c .before .before .before .before .before .before .before .before .loop .moved) (c .before .before .before .before .before .substep .result) (c .before .before .before .before .before .substep .ensures) in
-    let i = c .before .before .before .before .before .before .before .before .loop in (
-      omega arith,
-      (
-        length-set (i .slack) (i .at) (c .before .before .before .slack-abreast .result .value) ∙ i .inv .1 .0,
-        (
-          omega (arith, i .inv .1 .1 .0),
-          (
-            kept .0 ∙ i .inv .1 .1 .1 .0,
-            (
-              kept .1 ∙ i .inv .1 .1 .1 .1 .0,
-              λ t l k u h go.
-                  along-sum (forecast binary64 t) (after binary64 t) l k _ _ (i .s) 1
-                  (wide-advances binary64 t l (k + i .s) (i .moved) (s .args .run .plant) (s .args .n) (i .margin) (i .at) (i .slack) (s .args .g) (s .args .w) (now (s .args .a)) (c .before .before .before .before .before .before .before .before .before .before .padded .result) u
-                  (i .inv .1 .1 .1 .1 .1 t l k u h go)
-                  (towards-next binary64 t l k (s .args .count) (i .s) (now (s .args .a)) (first (s .args .run .plant) (s .args .run .margin) (s .args .run .done)) (running (i .moved) (s .args .run .plant) (s .args .n) (i .margin) (i .at)) (now (s .args .slack)) (i .slack) h go (i .inv .1 .1 .1 .1 .1 t l k u h go) (omega arith))
-                  (s .pre .0) (i .inv .1 .1 .1 .0) (i .inv .1 .1 .1 .1 .0) (long s .0) (long s .1) (taken-in (s .args .n) (now (s .args .a)) (s .pre .0) (s .pre .1) (c .before .before .before .before .before .before .before .before .before .before .padded .ensures)) (c .before .before .before .before .before .substep .result) (c .before .before .before .before .before .substep .ensures) (c .before .before .before .slack-abreast .result) (c .before .before .before .slack-abreast .ensures) (not-false _ (c .before .if2 .left)) _ (c .min .ensures)),
-            ),
-          ),
-        ),
-      ),
-    )
+    let i = c .before .before .before .before .before .before .before .before .loop in record {
+      turns = omega arith;
+      same = length-set (i .slack) (i .at) (c .before .before .before .slack-abreast .result .value) ∙ i .inv .same;
+      written = omega (arith, i .inv .written);
+      places = kept .0 ∙ i .inv .places;
+      rates = kept .1 ∙ i .inv .rates;
+      comes = λ t l k u h go.
+          along-sum (forecast binary64 t) (after binary64 t) l k _ _ (i .s) 1
+          (wide-advances binary64 t l (k + i .s) (i .moved) (s .args .run .plant) (s .args .n) (i .margin) (i .at) (i .slack) (s .args .g) (s .args .w) (now (s .args .a)) (c .before .before .before .before .before .before .before .before .before .before .padded .result) u
+          (i .inv .comes t l k u h go)
+          (towards-next binary64 t l k (s .args .count) (i .s) (now (s .args .a)) (first (s .args .run .plant) (s .args .run .margin) (s .args .run .done)) (running (i .moved) (s .args .run .plant) (s .args .n) (i .margin) (i .at)) (now (s .args .slack)) (i .slack) h go (i .inv .comes t l k u h go) (omega arith))
+          (s .pre .0) (i .inv .places) (i .inv .rates) (long s .0) (long s .1) (taken-in (s .args .n) (now (s .args .a)) (s .pre .0) (s .pre .1) (c .before .before .before .before .before .before .before .before .before .before .padded .ensures)) (c .before .before .before .before .before .substep .result) (c .before .before .before .before .before .substep .ensures) (c .before .before .before .slack-abreast .result) (c .before .before .before .slack-abreast .ensures) (not-false _ (c .before .if2 .left)) _ (c .min .ensures));
+    }
 
 ended-requires-2 : tie.Need-ended-requires-2 Inv-loop μ-loop
 ended-requires-2 c κs = search needs
 
 same-length-2 : tie.Need-same-length-2 Inv-loop μ-loop
-same-length-2 c = c .before .before .loop .inv .1 .0
+same-length-2 c = c .before .before .loop .inv .same
 
 returns-3 : tie.Need-returns-3 Inv-loop μ-loop
 returns-3 c =
@@ -171,10 +160,10 @@ returns-3 c =
     let sound : s .args .run .sound ≡ true = not-false _ (c .before .before .before .before .before .before .if1 .left) in
     let e : i .s ≡ s .args .count = omega arith in
     rw (c .ended2 .ensures) (
-      omega (arith, i .inv .1 .1 .0, e),
+      omega (arith, i .inv .written, e),
       λ t l k u r towards.
           along-at (forecast binary64 t) (after binary64 t) l (k + s .args .count) _ _ (k + i .s) (ap (λ (m : ℕ). k + m) e)
-          (i .inv .1 .1 .1 .1 .1 t l k u (subst (λ (q : Run). Along binary64 t l k q (now (s .args .slack))) (going (s .args .run) sound) r) (λ _. towards sound)),
+          (i .inv .comes t l k u (subst (λ (q : Run). Along binary64 t l k q (now (s .args .slack))) (going (s .args .run) sound) r) (λ _. towards sound)),
     )
 
 pub abreast-spec : {M : Type 1} → statement M

@@ -1,24 +1,38 @@
 -- `rollout::joined` meets its contract: the loop takes one axis a turn.
-use Prim.Native.Nat.{_-_, _≤_}
+use Prim.Native.Nat.{ℕ, _-_, _≤_}
 use mathlib.Core.Path.{_≡_, refl, _∙_}
 use native.Mathlib.Omega.{arith}
 use borrow.Author.Needs.{needs}
 use lib.ListN.{length, length-set}
+use Rattle.course.specs.declared.Plant.{Plant}
 use Rattle.checked.specs.Each.{at, over}
 use Rattle.rollout.specs.Of.{joinedOf}
 use Rattle.rollout.proofs.Wide.{joined-more}
 use Rattle.rollout.proofs.joined.Statement.{statement}
 use Rattle.rollout.proofs.joined.Tie as tie
 
+-- the first j axes are those that moved
+record Joining (n : ℕ) (moved r₀ r : Plant) (j : ℕ) : Type 0 where
+  along : j ≤ n
+  places : length (r .p) ≡ 8
+  rates : length (r .v) ≡ 8
+  so-far : r ≡ joinedOf moved r₀ j
+
 abbrev Inv-loop : tie.InvT-loop
-Inv-loop n moved r₀ j₀ r j = (j ≤ n) × ((length (r .p) ≡ 8) × ((length (r .v) ≡ 8) × (r ≡ joinedOf moved r₀ j)))
+Inv-loop n moved r₀ j₀ r j = Joining n moved r₀ r j
 
 abbrev μ-loop : tie.MeasureT-loop
 μ-loop n moved r₀ j₀ r j = n - j
 
 loop-holds : tie.Need-loop-holds Inv-loop μ-loop
 unfolding over
-loop-holds c = (omega arith, (search needs, (search needs, refl)))
+loop-holds c =
+    record {
+      along = omega arith;
+      places = search needs;
+      rates = search needs;
+      so-far = refl;
+    }
 
 mul-r : tie.Need-mul-r Inv-loop μ-loop
 mul-r c = search needs
@@ -53,14 +67,18 @@ loop-less c = search needs
 loop-again : tie.Need-loop-again Inv-loop μ-loop
 loop-again c =
     let l = c .before .before .before .loop in
-    let s = c .before .before .before .before .args in
-    (omega arith, (length-set (l .r .p) (l .j) (at (s .t1 .p) (l .j)) ∙ l .inv .1 .0, (length-set (l .r .v) (l .j) (at (s .t1 .v) (l .j)) ∙ l .inv .1 .1 .0, joined-more (s .t1) (s .still) (l .r) (l .j) (l .inv .1 .1 .1))))
+    let s = c .before .before .before .before .args in record {
+      along = omega arith;
+      places = length-set (l .r .p) (l .j) (at (s .t1 .p) (l .j)) ∙ l .inv .places;
+      rates = length-set (l .r .v) (l .j) (at (s .t1 .v) (l .j)) ∙ l .inv .rates;
+      so-far = joined-more (s .t1) (s .still) (l .r) (l .j) (l .inv .so-far);
+    }
 
 returns : tie.Need-returns Inv-loop μ-loop
 returns c =
     let l = c .before .loop in
     let e : l .j ≡ c .before .before .args .n = omega arith in
-    rw e at (l .inv .1 .1 .1)
+    rw e at (l .inv .so-far)
 
 pub joined-spec : {M : Type 1} → statement M
 joined-spec =

@@ -8,6 +8,10 @@ use borrow.Author.Needs.{needs}
 use denote.Ref.{now}
 use lib.ListN.{length}
 use lib.Ieee.{Float, binary64}
+use Rattle.course.specs.declared.Course.{Course}
+use Rattle.course.specs.declared.Run.{Run}
+use Rattle.workspace.specs.declared.Workspace.{Workspace}
+use Rattle.rollout.specs.declared.Law.{Law}
 use Rattle.chunk.proofs.Rows.{row-long}
 use Rattle.chunk.proofs.Rows.{row-within}
 use Rattle.course.specs.declared.Plant.{Plant}
@@ -20,14 +24,17 @@ use Rattle.rollout.proofs.Rows.{row-more, aims-row}
 use Rattle.rollout.proofs.push.Statement.{statement}
 use Rattle.rollout.proofs.push.Tie as tie
 
+-- i of the rows that are left are run
+record Pushing (g : Law) (w : Workspace) (c : Course) (rows slack₀ : List Float) (left per : ℕ) (r₀ : Run) (slack : List Float) (r : Run) (i : ℕ) : Type 0 where
+  turns : i ≤ left
+  rows-left : left ≡ leftOf c .0
+  substeps : per ≡ c .per .0
+  same : length slack ≡ length slack₀
+  written : r .done ≤ r₀ .done + i * per
+  comes : ((s : Plant) (l : List Float) → Along binary64 (taskOf g w c s rows) l 0 r₀ slack₀ → Along binary64 (taskOf g w c s rows) l (i * per) r slack)
+
 abbrev Inv-loop : tie.InvT-loop
-Inv-loop g w c rows slack₀ left per r₀ i₀ slack r i =
-    (i ≤ left)
-    × ((left ≡ leftOf c .0)
-    × ((per ≡ c .per .0)
-    × ((length slack ≡ length slack₀)
-    × ((r .done ≤ r₀ .done + i * per)
-    × ((s : Plant) (l : List Float) → Along binary64 (taskOf g w c s rows) l 0 r₀ slack₀ → Along binary64 (taskOf g w c s rows) l (i * per) r slack)))))
+Inv-loop g w c rows slack₀ left per r₀ i₀ slack r i = Pushing g w c rows slack₀ left per r₀ slack r i
 
 abbrev μ-loop : tie.MeasureT-loop
 μ-loop g w c rows slack₀ left per r₀ i₀ slack r i = left - i
@@ -43,25 +50,17 @@ cast-per c = search needs
 
 loop-holds : tie.Need-loop-holds Inv-loop μ-loop
 loop-holds c =
-    let s = c .before .before .before .before .before in (
-      omega arith,
-      (
-        c .before .before .rows-left .ensures,
-        (
-          refl,
-          (
-            refl,
-            (
-              omega (arith, zero-mul (s .args .c .per .0)),
-              λ q l h. along-at (forecast binary64 (taskOf (s .args .g) (s .args .w) (s .args .c) q (now (s .args .rows)))) (after binary64 (taskOf (s .args .g) (s .args .w) (s .args .c) q (now (s .args .rows)))) l (0 * s .args .c .per .0) (s .args .run) (now (s .args .slack)) 0 (sym (zero-mul (s .args .c .per .0))) h,
-            ),
-          ),
-        ),
-      ),
-    )
+    let s = c .before .before .before .before .before in record {
+      turns = omega arith;
+      rows-left = c .before .before .rows-left .ensures;
+      substeps = refl;
+      same = refl;
+      written = omega (arith, zero-mul (s .args .c .per .0));
+      comes = λ q l h. along-at (forecast binary64 (taskOf (s .args .g) (s .args .w) (s .args .c) q (now (s .args .rows)))) (after binary64 (taskOf (s .args .g) (s .args .w) (s .args .c) q (now (s .args .rows)))) l (0 * s .args .c .per .0) (s .args .run) (now (s .args .slack)) 0 (sym (zero-mul (s .args .c .per .0))) h;
+    }
 
 add-action : tie.Need-add-action Inv-loop μ-loop
-add-action c = let i = c .before .before .loop in omega (arith, i .inv .1 .0, c .before .loop-test .taken, c .before .before .before .before .before .before .before .before .good .1 .1 .0)
+add-action c = let i = c .before .before .loop in omega (arith, i .inv .rows-left, c .before .loop-test .taken, c .before .before .before .before .before .before .before .before .good .1 .1 .0)
 
 action-requires : tie.Need-action-requires Inv-loop μ-loop
 action-requires c κs = search needs
@@ -73,7 +72,7 @@ hold-requires c κs =
     let q = shape-of _ _ (s .pre .0) in
     let long : length (now (c .before .action .result)) ≡ s .args .c .dim =
     ap length (c .before .action .ensures) ∙ row-long (now (s .args .rows)) (s .args .c .horizon) (s .args .c .dim) (s .args .c .from + i .i) (q .rowed) (q .there) in
-    (q .axes, omega (arith, long, q .within), omega (arith, i .inv .1 .1 .1 .1 .0, i .inv .1 .0, i .inv .1 .1 .1 .0, row-within (i .i) (leftOf (s .args .c) .0) (s .args .c .per .0) (omega (arith, i .inv .1 .0)), s .pre .1))
+    (q .axes, omega (arith, long, q .within), omega (arith, i .inv .written, i .inv .rows-left, i .inv .same, row-within (i .i) (leftOf (s .args .c) .0) (s .args .c .per .0) (omega (arith, i .inv .rows-left)), s .pre .1))
 
 add-i : tie.Need-add-i Inv-loop μ-loop
 add-i c = omega arith
@@ -82,45 +81,37 @@ loop-less : tie.Need-loop-less Inv-loop μ-loop
 loop-less c = omega arith
 
 still : (c : tie.After-slice-known2 Inv-loop μ-loop) → c .before .before .before .before .before .before .before .loop .i < leftOf (c .before .before .before .before .before .before .before .before .before .before .before .before .before .args .c) .0
-still c = omega (arith, c .before .before .before .before .before .before .loop-test .taken, c .before .before .before .before .before .before .before .loop .inv .1 .0)
+still c = omega (arith, c .before .before .before .before .before .before .loop-test .taken, c .before .before .before .before .before .before .before .loop .inv .rows-left)
 
 loop-again : tie.Need-loop-again Inv-loop μ-loop
 loop-again c =
     let s = c .before .before .before .before .before .before .before .before .before .before .before .before .before in
     let i = c .before .before .before .before .before .before .before .loop in
     let call = c .before .before .hold in
-    let per = s .args .c .per .0 in (
-      omega (arith, c .before .before .before .before .before .before .loop-test .taken),
-      (
-        i .inv .1 .0,
-        (
-          refl,
-          (
-            call .kept .1 .1 .1 .1 .1 .1 .0 ∙ i .inv .1 .1 .1 .0,
-            (
-              omega (arith, call .ensures .0, i .inv .1 .1 .1 .1 .0, row-more (i .i) per),
-              λ q l h.
-                  let t = taskOf (s .args .g) (s .args .w) (s .args .c) q (now (s .args .rows)) in
-                  along-at (forecast binary64 t) (after binary64 t) l ((i .i + 1) * per) (call .result) _ (i .i * per + per) (sym (row-more (i .i) per))
-                  (call .ensures .1 t l (i .i * per) (record { gains = refl; walls = refl; live = refl }) (i .inv .1 .1 .1 .1 .1 q l h)
-                  (λ _ j b. aims-row binary64 t (i .i) j (still c) b ∙ sym (c .before .before .before .before .action .ensures))),
-            ),
-          ),
-        ),
-      ),
-    )
+    let per = s .args .c .per .0 in record {
+      turns = omega (arith, c .before .before .before .before .before .before .loop-test .taken);
+      rows-left = i .inv .rows-left;
+      substeps = refl;
+      same = call .kept .1 .1 .1 .1 .1 .1 .0 ∙ i .inv .same;
+      written = omega (arith, call .ensures .0, i .inv .written, row-more (i .i) per);
+      comes = λ q l h.
+          let t = taskOf (s .args .g) (s .args .w) (s .args .c) q (now (s .args .rows)) in
+          along-at (forecast binary64 t) (after binary64 t) l ((i .i + 1) * per) (call .result) _ (i .i * per + per) (sym (row-more (i .i) per))
+          (call .ensures .1 t l (i .i * per) (record { gains = refl; walls = refl; live = refl }) (i .inv .comes q l h)
+          (λ _ j b. aims-row binary64 t (i .i) j (still c) b ∙ sym (c .before .before .before .before .action .ensures)));
+    }
 
 same-length : tie.Need-same-length Inv-loop μ-loop
-same-length c = c .before .loop .inv .1 .1 .1 .0
+same-length c = c .before .loop .inv .same
 
 returns : tie.Need-returns Inv-loop μ-loop
 returns c =
     let s = c .before .before .before .before .before .before .before in
     let i = c .before .loop in
     let per = s .args .c .per .0 in
-    let e : i .i ≡ leftOf (s .args .c) .0 = omega (arith, i .inv .1 .0) in
+    let e : i .i ≡ leftOf (s .args .c) .0 = omega (arith, i .inv .rows-left) in
     let m : i .i * per ≡ leftOf (s .args .c) .0 * per = ap (λ (x : ℕ). x * per) e in
-    (omega (arith, i .inv .1 .1 .1 .1 .0, m), λ q l h. along-at (forecast binary64 (taskOf (s .args .g) (s .args .w) (s .args .c) q (now (s .args .rows)))) (after binary64 (taskOf (s .args .g) (s .args .w) (s .args .c) q (now (s .args .rows)))) l (leftOf (s .args .c) .0 * per) _ _ (i .i * per) m (i .inv .1 .1 .1 .1 .1 q l h))
+    (omega (arith, i .inv .written, m), λ q l h. along-at (forecast binary64 (taskOf (s .args .g) (s .args .w) (s .args .c) q (now (s .args .rows)))) (after binary64 (taskOf (s .args .g) (s .args .w) (s .args .c) q (now (s .args .rows)))) l (leftOf (s .args .c) .0 * per) _ _ (i .i * per) m (i .inv .comes q l h))
 
 pub push-spec : {M : Type 1} → statement M
 push-spec =

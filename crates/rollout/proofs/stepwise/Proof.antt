@@ -6,6 +6,9 @@ use native.Mathlib.Omega.{arith}
 use denote.Ref.{now}
 use lib.ListN.{length}
 use lib.Ieee.{Float, binary64}
+use Rattle.course.specs.declared.Run.{Run}
+use Rattle.workspace.specs.declared.Workspace.{Workspace}
+use Rattle.rollout.specs.declared.Law.{Law}
 use Rattle.rollout.specs.Rule.{Task, after, forecast}
 use Rattle.rollout.specs.Of.{Along, Towards, Under}
 use Rattle.rollout.proofs.Along.{towards-next}
@@ -13,18 +16,27 @@ use Rattle.course.proofs.Along.{along-zero, along-sum, along-at}
 use Rattle.rollout.proofs.stepwise.Statement.{statement}
 use Rattle.rollout.proofs.stepwise.Tie as tie
 
+-- s of count substeps are run
+record Coming (g : Law) (w : Workspace) (n : ℕ) (a : List Float) (count : ℕ) (slack₀ : List Float) (r₀ : Run) (slack : List Float) (r : Run) (s : ℕ) : Type 0 where
+  turns : s ≤ count
+  same : length slack ≡ length slack₀
+  written : r .done ≤ r₀ .done + s
+  comes : ((t : Task) (l : List Float) (k : ℕ) → Under t g w n → Along binary64 t l k r₀ slack₀ → Towards binary64 t k count a r₀ → Along binary64 t l (k + s) r slack)
+
 abbrev Inv-loop : tie.InvT-loop
-Inv-loop g w n a count slack₀ r₀ s₀ slack r s =
-    (s ≤ count)
-    × ((length slack ≡ length slack₀)
-    × ((r .done ≤ r₀ .done + s)
-    × ((t : Task) (l : List Float) (k : ℕ) → Under t g w n → Along binary64 t l k r₀ slack₀ → Towards binary64 t k count a r₀ → Along binary64 t l (k + s) r slack)))
+Inv-loop g w n a count slack₀ r₀ s₀ slack r s = Coming g w n a count slack₀ r₀ slack r s
 
 abbrev μ-loop : tie.MeasureT-loop
 μ-loop g w n a count slack₀ r₀ s₀ slack r s = count - s
 
 loop-holds : tie.Need-loop-holds Inv-loop μ-loop
-loop-holds c = (omega arith, (refl, (omega arith, λ t l k u h go. along-zero (forecast binary64 t) (after binary64 t) l k _ _ h)))
+loop-holds c =
+    record {
+      turns = omega arith;
+      same = refl;
+      written = omega arith;
+      comes = λ t l k u h go. along-zero (forecast binary64 t) (after binary64 t) l k _ _ h;
+    }
 
 advance-requires : tie.Need-advance-requires Inv-loop μ-loop
 advance-requires c κs = let s = c .before .before .before .before .before in (s .pre .0, s .pre .1, omega (arith, s .pre .2))
@@ -39,28 +51,24 @@ loop-again : tie.Need-loop-again Inv-loop μ-loop
 loop-again c =
     let s = c .before .before .before .before .before .before .before .before in
     let i = c .before .before .before .before .before .loop in
-    let call = c .before .before .advance in (
-      omega arith,
-      (
-        call .kept .1 .1 .1 .1 .1 .0 ∙ i .inv .1 .0,
-        (
-          omega (arith, call .ensures .0, i .inv .1 .1 .0),
-          λ t l k u h go.
-              along-sum (forecast binary64 t) (after binary64 t) l k _ _ (i .s) 1
-              (call .ensures .1 t l (k + i .s) u (i .inv .1 .1 .1 t l k u h go) (towards-next binary64 t l k (s .args .count) (i .s) (now (s .args .a)) (s .args .run) (i .r) (now (s .args .slack)) (i .slack) h go (i .inv .1 .1 .1 t l k u h go) (omega arith))),
-        ),
-      ),
-    )
+    let call = c .before .before .advance in record {
+      turns = omega arith;
+      same = call .kept .1 .1 .1 .1 .1 .0 ∙ i .inv .same;
+      written = omega (arith, call .ensures .0, i .inv .written);
+      comes = λ t l k u h go.
+          along-sum (forecast binary64 t) (after binary64 t) l k _ _ (i .s) 1
+          (call .ensures .1 t l (k + i .s) u (i .inv .comes t l k u h go) (towards-next binary64 t l k (s .args .count) (i .s) (now (s .args .a)) (s .args .run) (i .r) (now (s .args .slack)) (i .slack) h go (i .inv .comes t l k u h go) (omega arith)));
+    }
 
 same-length : tie.Need-same-length Inv-loop μ-loop
-same-length c = c .before .loop .inv .1 .0
+same-length c = c .before .loop .inv .same
 
 returns : tie.Need-returns Inv-loop μ-loop
 returns c =
     let s = c .before .before .before .before in
     let i = c .before .loop in
     let e : i .s ≡ s .args .count = omega arith in
-    (omega (arith, i .inv .1 .1 .0), λ t l k u h go. along-at (forecast binary64 t) (after binary64 t) l (k + s .args .count) _ _ (k + i .s) (ap (λ (m : ℕ). k + m) e) (i .inv .1 .1 .1 t l k u h go))
+    (omega (arith, i .inv .written), λ t l k u h go. along-at (forecast binary64 t) (after binary64 t) l (k + s .args .count) _ _ (k + i .s) (ap (λ (m : ℕ). k + m) e) (i .inv .comes t l k u h go))
 
 pub stepwise-spec : {M : Type 1} → statement M
 stepwise-spec =

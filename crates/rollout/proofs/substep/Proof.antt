@@ -1,11 +1,14 @@
 -- `rollout::substep` meets its contract: the loop takes one axis a turn.
-use Prim.Native.Nat.{_-_, _≤_}
+use Prim.Native.Nat.{ℕ, _-_, _≤_}
+use mathlib.Core.List.{List}
 use mathlib.Core.Path.{_≡_, refl, ap, _∙_}
 use native.Mathlib.Omega.{arith}
 use borrow.Author.Needs.{needs}
 use denote.Ref.{now}
 use lib.ListN.{length, length-set}
-use lib.Ieee.{binary64}
+use lib.Ieee.{Float, binary64}
+use Rattle.course.specs.declared.Plant.{Plant}
+use Rattle.rollout.specs.declared.Law.{Law}
 use Rattle.rollout.specs.Plant.{Motion, substep}
 use Rattle.rollout.specs.declared.Moved.{Moved}
 use Rattle.rollout.specs.Of.{gainsOf}
@@ -17,15 +20,28 @@ use Rattle.rollout.proofs.substep.Tie as tie
 abbrev motionOf : Moved → Motion
 motionOf m = record { p = m .p; v = m .v }
 
+-- the first j axes have moved
+record Stepping (g : Law) (a : List Float) (n : ℕ) (r₀ r : Plant) (j : ℕ) : Type 0 where
+  along : j ≤ n
+  places : length (r .p) ≡ 8
+  rates : length (r .v) ≡ 8
+  so-far : stateOf r ≡ substep binary64 (gainsOf g) a j (stateOf r₀) .value
+
 abbrev Inv-loop : tie.InvT-loop
-Inv-loop g a n r₀ j₀ r j = (j ≤ n) × ((length (r .p) ≡ 8) × ((length (r .v) ≡ 8) × (stateOf r ≡ substep binary64 (gainsOf g) a j (stateOf r₀) .value)))
+Inv-loop g a n r₀ j₀ r j = Stepping g a n r₀ r j
 
 abbrev μ-loop : tie.MeasureT-loop
 μ-loop g a n r₀ j₀ r j = n - j
 
 loop-holds : tie.Need-loop-holds Inv-loop μ-loop
 unfolding substep
-loop-holds c = (omega arith, (search needs, (search needs, refl)))
+loop-holds c =
+    record {
+      along = omega arith;
+      places = search needs;
+      rates = search needs;
+      so-far = refl;
+    }
 
 mul-axis : tie.Need-mul-axis Inv-loop μ-loop
 mul-axis c = search needs
@@ -70,23 +86,19 @@ loop-again : tie.Need-loop-again Inv-loop μ-loop
 loop-again c =
     let l = c .before .before .before .before .before .loop in
     let s = c .before .before .before .before .before .before .before .args in
-    let m = c .axis .result in (
-      omega arith,
-      (
-        length-set (l .r .p) (l .j) (m .p) ∙ l .inv .1 .0,
-        (
-          length-set (l .r .v) (l .j) (m .v) ∙ l .inv .1 .1 .0,
-          substep-more binary64 (gainsOf (s .g)) (now (s .a)) (stateOf (s .s)) (l .j) (stateOf (l .r)) (motionOf m) (l .inv .1 .1 .1) (ap motionOf (c .axis .ensures)),
-        ),
-      ),
-    )
+    let m = c .axis .result in record {
+      along = omega arith;
+      places = length-set (l .r .p) (l .j) (m .p) ∙ l .inv .places;
+      rates = length-set (l .r .v) (l .j) (m .v) ∙ l .inv .rates;
+      so-far = substep-more binary64 (gainsOf (s .g)) (now (s .a)) (stateOf (s .s)) (l .j) (stateOf (l .r)) (motionOf m) (l .inv .so-far) (ap motionOf (c .axis .ensures));
+    }
 
 returns : tie.Need-returns Inv-loop μ-loop
 returns c =
     let l = c .before .loop in
     let s = c .before .before .before .args in
     let e : l .j ≡ s .n = omega arith in
-    rw e at (l .inv .1 .1 .1)
+    rw e at (l .inv .so-far)
 
 pub substep-spec : {M : Type 1} → statement M
 substep-spec =

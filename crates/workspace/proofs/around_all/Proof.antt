@@ -1,11 +1,13 @@
 -- `workspace::around_all` meets its contract: two axes a turn, of which the two sums tell.
 use Prim.Native.Nat.{ℕ, _+_, _-_, _*_, _≤_, _<_}
+use mathlib.Core.List.{List}
 use mathlib.Core.Path.{_≡_, _∙_}
 use mathlib.Core.Bool.{true, _&&_}
 use native.Mathlib.Omega.{arith}
 use borrow.Author.Needs.{needs}
 use lib.ListN.{length, set, length-set}
-use lib.Ieee.{binary64}
+use lib.Ieee.{Float, binary64}
+use Rattle.workspace.specs.declared.Workspace.{Workspace}
 use Rattle.checked.specs.Each.{at}
 use Rattle.checked.specs.Finite.{finite}
 use Rattle.checked.proofs.Each.{_&&≡_}
@@ -16,18 +18,27 @@ use Rattle.workspace.proofs.Gaps.{near-more, sums-tell}
 use Rattle.workspace.proofs.around_all.Statement.{statement}
 use Rattle.workspace.proofs.around_all.Tie as tie
 
+-- the first i pairs of axes are taken
+record Paired (w : Workspace) (p : List Float) (near : List Float) (even odd : Float) (i : ℕ) : Type 0 where
+  along : i ≤ 4
+  wide : length near ≡ 8
+  so-far : ((j : ℕ) → j < 2 * i → at near j ≡ gap binary64 (wallsOf w) p j .value)
+  told : finite even && finite odd ≡ true → (j : ℕ) → j < 2 * i → gap binary64 (wallsOf w) p j .sound ≡ true
+
 abbrev Inv-loop : tie.InvT-loop
-Inv-loop w p near₀ even₀ odd₀ i₀ near even odd i =
-    (i ≤ 4)
-    × ((length near ≡ 8)
-    × (((j : ℕ) → j < 2 * i → at near j ≡ gap binary64 (wallsOf w) p j .value)
-    × (finite even && finite odd ≡ true → (j : ℕ) → j < 2 * i → gap binary64 (wallsOf w) p j .sound ≡ true)))
+Inv-loop w p near₀ even₀ odd₀ i₀ near even odd i = Paired w p near even odd i
 
 abbrev μ-loop : tie.MeasureT-loop
 μ-loop w p near₀ even₀ odd₀ i₀ near even odd i = 4 - i
 
 loop-holds : tie.Need-loop-holds Inv-loop μ-loop
-loop-holds c = (omega arith, (search needs, ((λ j b. absurd (omega arith)), λ t j b. absurd (omega arith))))
+loop-holds c =
+    record {
+      along = omega arith;
+      wide = search needs;
+      so-far = (λ j b. absurd (omega arith));
+      told = λ t j b. absurd (omega arith);
+    }
 
 mul-j : tie.Need-mul-j Inv-loop μ-loop
 mul-j c = search needs
@@ -102,14 +113,18 @@ loop-again c =
     let one = c .before .before .before .before .before .beside in
     let other = c .before .before .beside2 in
     let m = 2 * l .i in
-    let near = near-more (λ (j : ℕ). gap binary64 (wallsOf (s .t1)) (s .t2) j .value) (l .near) m (one .result .near) (other .result .near) (omega (arith, l .inv .1 .0)) (l .inv .1 .1 .0) (one .ensures .0) (other .ensures .0) in
-    let told = sums-tell binary64 (wallsOf (s .t1)) (s .t2) m (l .even) (l .odd) (one .result .sum) (other .result .sum) (l .inv .1 .1 .1) (one .ensures .1) (other .ensures .1) in
-    (omega arith, (length-set (set (l .near) m (one .result .near)) (m + 1) (other .result .near) ∙ length-set (l .near) m (one .result .near) ∙ l .inv .1 .0, ((λ j b. near j (omega arith)), λ t j b. told t j (omega arith))))
+    let near = near-more (λ (j : ℕ). gap binary64 (wallsOf (s .t1)) (s .t2) j .value) (l .near) m (one .result .near) (other .result .near) (omega (arith, l .inv .wide)) (l .inv .so-far) (one .ensures .0) (other .ensures .0) in
+    let told = sums-tell binary64 (wallsOf (s .t1)) (s .t2) m (l .even) (l .odd) (one .result .sum) (other .result .sum) (l .inv .told) (one .ensures .1) (other .ensures .1) in record {
+      along = omega arith;
+      wide = length-set (set (l .near) m (one .result .near)) (m + 1) (other .result .near) ∙ length-set (l .near) m (one .result .near) ∙ l .inv .wide;
+      so-far = (λ j b. near j (omega arith));
+      told = λ t j b. told t j (omega arith);
+    }
 
 returns : tie.Need-returns Inv-loop μ-loop
 returns c =
     let l = c .before .loop in
-    ((λ j b. l .inv .1 .1 .0 j (omega arith)), λ t j b. l .inv .1 .1 .1 (fine-add-left binary64 (l .even) (l .odd) t &&≡ fine-add-right binary64 (l .even) (l .odd) t) j (omega arith))
+    ((λ j b. l .inv .so-far j (omega arith)), λ t j b. l .inv .told (fine-add-left binary64 (l .even) (l .odd) t &&≡ fine-add-right binary64 (l .even) (l .odd) t) j (omega arith))
 
 pub around-all-spec : {M : Type 1} → statement M
 around-all-spec =
