@@ -20,7 +20,7 @@ use envelope::Limits;
 use envelope::Norm;
 use envelope::Substeps;
 use refusal::Refusal;
-use words::number;
+use words::float_of;
 use words::pattern;
 
 // What a line says: the answer's number, the count and, where it is accepted, the bits of the margin and of the stop distance.
@@ -71,8 +71,8 @@ fn norm() -> Norm
 fn walls(c: Card) -> Box
     ensures { λ r. ⌜ r ≡ wallsOf c ⌝ }
 {
-    let lo = number(c.lo);
-    let hi = number(c.hi);
+    let lo = float_of(c.lo);
+    let hi = float_of(c.hi);
     Box {
         lo: [lo; 8],
         hi: [hi; 8],
@@ -83,9 +83,9 @@ fn walls(c: Card) -> Box
 fn brake(c: Card) -> BrakeModel
     ensures { λ r. ⌜ r ≡ brakeOf c ⌝ }
 {
-    let k_p = number(c.k_p);
-    let k_v = number(c.k_v);
-    let dt = number(c.dt);
+    let k_p = float_of(c.k_p);
+    let k_v = float_of(c.k_v);
+    let dt = float_of(c.dt);
     BrakeModel {
         kind: BrakeKind::PdSecondOrder { k_p, k_v, dt },
         substeps: Substeps(c.substeps),
@@ -137,12 +137,12 @@ pub fn run(c: Card, slack: &mut [f64]) -> BrakeOut
 {
     let config = configure(c);
     let table = table();
-    let p = [number(c.p)];
-    let v = [number(c.v)];
-    let r0 = number(c.row0);
-    let r1 = number(c.row1);
-    let r2 = number(c.row2);
-    let r3 = number(c.row3);
+    let p = [float_of(c.p)];
+    let v = [float_of(c.v)];
+    let r0 = float_of(c.row0);
+    let r1 = float_of(c.row1);
+    let r2 = float_of(c.row2);
+    let r3 = float_of(c.row3);
     let rows = [r0, r1, r2, r3];
     let from = c.from as usize;
     brake::brake_feasible(config, &table, &table, &p, &v, &rows, 4, 1, 1, from, slack)

@@ -6,7 +6,7 @@ use lib.Dec.{leb, eqb}
 use lib.Ieee.{Float}
 use Rattle.checked.specs.Each.{every}
 use Rattle.chunk.specs.declared.ChunkBuf.{ChunkBuf}
-use Rattle.window.specs.Rule.{bit}
+use Rattle.window.specs.Rule.{flag}
 use Rattle.layout.specs.Places.{count, long, in16, in32}
 
 -- filled is a flag; of a chunk that is held, seq and t_emit fit, and rows 6 to 8 refuse the sizes that do not
@@ -27,7 +27,7 @@ chunkOf l h = record {
 
 -- a chunk's counts, laid out
 abbrev pub headerFrom : ℕ → ℕ → ℕ → ℕ → ℕ → Bool → List ℕ
-headerFrom s t h d e filled = s ∷ t ∷ h ∷ d ∷ e ∷ bit filled ∷ []
+headerFrom s t h d e filled = s ∷ t ∷ h ∷ d ∷ e ∷ flag filled ∷ []
 
 abbrev pub headerFlat : ChunkBuf → List ℕ
 headerFlat b = headerFrom (b .seq) (b .«t_emit») (b .horizon) (b .dim) (b .«exec_steps») (b .filled)

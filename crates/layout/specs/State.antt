@@ -5,7 +5,7 @@ use mathlib.Core.List.{List, [], _∷_}
 use lib.Dec.{leb, eqb}
 use lib.Ieee.{Float}
 use Rattle.checked.specs.Each.{every}
-use Rattle.window.specs.Rule.{bit}
+use Rattle.window.specs.Rule.{flag}
 use Rattle.tier1.specs.declared.Tier1Rt.{Tier1Rt}
 use Rattle.layout.specs.Places.{count, long, in32}
 use Rattle.layout.specs.Chunk.{headerFits, chunkOf}
@@ -27,4 +27,4 @@ stateOf l h p t f c = record {
 
 -- the counts of the held features, laid out
 abbrev pub heldMarks : Bool → ℕ → List ℕ
-heldMarks have bits = bit have ∷ bits ∷ []
+heldMarks have bits = flag have ∷ bits ∷ []

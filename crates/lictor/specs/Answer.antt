@@ -16,7 +16,7 @@ use Rattle.window.specs.declared.Count.{Count}
 use Rattle.window.specs.declared.Count.the-variants as C
 use Rattle.window.specs.declared.Emptiness.{Emptiness}
 use Rattle.window.specs.declared.Emptiness.the-variants as E
-use Rattle.window.specs.Rule.{bit}
+use Rattle.window.specs.Rule.{flag}
 use Rattle.conformal.specs.declared.Scored.{Scored}
 use Rattle.conformal.specs.declared.Verdict.{Verdict}
 use Rattle.conformal.specs.declared.Verdict.the-variants as Y
@@ -108,7 +108,7 @@ emptinessNumber (E.Empty b) = 0
 emptinessNumber (E.Refused r) = r .number
 
 unfoldable pub emptinessValue : Emptiness → ℕ → ℕ
-emptinessValue (E.Empty b) old = bit b
+emptinessValue (E.Empty b) old = flag b
 emptinessValue (E.Refused r) old = old
 
 pub record EmptinessGiven (a : Emptiness) (r old new : ℕ) : Type 0 where
@@ -185,7 +185,7 @@ forecastNumber (F.Accepted count margin feasible stop) = 0
 forecastNumber (F.Refused r) = r .number
 
 unfoldable pub forecastMarks : BrakeOut → List ℕ → List ℕ
-forecastMarks (F.Accepted count margin feasible stop) old = count ∷ bit feasible ∷ []
+forecastMarks (F.Accepted count margin feasible stop) old = count ∷ flag feasible ∷ []
 forecastMarks (F.Refused r) old = old
 
 unfoldable pub forecastReach : BrakeOut → List Float → List Float
@@ -232,7 +232,7 @@ verdictNumber (Y.Trips b) = 0
 
 unfoldable pub verdictValue : Verdict → ℕ → ℕ
 verdictValue (Y.Refused r) old = old
-verdictValue (Y.Trips b) old = bit b
+verdictValue (Y.Trips b) old = flag b
 
 pub record VerdictGiven (fits : Bool) (a : Verdict) (r old new : ℕ) : Type 0 where
   pub number : r ≡ fitting fits (verdictNumber a)

@@ -82,7 +82,7 @@ use Rattle.refusal.proofs.Refusal.or_later.Reads as refusal-or-later
 use Rattle.refusal.proofs.Refusal.earlier.Reads as refusal-earlier
 use Rattle.words.proofs.pair.Reads as pair
 use Rattle.words.proofs.word.Reads as word
-use Rattle.words.proofs.number.Reads as word-number
+use Rattle.words.proofs.float_of.Reads as float-of
 use Rattle.words.proofs.pattern.Reads as pattern
 use Rattle.layout.proofs.config.config_of.Reads as config-of
 use Rattle.layout.proofs.config.counts_fit.Reads as counts-fit
@@ -401,8 +401,8 @@ one-pair l a r s x y = unique
 pub one-word : One word.Post (λ r x. r)
 one-word l a r s x y = unique
 
-pub one-word-number : One word-number.Post (λ r x. r)
-one-word-number l a r s x y = unique
+pub one-float-of : One float-of.Post (λ r x. r)
+one-float-of l a r s x y = unique
 
 pub one-pattern : One pattern.Post (λ r x. r)
 one-pattern l a r s x y = unique

@@ -10,7 +10,7 @@ use Rattle.refusal.specs.Order.{refusal}
 use Rattle.checked.specs.Each.{at, all, every}
 use Rattle.chunk.specs.Refusals.{heldReasons}
 use Rattle.chunk.specs.Of.{clearedOf}
-use Rattle.window.specs.Rule.{bit}
+use Rattle.window.specs.Rule.{flag}
 use Rattle.window.specs.Answer.{outOfSize}
 use Rattle.conformal.specs.Refusals.{named, sizesOk}
 use Rattle.envelope.specs.Refusals.{countsOk, channelsOk}
@@ -41,7 +41,7 @@ HeaderCounts = (l : List Float) (h d e : ℕ) → refusal (heldReasons l (in16 h
 
 -- a header that is left as it came is that of the entry's answer, where its counts fit
 abbrev pub HeaderKept : Type 0
-HeaderKept = (l : List Float) (s t h d e : ℕ) (f : Bool) → s ≤ 4294967295 → t ≤ 4294967295 → h ≤ 65535 → d ≤ 65535 → e ≤ 65535 → headerFlat (chunkOf l (s ∷ t ∷ h ∷ d ∷ e ∷ bit f ∷ [])) ≡ s ∷ t ∷ h ∷ d ∷ e ∷ bit f ∷ []
+HeaderKept = (l : List Float) (s t h d e : ℕ) (f : Bool) → s ≤ 4294967295 → t ≤ 4294967295 → h ≤ 65535 → d ≤ 65535 → e ≤ 65535 → headerFlat (chunkOf l (s ∷ t ∷ h ∷ d ∷ e ∷ flag f ∷ [])) ≡ s ∷ t ∷ h ∷ d ∷ e ∷ flag f ∷ []
 
 -- and so it is after a reset
 abbrev pub HeaderLetGo : Type 0

@@ -19,7 +19,7 @@ pub(crate) fn record_of(b: &[u8; 4096]) -> Record {
     while i < 358 {
         let w = words::word(b, (8 * i) as u32);
         words[i] = w;
-        numbers[i] = words::number(w);
+        numbers[i] = words::float_of(w);
         i += 1;
     }
     Record { words, numbers }

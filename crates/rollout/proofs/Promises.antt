@@ -26,7 +26,7 @@ use Rattle.workspace.specs.Rule.{Walls, between, gap, slack, inward}
 use Rattle.rollout.specs.Plant.{Gains, motionAt, axis, substep}
 use Rattle.course.specs.Plant.{State}
 use Rattle.course.specs.Forecast.{fine, slackAt, feasibleOf}
-use Rattle.rollout.specs.Rule.{Task, pushes, rowAt, total, pushed, setpoint, aim, after, entry, forecast}
+use Rattle.rollout.specs.Rule.{Task, rowSubsteps, rowAt, total, followed, setpoint, aim, after, entry, forecast}
 use Rattle.course.proofs.Entries.{Whole, feasible-none-negative}
 
 -- an entry that counts is a number
@@ -75,14 +75,14 @@ braking t b = record {
 }
 
 module _ (f : Format) (t : Task) (b : ControlSteps) where
-  same-pushed : (k : ℕ) → pushed f (braking t b) k ≡ pushed f t k
-  unfolding pushed
+  same-pushed : (k : ℕ) → followed f (braking t b) k ≡ followed f t k
+  unfolding followed
   same-pushed zero = refl
   same-pushed (suc k) = ap (λ (s : State). substep f (t .gains) (rowAt t k) (t .n) s .value) (same-pushed k)
 
   same-aim : (k : ℕ) → aim f (braking t b) k ≡ aim f t k
   unfolding aim setpoint
-  same-aim k = ap (λ (s : State). if ltb k (pushes t) then rowAt t k else inward f (t .walls) (s .p) (t .n) .value) (same-pushed (pushes t))
+  same-aim k = ap (λ (s : State). if ltb k (rowSubsteps t) then rowAt t k else inward f (t .walls) (s .p) (t .n) .value) (same-pushed (rowSubsteps t))
 
   same-after : (k : ℕ) → after f (braking t b) k ≡ after f t k
   unfolding after

@@ -13,7 +13,7 @@ use Rattle.chunk.proofs.Rows.{row-within}
 use Rattle.workspace.specs.Rule.{inward}
 use Rattle.course.specs.Plant.{State}
 use Rattle.rollout.specs.Plant.{substep}
-use Rattle.rollout.specs.Rule.{Task, pushes, rowAt, pushed, setpoint, aim, after}
+use Rattle.rollout.specs.Rule.{Task, rowSubsteps, rowAt, followed, setpoint, aim, after}
 use Rattle.course.specs.Rows.{rowsLeft}
 
 -- one row more
@@ -24,21 +24,21 @@ module _ (f : Format) (t : Task) where
   pub aims-row : (i j : ℕ) → i < rowsLeft (t .commit) (t .from) .0 → j < t .per .0 → aim f t (i * t .per .0 + j) ≡ rowOf (t .rows) (t .horizon) (t .dim) (t .from + i)
   unfolding aim
   aims-row i j h b =
-      let l : i * t .per .0 + j < pushes t = omega (arith, row-within i (rowsLeft (t .commit) (t .from) .0) (t .per .0) h) in
-      rw (lt-ltb (i * t .per .0 + j) (pushes t) l, digits-div i b)
+      let l : i * t .per .0 + j < rowSubsteps t = omega (arith, row-within i (rowsLeft (t .commit) (t .from) .0) (t .per .0) h) in
+      rw (lt-ltb (i * t .per .0 + j) (rowSubsteps t) l, digits-div i b)
 
-  aim-row : (k : ℕ) → k < pushes t → aim f t k ≡ rowAt t k
+  aim-row : (k : ℕ) → k < rowSubsteps t → aim f t k ≡ rowAt t k
   unfolding aim
-  aim-row k h = rw (lt-ltb k (pushes t) h)
+  aim-row k h = rw (lt-ltb k (rowSubsteps t) h)
 
   -- while rows are committed the plant is where they push it
-  pub after-pushed : (k : ℕ) → k ≤ pushes t → after f t k ≡ pushed f t k
-  unfolding after pushed
+  pub after-pushed : (k : ℕ) → k ≤ rowSubsteps t → after f t k ≡ followed f t k
+  unfolding after followed
   after-pushed zero h = refl
   after-pushed (suc k) h =
       ap (λ (a : List Float). substep f (t .gains) a (t .n) (after f t k) .value) (aim-row k h)
       ∙ ap (λ (s : State). substep f (t .gains) (rowAt t k) (t .n) s .value) (after-pushed k (omega arith))
 
-  pub aims-setpoint : (k : ℕ) → pushes t ≤ k → aim f t k ≡ inward f (t .walls) (after f t (pushes t) .p) (t .n) .value
+  pub aims-setpoint : (k : ℕ) → rowSubsteps t ≤ k → aim f t k ≡ inward f (t .walls) (after f t (rowSubsteps t) .p) (t .n) .value
   unfolding aim setpoint
-  aims-setpoint k h = rw (le-ltb k (pushes t) h, after-pushed (pushes t) (omega arith))
+  aims-setpoint k h = rw (le-ltb k (rowSubsteps t) h, after-pushed (rowSubsteps t) (omega arith))

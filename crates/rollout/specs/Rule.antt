@@ -34,8 +34,8 @@ pub record Task : Type 0 where
   pub per : Substeps
 
 -- the substeps under committed rows
-abbrev pub pushes : Task → ℕ
-pushes t = substepsOf (rowsLeft (t .commit) (t .from)) (t .per)
+abbrev pub rowSubsteps : Task → ℕ
+rowSubsteps t = substepsOf (rowsLeft (t .commit) (t .from)) (t .per)
 
 -- N
 abbrev pub total : Task → ℕ
@@ -53,17 +53,17 @@ stopDistance f start end n = do
 
 module _ (f : Format) (t : Task) where
   -- the plant after k substeps towards the rows
-  unfoldable pub pushed : ℕ → State
-  pushed zero = t .start
-  pushed (suc k) = substep f (t .gains) (rowAt t k) (t .n) (pushed k) .value
+  unfoldable pub followed : ℕ → State
+  followed zero = t .start
+  followed (suc k) = substep f (t .gains) (rowAt t k) (t .n) (followed k) .value
 
   -- the braking setpoint: clamp(p), with p as the committed rows leave it. Whether it was computed soundly has no place yet: at a box nothing is computed.
   unfoldable pub setpoint : List Float
-  setpoint = inward f (t .walls) (pushed (pushes t) .p) (t .n) .value
+  setpoint = inward f (t .walls) (followed (rowSubsteps t) .p) (t .n) .value
 
   -- what substep k, counted from 0, goes towards
   unfoldable pub aim : ℕ → List Float
-  aim k = if ltb k (pushes t) then rowAt t k else setpoint
+  aim k = if ltb k (rowSubsteps t) then rowAt t k else setpoint
 
   -- the plant after k substeps from the given start
   unfoldable pub after : ℕ → State

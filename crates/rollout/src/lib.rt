@@ -195,7 +195,7 @@ fn hold(g: Law, w: Workspace, n: usize, a: &[f64], count: usize, run: Run, slack
 }
 
 // The committed rows, each held for its substeps.
-fn push(g: Law, w: Workspace, c: Course, rows: &[f64], run: Run, slack: &mut [f64]) -> Run
+fn follow(g: Law, w: Workspace, c: Course, rows: &[f64], run: Run, slack: &mut [f64]) -> Run
     requires { ⌜ (shaped c (length (now rows)) ≡ true) × (run .done + substepsOf (leftOf c) (c .per) ≤ length (now slack)) ⌝ }
     ensures { λ r. ⌜ (r .done ≤ run .done + substepsOf (leftOf c) (c .per)) × ((s : Plant) (l : List Float) → Along binary64 (taskOf g w c s (now (rows .entry))) l 0 run (now (slack .entry)) → Along binary64 (taskOf g w c s (now (rows .entry))) l (substepsOf (leftOf c) (c .per)) r (now (slack .exit))) ⌝ }
 {
@@ -252,13 +252,13 @@ pub fn rollout(
         done: 0,
         sound: true,
     };
-    let pushed = push(g, w, c, rows, first, slack);
-    let plant = pushed.plant;
+    let followed = follow(g, w, c, rows, first, slack);
+    let plant = followed.plant;
     let p = plant.p;
     let inside = workspace::inward(w, p, c.live);
     let setpoint = inside.at;
     let count = envelope::substeps_in(ControlSteps(0), c.brake, c.per);
-    hold(g, w, c.live, &setpoint, count, pushed, slack)
+    hold(g, w, c.live, &setpoint, count, followed, slack)
 }
 
 // How far the plant has moved on the first n axes.

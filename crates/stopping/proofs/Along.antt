@@ -25,9 +25,9 @@ use Rattle.stopping.proofs.Told.{command-told}
 
 module _
     (f : Format) (t : Task) (l : List Float) (k : ℕ) (r : Run) (out : List Float) (h : Along f t l (suc k) r out) (s : r .sound ≡ true)
-    (g wait : Float) (u : Under f t g wait) (a : List Float) (row : rowAt t k ≡ a) (axes : t .n ≤ length (r .plant .v))
+    (g react : Float) (u : Under f t g react) (a : List Float) (row : rowAt t k ≡ a) (axes : t .n ≤ length (r .plant .v))
     (v : List Float) (ev : v ≡ command f (t .arm .kind) (t .arm .dt) g a (stateOf (r .plant)) (t .n) .value)
-    (reach : Reckoned) (er : reach ≡ reckonedFrom (radius f (t .arm .brake) (t .arm .«a_max») (t .arm .«j_max») wait v (t .n)))
+    (reach : Reckoned) (er : reach ≡ reckonedFrom (radius f (t .arm .brake) (t .arm .«a_max») (t .arm .«j_max») react v (t .n)))
     (d : Reckoned) (ed : d ≡ reckonedFrom (slackR f (t .walls) (reach .value) (r .plant .p) (t .n)))
     (next : Row) (en : next ≡ rowFrom (step f (t .arm .dt) v (r .plant .p) (t .n))) where
   from : stateOf (r .plant) ≡ after f t k
@@ -78,8 +78,8 @@ module _
 
 -- the start's entry, from what the code computes of it
 module _
-    (f : Format) (t : Task) (l : List Float) (q : Plant) (eq : stateOf q ≡ t .start) (g : Reckoned) (eg : reckonedFrom (gain f t) ≡ g) (wait : Reckoned) (ew : reckonedFrom (reaction f t) ≡ wait)
-    (reach : Reckoned) (er : reach ≡ reckonedFrom (radius f (t .arm .brake) (t .arm .«a_max») (t .arm .«j_max») (wait .value) (q .v) (t .n)))
+    (f : Format) (t : Task) (l : List Float) (q : Plant) (eq : stateOf q ≡ t .start) (g : Reckoned) (eg : reckonedFrom (gain f t) ≡ g) (react : Reckoned) (ew : reckonedFrom (reaction f t) ≡ react)
+    (reach : Reckoned) (er : reach ≡ reckonedFrom (radius f (t .arm .brake) (t .arm .«a_max») (t .arm .«j_max») (react .value) (q .v) (t .n)))
     (d : Reckoned) (ed : d ≡ reckonedFrom (slackR f (t .walls) (reach .value) (q .p) (t .n))) where
   abbrev first : Run
   first = record { plant = q; margin = inf false; done = 0; sound = true }
@@ -88,7 +88,7 @@ module _
   unfolding stand
   at-start = along-start (forecast f t) (stand f t) l q eq
 
-  start-fine : fine (forecast f t) 0 ≡ wait .sound && (g .sound && (reach .sound && d .sound))
+  start-fine : fine (forecast f t) 0 ≡ react .sound && (g .sound && (reach .sound && d .sound))
   unfolding entry
   start-fine = rw (ed, er, ← ew, ← eg) (ap (λ (s : State). reaction f t .sound && (gain f t .sound && (radiusAt f t (s .v) .sound && slackR f (t .walls) (radiusAt f t (s .v) .value) (s .p) (t .n) .sound))) (sym eq))
 
@@ -96,10 +96,10 @@ module _
   unfolding entry
   start-slack = rw (ed, er, ← ew) (ap (λ (s : State). slackR f (t .walls) (radiusAt f t (s .v) .value) (s .p) (t .n) .value) eq)
 
-  pub start-fails : wait .sound && (g .sound && (reach .sound && d .sound)) ≡ false → Along f t l 1 (haltedAt q (inf false) 0) l
+  pub start-fails : react .sound && (g .sound && (reach .sound && d .sound)) ≡ false → Along f t l 1 (haltedAt q (inf false) 0) l
   start-fails b = along-fails (forecast f t) (stand f t) l 0 first l at-start refl (start-fine ∙ b)
 
-  pub start-enters : wait .sound && (g .sound && (reach .sound && d .sound)) ≡ true → (m : Float) → m ≡ lesser (inf false) (d .value)
+  pub start-enters : react .sound && (g .sound && (reach .sound && d .sound)) ≡ true → (m : Float) → m ≡ lesser (inf false) (d .value)
       → Along f t l 1 (record { plant = q; margin = m; done = 1; sound = true }) (set l 0 (d .value))
   unfolding stand after
   start-enters b m c = along-advances (forecast f t) (stand f t) l 0 first l at-start refl (start-fine ∙ b) q eq (d .value) start-slack m c

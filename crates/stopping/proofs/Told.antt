@@ -36,25 +36,25 @@ module _ (f : Format) where
   unfolding ease
   ease-tells a j s = over-tells (mul f s a) (mul f 2! j)
 
-  pub radius-tells : (b : BrakeKind) (a j wait : Float) (v : List Float) (n : ℕ)
-      → radius f b a j wait v n .sound ≡ dStop f b a j (norm f v n .value) .sound && finite (radius f b a j wait v n .value)
+  pub radius-tells : (b : BrakeKind) (a j react : Float) (v : List Float) (n : ℕ)
+      → radius f b a j react v n .sound ≡ dStop f b a j (norm f v n .value) .sound && finite (radius f b a j react v n .value)
   unfolding radius
-  radius-tells b a j wait v n =
+  radius-tells b a j react v n =
       let s = norm f v n .value in
       let d = dStop f b a j s .value in
-      let w = mul f s wait in
+      let w = mul f s react in
       let r = add f d w in
       let inner : finite w && finite r ≡ finite r = implied _ _ (fine-add-right f d w) in
       ap (λ (x : Bool). norm f v n .sound && (dStop f b a j s .sound && x)) inner
-      ∙ implied _ _ (λ h. norm-tells f v n ∙ fine-mul-left f s wait (fine-add-right f d w (and-right (dStop f b a j s .sound) (finite r) h)))
+      ∙ implied _ _ (λ h. norm-tells f v n ∙ fine-mul-left f s react (fine-add-right f d w (and-right (dStop f b a j s .sound) (finite r) h)))
 
 -- a sum tells of the distance in it; the radius has tests of its own
-pub stop-tells : (f : Format) (arm : Arm) (wait : Float) (start end : State) (n : ℕ)
-    → stopDistance f arm wait start end n .sound ≡ radius f (arm .brake) (arm .«a_max») (arm .«j_max») wait (end .v) n .sound && finite (stopDistance f arm wait start end n .value)
+pub stop-tells : (f : Format) (arm : Arm) (react : Float) (start end : State) (n : ℕ)
+    → stopDistance f arm react start end n .sound ≡ radius f (arm .brake) (arm .«a_max») (arm .«j_max») react (end .v) n .sound && finite (stopDistance f arm react start end n .value)
 unfolding stopDistance
-stop-tells f arm wait start end n =
+stop-tells f arm react start end n =
     let d = dist f (end .p) (start .p) n in
-    let r = radius f (arm .brake) (arm .«a_max») (arm .«j_max») wait (end .v) n in
+    let r = radius f (arm .brake) (arm .«a_max») (arm .«j_max») react (end .v) n in
     implied _ _ (λ h. dist-tells f (end .p) (start .p) n ∙ fine-add-left f (d .value) (r .value) (and-right (r .sound) (finite (add f (d .value) (r .value))) h))
 
 pub moved-tells : (f : Format) (dt v p : Float) → Tells (moved f dt v p)
@@ -101,9 +101,9 @@ module _ (f : Format) where
     abbrev sent : ℕ → Checked Float
     sent j = commanded f kind dt g (at a j) (at (s .p) j)
 
-    pub command-told : (b : BrakeKind) (x y wait : Float) → radius f b x y wait (command f kind dt g a s n .value) n .sound ≡ true → command f kind dt g a s n .sound ≡ true
+    pub command-told : (b : BrakeKind) (x y react : Float) → radius f b x y react (command f kind dt g a s n .value) n .sound ≡ true → command f kind dt g a s n .sound ≡ true
     unfolding radius command
-    command-told b x y wait h =
+    command-told b x y react h =
         each-all sent (s .v) n
         ∙ all-from (λ (j : ℕ). sent j .sound) n
         (λ j c.

@@ -22,9 +22,9 @@ abbrev pub sumOf : Format → Reckoned → Reckoned → Reckoned
 sumOf f x y = record { value = add f (x .value) (y .value); sound = x .sound && (y .sound && finite (add f (x .value) (y .value))) }
 
 abbrev pub taskOf : Arm → ℕ → Workspace → Course → Plant → List Float → Task
-taskOf arm react w c s rows = record {
+taskOf arm ticks w c s rows = record {
   arm = arm;
-  react = react;
+  reactTicks = ticks;
   walls = wallsOf w;
   n = c .live;
   start = stateOf s;
@@ -44,9 +44,9 @@ abbrev pub Along : Format → Task → List Float → ℕ → Run → List Float
 Along f t l k r out = CameAlong (forecast f t) (stand f t) l k r out
 
 -- the gain and the waiting time are the task's
-pub record Under (f : Format) (t : Task) (g wait : Float) : Type 0 where
+pub record Under (f : Format) (t : Task) (g react : Float) : Type 0 where
   pub pull : gain f t .value ≡ g
-  pub delay : reaction f t .value ≡ wait
+  pub delay : reaction f t .value ≡ react
 
 -- what a run needs of its course: its shape, and room for the start's entry and one a row
 unfoldable pub roomy : Course → ℕ → ℕ → Bool

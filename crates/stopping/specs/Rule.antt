@@ -23,7 +23,7 @@ use Rattle.stopping.specs.declared.Arm.{Arm}
 pub record Task : Type 0 where
   -- how it takes a row and brakes, the control period, the greatest acceleration and jerk; and the ticks that pass before it brakes
   pub arm : Arm
-  pub react : ℕ
+  pub reactTicks : ℕ
   pub walls : Walls
   -- the live axes
   pub n : ℕ
@@ -77,12 +77,12 @@ dStop f (JerkLimited kp kv dt) a j s = do
   plus f x y
 dStop f (ZeroVelocityHold kp kv dt) a j s = ramp f a s
 
--- the stopping radius at velocity v, where `wait` passes before braking starts
+-- the stopping radius at velocity v, where `react` passes before braking starts
 unfoldable pub radius : Format → BrakeKind → Float → Float → Float → List Float → ℕ → Checked Float
-radius f brake a j wait v n = do
+radius f brake a j react v n = do
   s ← norm f v n
   d ← dStop f brake a j s
-  w ← times f s wait
+  w ← times f s react
   plus f d w
 
 -- the velocity that a row commands on one axis: itself, a displacement over dt, or a pull of gain g towards a position
@@ -109,15 +109,15 @@ step f dt v p n = each (λ (j : ℕ). moved f dt (at v j) (at p j)) p n
 
 -- how far the plant has moved from the start to the end, and may still travel
 unfoldable pub stopDistance : Format → Arm → Float → State → State → ℕ → Checked Float
-stopDistance f arm wait start end n = do
+stopDistance f arm react start end n = do
   d ← dist f (end .p) (start .p) n
-  r ← radius f (arm .brake) (arm .«a_max») (arm .«j_max») wait (end .v) n
+  r ← radius f (arm .brake) (arm .«a_max») (arm .«j_max») react (end .v) n
   plus f d r
 
 module _ (f : Format) (t : Task) where
   -- the time before braking starts
   unfoldable pub reaction : Checked Float
-  reaction = times f (ofInt f (pos (t .react))) (t .arm .dt)
+  reaction = times f (ofInt f (pos (t .reactTicks))) (t .arm .dt)
 
   abbrev pub gain : Checked Float
   gain = ratio f (t .arm .brake)
@@ -142,7 +142,7 @@ module _ (f : Format) (t : Task) where
   -- the start's entry, and then one for each row
   unfoldable pub entry : ℕ → Checked Float
   entry zero = do
-    wait ← reaction
+    react ← reaction
     g ← gain
     r ← radiusAt (t .start .v)
     slackR f (t .walls) r (t .start .p) (t .n)

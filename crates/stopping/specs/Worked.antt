@@ -21,7 +21,7 @@ use Rattle.stopping.specs.Rule.{Task, ratio, ramp, dStop, radius, comman
 abbrev sample : Task
 sample = record {
   arm = record { kind = JointVelocity; brake = BoundedAccel 1! 1! 1!; dt = 1!; «a_max» = 1!; «j_max» = 1! };
-  react = 1;
+  reactTicks = 1;
   walls = record { lo = fin true 1 (pos 2) ∷ []; hi = fin false 1 (pos 2) ∷ [] };
   n = 1;
   start = record { p = +0 ∷ []; v = 1! ∷ [] };

@@ -97,13 +97,13 @@ fn d_stop(brake: BrakeKind, a: f64, j: f64, s: f64) -> Reckoned
 }
 
 // The stopping radius at velocity v, with the time that passes before braking starts.
-fn radius(arm: Arm, wait: f64, v: [f64; 8], n: usize) -> Reckoned
-    ensures { λ r. ⌜ r ≡ reckonedFrom (radius binary64 (arm .brake) (arm .«a_max») (arm .«j_max») wait v n) ⌝ }
+fn radius(arm: Arm, react: f64, v: [f64; 8], n: usize) -> Reckoned
+    ensures { λ r. ⌜ r ≡ reckonedFrom (radius binary64 (arm .brake) (arm .«a_max») (arm .«j_max») react v n) ⌝ }
 {
     let s = fmath::magnitude(&v, n);
     let brake = arm.brake;
     let d = d_stop(brake, arm.a_max, arm.j_max, s);
-    let value = d.value + s * wait;
+    let value = d.value + s * react;
     let sound = d.sound & fmath::finite(value);
     Reckoned { value, sound }
 }
@@ -172,13 +172,13 @@ fn row(
     w: Workspace,
     c: Course,
     g: f64,
-    wait: f64,
+    react: f64,
     a: &[f64],
     run: Run,
     slack: &mut [f64],
 ) -> Run
     requires { ⌜ (c .live ≤ 8) × (c .live ≤ length (now a)) × (run .done < length (now slack)) ⌝ }
-    ensures { λ r. ⌜ (r .done ≤ run .done + 1) × ((react : ℕ) (s : Plant) (rows l : List Float) (k : ℕ) → Under binary64 (taskOf arm react w c s rows) g wait → Along binary64 (taskOf arm react w c s rows) l (suc k) run (now (slack .entry)) → (run .sound ≡ true → rowAt (taskOf arm react w c s rows) k ≡ now (a .entry)) → Along binary64 (taskOf arm react w c s rows) l (suc k + 1) r (now (slack .exit))) ⌝ }
+    ensures { λ r. ⌜ (r .done ≤ run .done + 1) × ((ticks : ℕ) (s : Plant) (rows l : List Float) (k : ℕ) → Under binary64 (taskOf arm ticks w c s rows) g react → Along binary64 (taskOf arm ticks w c s rows) l (suc k) run (now (slack .entry)) → (run .sound ≡ true → rowAt (taskOf arm ticks w c s rows) k ≡ now (a .entry)) → Along binary64 (taskOf arm ticks w c s rows) l (suc k + 1) r (now (slack .exit))) ⌝ }
 {
     if !run.sound {
         return run;
@@ -187,7 +187,7 @@ fn row(
     let plant = run.plant;
     let p = plant.p;
     let v = command(arm, g, a, plant, n);
-    let r = radius(arm, wait, v, n);
+    let r = radius(arm, react, v, n);
     let gap = workspace::slack_r(w, r.value, p, n);
     let next = step(arm.dt, v, p, n);
     let there = next.at;
@@ -211,20 +211,20 @@ fn follow(
     w: Workspace,
     c: Course,
     g: f64,
-    wait: f64,
+    react: f64,
     rows: &[f64],
     run: Run,
     slack: &mut [f64],
 ) -> Run
     requires { ⌜ (shaped c (length (now rows)) ≡ true) × (run .done + leftOf c .0 ≤ length (now slack)) ⌝ }
-    ensures { λ r. ⌜ (r .done ≤ run .done + leftOf c .0) × ((react : ℕ) (s : Plant) (l : List Float) → Under binary64 (taskOf arm react w c s (now (rows .entry))) g wait → Along binary64 (taskOf arm react w c s (now (rows .entry))) l 1 run (now (slack .entry)) → Along binary64 (taskOf arm react w c s (now (rows .entry))) l (suc (leftOf c .0)) r (now (slack .exit))) ⌝ }
+    ensures { λ r. ⌜ (r .done ≤ run .done + leftOf c .0) × ((ticks : ℕ) (s : Plant) (l : List Float) → Under binary64 (taskOf arm ticks w c s (now (rows .entry))) g react → Along binary64 (taskOf arm ticks w c s (now (rows .entry))) l 1 run (now (slack .entry)) → Along binary64 (taskOf arm ticks w c s (now (rows .entry))) l (suc (leftOf c .0)) r (now (slack .exit))) ⌝ }
 {
     let left = course::rows_left(c.commit, c.from).0 as usize;
     let mut r = run;
     let mut i = 0;
     while i < left {
         let a = chunk::action(rows, c.horizon, c.dim, c.from + i);
-        let next = row(arm, w, c, g, wait, a, r, slack);
+        let next = row(arm, w, c, g, react, a, r, slack);
         r = next;
         i += 1;
     }
@@ -237,20 +237,20 @@ fn begin(
     w: Workspace,
     c: Course,
     g: Reckoned,
-    wait: Reckoned,
+    react: Reckoned,
     start: Plant,
     slack: &mut [f64],
 ) -> Run
     requires { ⌜ (c .live ≤ 8) × (1 ≤ length (now slack)) ⌝ }
-    ensures { λ r. ⌜ (r .done ≤ 1) × ((react : ℕ) (rows : List Float) → reckonedFrom (gain binary64 (taskOf arm react w c start rows)) ≡ g → reckonedFrom (reaction binary64 (taskOf arm react w c start rows)) ≡ wait → Along binary64 (taskOf arm react w c start rows) (now (slack .entry)) 1 r (now (slack .exit))) ⌝ }
+    ensures { λ r. ⌜ (r .done ≤ 1) × ((ticks : ℕ) (rows : List Float) → reckonedFrom (gain binary64 (taskOf arm ticks w c start rows)) ≡ g → reckonedFrom (reaction binary64 (taskOf arm ticks w c start rows)) ≡ react → Along binary64 (taskOf arm ticks w c start rows) (now (slack .entry)) 1 r (now (slack .exit))) ⌝ }
 {
     let inf = 1.0 / 0.0;
     let n = c.live;
     let p = start.p;
     let v = start.v;
-    let r = radius(arm, wait.value, v, n);
+    let r = radius(arm, react.value, v, n);
     let gap = workspace::slack_r(w, r.value, p, n);
-    if !(wait.sound & (g.sound & (r.sound & gap.sound))) {
+    if !(react.sound & (g.sound & (r.sound & gap.sound))) {
         return halted(start, inf, 0);
     }
     slack[0] = gap.value;
@@ -264,10 +264,10 @@ fn begin(
 }
 
 // The time before braking starts.
-fn reaction(react: u16, dt: f64) -> Reckoned
-    ensures { λ r. ⌜ r ≡ reckonedFrom (times binary64 (ofInt binary64 (pos react)) dt) ⌝ }
+fn reaction(react_ticks: u16, dt: f64) -> Reckoned
+    ensures { λ r. ⌜ r ≡ reckonedFrom (times binary64 (ofInt binary64 (pos «react_ticks»)) dt) ⌝ }
 {
-    let value = (react as f64) * dt;
+    let value = (react_ticks as f64) * dt;
     let sound = fmath::finite(value);
     Reckoned { value, sound }
 }
@@ -283,15 +283,15 @@ fn roomy(c: Course, len: usize, room: usize) -> bool
 // The whole run, its slacks written in order up to the first number that isn't finite; none where the course has no room.
 pub fn closed_form(
     arm: Arm,
-    react: u16,
+    react_ticks: u16,
     w: Workspace,
     c: Course,
     start: Plant,
     rows: &[f64],
     slack: &mut [f64],
 ) -> Run
-    ensures { λ r. ⌜ r ≡ (if roomy c (length (now (rows .entry))) (length (now (slack .entry))) then runOf (forecast binary64 (taskOf arm react w c start (now (rows .entry)))) (stand binary64 (taskOf arm react w c start (now (rows .entry)))) else noRun start) ⌝ }
-    ensures { λ r. ⌜ now (slack .exit) ≡ (if roomy c (length (now (rows .entry))) (length (now (slack .entry))) then writtenOf (forecast binary64 (taskOf arm react w c start (now (rows .entry)))) (now (slack .entry)) else now (slack .entry)) ⌝ }
+    ensures { λ r. ⌜ r ≡ (if roomy c (length (now (rows .entry))) (length (now (slack .entry))) then runOf (forecast binary64 (taskOf arm «react_ticks» w c start (now (rows .entry)))) (stand binary64 (taskOf arm «react_ticks» w c start (now (rows .entry)))) else noRun start) ⌝ }
+    ensures { λ r. ⌜ now (slack .exit) ≡ (if roomy c (length (now (rows .entry))) (length (now (slack .entry))) then writtenOf (forecast binary64 (taskOf arm «react_ticks» w c start (now (rows .entry)))) (now (slack .entry)) else now (slack .entry)) ⌝ }
 {
     let inf = 1.0 / 0.0;
     if !roomy(c, rows.len(), slack.len()) {
@@ -299,20 +299,20 @@ pub fn closed_form(
     }
     let brake = arm.brake;
     let g = ratio(brake);
-    let wait = reaction(react, arm.dt);
-    let first = begin(arm, w, c, g, wait, start, slack);
-    follow(arm, w, c, g.value, wait.value, rows, first, slack)
+    let react = reaction(react_ticks, arm.dt);
+    let first = begin(arm, w, c, g, react, start, slack);
+    follow(arm, w, c, g.value, react.value, rows, first, slack)
 }
 
 // How far the plant has moved on the first n axes, and may still travel from the end.
-pub fn stop_distance(arm: Arm, react: u16, start: Plant, end: Plant, n: usize) -> Reckoned
-    ensures { λ r. ⌜ r ≡ reckonedFrom (stopDistance binary64 arm (times binary64 (ofInt binary64 (pos react)) (arm .dt) .value) (stateOf start) (stateOf end) n) ⌝ }
+pub fn stop_distance(arm: Arm, react_ticks: u16, start: Plant, end: Plant, n: usize) -> Reckoned
+    ensures { λ r. ⌜ r ≡ reckonedFrom (stopDistance binary64 arm (times binary64 (ofInt binary64 (pos «react_ticks»)) (arm .dt) .value) (stateOf start) (stateOf end) n) ⌝ }
 {
-    let wait = reaction(react, arm.dt);
+    let react = reaction(react_ticks, arm.dt);
     let from = start.p;
     let to = end.p;
     let v = end.v;
-    let beyond = radius(arm, wait.value, v, n);
+    let beyond = radius(arm, react.value, v, n);
     let value = fmath::distance(&to, &from, n) + beyond.value;
     let sound = beyond.sound & fmath::finite(value);
     Reckoned { value, sound }

@@ -20,7 +20,7 @@ use Rattle.envelope.specs.Refusals.{sizesOk, numbersFrom, stepsOk}
 use Rattle.tier0.specs.declared.Checks.{Checks}
 use Rattle.tier0.specs.declared.Difference.{Difference}
 use Rattle.tier0.specs.declared.Difference.the-variants.{Accel, Jerk}
-use Rattle.tier0.specs.Rule.{WORKSPACE, SPEED, ACCEL, JERK, REACH, CONTACT, arms, bit, clear, outOfBox, outOfReach, boxed, leashed, reached, moves, project, projection, checkAction}
+use Rattle.tier0.specs.Rule.{WORKSPACE, SPEED, ACCEL, JERK, REACH, CONTACT, arms, weight, clear, outOfBox, outOfReach, boxed, leashed, reached, moves, project, projection, checkAction}
 use Rattle.tier0.specs.Chunk.{rawRow, startRow, someOutOfBox, someOf, largeAt, tooLarge, nextRow, runRows, projectedRows, checkChunk}
 use Rattle.tier0.specs.Of.{checksOf, actionRuling, actionRefusal, actionAnswer, actionOut, chunkRuling, chunkRefusal, chunkAnswer, chunkOut}
 use Rattle.tier0.specs.Promises.{raised, withoutContact, contactUnarmed, Promised}
@@ -32,7 +32,7 @@ use Rattle.tier0.proofs.Within.{chunk-workspace-touched, chunk-speed-to
 keeps : (a w : ℕ) → (a / 32 % 2 ≡ 1 → (a - 32) / w % 2 ≡ a / w % 2) → raised w (withoutContact a) ≡ raised w a
 keeps a w h = go (raised CONTACT a) refl
   where
-    go : (b : Bool) → raised CONTACT a ≡ b → raised w (a - bit b CONTACT) ≡ raised w a
+    go : (b : Bool) → raised CONTACT a ≡ b → raised w (a - weight b CONTACT) ≡ raised w a
     go true e = ap (λ (n : ℕ). eqb n 1) (h (eqb-true (a / 32 % 2) 1 e))
     go false e = ap (raised w) (let z : a - 0 ≡ a = omega arith in z)
 

@@ -24,7 +24,7 @@ use Rattle.checked.specs.declared.Row.{Row}
 use Rattle.checked.specs.declared.Test.{Test}
 use Rattle.tier0.specs.declared.Clamped.{Clamped}
 use Rattle.tier0.specs.declared.JudgedAction.{JudgedAction}
-use Rattle.tier0.specs.Rule.{Slow, WORKSPACE, SPEED, ACCEL, JERK, REACH, CONTACT, arms, boxDims, clear, seen, inZone, zoneIn, slowZone, outOfBox, outOfReach, bit, tripBits, leash, boxed, leashed, reached, moves, movedDims, project, projection, checkAction}
+use Rattle.tier0.specs.Rule.{Slow, WORKSPACE, SPEED, ACCEL, JERK, REACH, CONTACT, arms, boxDims, clear, seen, inZone, zoneIn, slowZone, outOfBox, outOfReach, weight, tripBits, leash, boxed, leashed, reached, moves, movedDims, project, projection, checkAction}
 use Rattle.tier0.specs.Of.{slowOf, zoneFrom, clampedFrom, judgedActionFrom}
 use Rattle.checked.specs.Of.{rowFrom, testFrom}
 
@@ -143,7 +143,7 @@ module _ (f : Format) (s : Checks) (m : ClampMode) (z : Slow) (p prev a : List F
 
 -- ---- the check
 
-pub trips-are : (out fast bent jolted far close : Bool) {a b c d e g : ℕ} → a ≡ bit out WORKSPACE → b ≡ bit fast SPEED → c ≡ bit bent ACCEL → d ≡ bit jolted JERK → e ≡ bit far REACH → g ≡ bit close CONTACT
+pub trips-are : (out fast bent jolted far close : Bool) {a b c d e g : ℕ} → a ≡ weight out WORKSPACE → b ≡ weight fast SPEED → c ≡ weight bent ACCEL → d ≡ weight jolted JERK → e ≡ weight far REACH → g ≡ weight close CONTACT
     → a + b + c + d + e + g ≡ tripBits out fast bent jolted far close
 unfolding tripBits
 trips-are out fast bent jolted far close p q r s t u = rw (p, q, r, s, t, u)

@@ -23,7 +23,7 @@ use Rattle.tier0.specs.declared.Tier0Out.{Tier0Out}
 use Rattle.tier0.specs.declared.Tier0Out.the-variants.{Passed, Refused}
 use Rattle.tier0.specs.declared.Checks.{Checks}
 use Rattle.tier0.specs.declared.Difference.the-variants.{Accel, Jerk}
-use Rattle.tier0.specs.Rule.{WORKSPACE, SPEED, ACCEL, JERK, REACH, CONTACT, bit, arms, boxDims, Slow, clear, slowZone, outOfBox, outOfReach, leash, checkAction}
+use Rattle.tier0.specs.Rule.{WORKSPACE, SPEED, ACCEL, JERK, REACH, CONTACT, weight, arms, boxDims, Slow, clear, slowZone, outOfBox, outOfReach, leash, checkAction}
 use Rattle.tier0.specs.Chunk.{rawRow, startRow, rowBefore, stepTo, bends, jolts, someLonger, someOutOfBox, tooLarge, checkChunk}
 use Rattle.tier0.specs.Of.{checksOf, actionAnswer, actionOut, chunkAnswer, chunkOut}
 
@@ -124,7 +124,7 @@ pub record ActionWithin (f : Format) (c : FuseConfig) (p aux prev a : List Float
 -- ---- no contact: the configuration with CONTACT unarmed, whatever else is armed
 
 abbrev pub withoutContact : ℕ → ℕ
-withoutContact armed = armed - bit (raised CONTACT armed) CONTACT
+withoutContact armed = armed - weight (raised CONTACT armed) CONTACT
 
 abbrev pub contactUnarmed : FuseConfig → FuseConfig
 contactUnarmed c = armedBy c (withoutContact (c .armed))

@@ -88,13 +88,13 @@ outOfBox f s a = if arms s WORKSPACE then outside f (wallsOf (s .walls)) a (boxD
 unfoldable pub outOfReach : Format → Checks → List Float → List Float → Checked Bool
 outOfReach f s p a = if arms s REACH then (do n ← dist f a p (boxDims s); pure (lt (s .«reach_max») n)) else pure false
 
-abbrev pub bit : Bool → ℕ → ℕ
-bit b w = if b then w else 0
+abbrev pub weight : Bool → ℕ → ℕ
+weight b w = if b then w else 0
 
 -- one bit for each check that trips
 unfoldable pub tripBits : Bool → Bool → Bool → Bool → Bool → Bool → ℕ
 tripBits box speed accel jerk reach contact =
-    bit box WORKSPACE + bit speed SPEED + bit accel ACCEL + bit jerk JERK + bit reach REACH + bit contact CONTACT
+    weight box WORKSPACE + weight speed SPEED + weight accel ACCEL + weight jerk JERK + weight reach REACH + weight contact CONTACT
 
 -- ---- projection
 

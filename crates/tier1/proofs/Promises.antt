@@ -20,7 +20,7 @@ use Rattle.window.specs.declared.Trail.{Trail}
 use Rattle.envelope.specs.declared.FuseConfig.{FuseConfig}
 use Rattle.tier1.specs.declared.Head.{Head}
 use Rattle.tier1.specs.declared.Tier1Rt.{Tier1Rt}
-use Rattle.tier1.specs.Rule.{boxDims, boundaryAt, boundaryBits, moving, validAt, valueAt, twelve}
+use Rattle.tier1.specs.Rule.{PE-WINDOW, boxDims, boundaryAt, boundaryBits, moving, validAt, valueAt, twelve}
 use Rattle.tier1.proofs.Ticks.{chunk-keeps-trail}
 use Rattle.tier1.specs.Of.{manifestOf, afterChunk, Tick, tick, scoresWith, featuredAt, ticked, featuresRefusal, featuresOf}
 use Rattle.tier1.specs.Promises.{Given, answer, number, common, Always, Passed, Held, quiet, Promised}
@@ -90,7 +90,7 @@ module _ (fm : Format) (x : Given) (rt : Tier1Rt) (sc : Scores) where
     pub says-exactly : (j : ℕ) → j < 12 → bit (answer fm x rt sc .scores .valid) j ≡ says j
     says-exactly j l = rw (passed-is e, valid-is) (bit-where says 12 j l)
 
-    trail-bits : (j : ℕ) → PATH-INEFF ≤ j → j < EXT0 → bit (answer fm x rt sc .scores .valid) j ≡ leb 20 (rt .trail .len)
+    trail-bits : (j : ℕ) → PATH-INEFF ≤ j → j < EXT0 → bit (answer fm x rt sc .scores .valid) j ≡ leb PE-WINDOW (rt .trail .len)
     unfolding validAt
     trail-bits j g l = says-exactly j (omega arith) ∙ rw (le-ltb j PATH-INEFF g, lt-ltb j EXT0 l)
 

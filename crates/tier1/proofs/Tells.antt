@@ -13,7 +13,7 @@ use Rattle.checked.proofs.Absorbing.{Fine, fine-add-left, fine-add-right, fine-
 use Rattle.checked.proofs.Each.{and-left, and-right}
 use Rattle.checked.proofs.Told.{Tells, implied, sum-tells}
 use Rattle.tier1.specs.declared.Manifest.{Manifest}
-use Rattle.tier1.specs.Rule.{20!, stallPart, row, _⊕_, _⊖_, _⊗_, _⊘_, squared, rooted, sumRows, normal, gap, jolt, gaps, steps, jolts, stepLength, stallReach}
+use Rattle.tier1.specs.Rule.{20!, STALL-VREF-FRAC, row, _⊕_, _⊖_, _⊗_, _⊘_, squared, rooted, sumRows, normal, gap, jolt, gaps, steps, jolts, stepLength, stallReach}
 
 -- where the value is finite, so is each number on the way to it
 pub record Shows (x : Checked Float) : Type 0 where
@@ -131,4 +131,4 @@ module _ (f : Format) where
     pub stall-reach-tells : Tell (stallReach f m)
     unfolding stallReach
     stall-reach-tells =
-        times-tells f (shown (times-tells f (shown (over-given-tells f (shown (times-tells f (pure-shows stallPart) (pure-shows (m .iso)))) (m .dt))) (pure-shows 20!))) (pure-shows (m .dt))
+        times-tells f (shown (times-tells f (shown (over-given-tells f (shown (times-tells f (pure-shows STALL-VREF-FRAC) (pure-shows (m .iso)))) (m .dt))) (pure-shows 20!))) (pure-shows (m .dt))

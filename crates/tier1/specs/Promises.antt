@@ -18,7 +18,7 @@ use Rattle.envelope.specs.declared.FuseConfig.{FuseConfig}
 use Rattle.tier1.specs.declared.Head.{Head}
 use Rattle.tier1.specs.declared.Tier1Rt.{Tier1Rt}
 use Rattle.tier1.specs.declared.Featured.{Featured}
-use Rattle.tier1.specs.Rule.{boxDims, overlap, boundary, validAt}
+use Rattle.tier1.specs.Rule.{PE-WINDOW, boxDims, overlap, boundary, validAt}
 use Rattle.tier1.specs.Of.{keptOf, manifestOf, featuresRefusal, featuresOf}
 
 -- all that a call is given besides its state and scores, and whether a chunk came
@@ -62,7 +62,7 @@ module _ (f : Format) (x : Given) (rt : Tier1Rt) (sc : Scores) where
     -- a bit is set exactly where its feature is valid: a held one by its bit, one of the trail by its samples, an external one where it is lent
     pub valid-exactly : (j : ℕ) → j < 12 → validBit j ≡ validAt (answer .rt .«held_valid») (rt .trail .len) (length (x .externals)) j
     pub no-further-bit : (j : ℕ) → 12 ≤ j → validBit j ≡ false
-    pub trail-bits : (j : ℕ) → PATH-INEFF ≤ j → j < EXT0 → validBit j ≡ leb 20 (rt .trail .len)
+    pub trail-bits : (j : ℕ) → PATH-INEFF ≤ j → j < EXT0 → validBit j ≡ leb PE-WINDOW (rt .trail .len)
     pub external-bits : (i : ℕ) → i < 4 → validBit (EXT0 + i) ≡ ltb i (length (x .externals))
     -- where a feature is not valid, f is 0.0
     pub zero-where-not-valid : (j : ℕ) → j < 12 → validBit j ≡ false → at (answer .scores .f) j ≡ +0

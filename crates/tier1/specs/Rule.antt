@@ -22,12 +22,16 @@ use Rattle.envelope.specs.Derive.{kept}
 use Rattle.tier1.specs.declared.Manifest.{Manifest}
 use Rattle.tier1.specs.declared.Kept.{Kept}
 
+-- how many samples of the trail PathIneff and Stall look at, and the same as a float
+abbrev pub PE-WINDOW : ℕ
+PE-WINDOW = 20
+
 abbrev pub 20! : Float
 20! = fin false 5 (pos 2)
 
--- 0.05, which `Worked` gives by its bits
-abbrev pub stallPart : Float
-stallPart = fin false 0xccccccccccccd (negsuc 55)
+-- 0.05, which `Worked` gives by its bits: Stall's reference speed, as a part of the isotropic scale a step
+abbrev pub STALL-VREF-FRAC : Float
+STALL-VREF-FRAC = fin false 0xccccccccccccd (negsuc 55)
 
 -- row i of rows that are d wide: it starts at i x d, and what follows it is not read
 abbrev pub row : List Float → ℕ → ℕ → List Float
@@ -158,13 +162,13 @@ module _ (f : Format) where
   unfoldable pub speedPeak : Manifest → List Float → List Float → ℕ → Checked Float
   speedPeak m p b h = peak (m .dim) (startRow m p b) b h ⊘ pure (m .iso)
 
-  -- ---- the features of the trail, over its last 20 samples
+  -- ---- the features of the trail, over its last samples
 
   unfoldable pub netLength : Manifest → Trail → Checked Float
-  netLength m t = net f (t .buf) (t .head) (t .len) (m .«pos_dim») 20
+  netLength m t = net f (t .buf) (t .head) (t .len) (m .«pos_dim») PE-WINDOW
 
   unfoldable pub pathLength : Manifest → Trail → Checked Float
-  pathLength m t = path f (t .buf) (t .head) (t .len) (m .«pos_dim») 20
+  pathLength m t = path f (t .buf) (t .head) (t .len) (m .«pos_dim») PE-WINDOW
 
   unfoldable pub pathIneff : Manifest → Trail → Checked Float
   pathIneff m t = do
@@ -174,7 +178,7 @@ module _ (f : Format) where
 
   -- how far a trail goes at the reference speed
   unfoldable pub stallReach : Manifest → Checked Float
-  stallReach m = ((pure stallPart ⊗ pure (m .iso)) ⊘ pure (m .dt)) ⊗ pure 20! ⊗ pure (m .dt)
+  stallReach m = ((pure STALL-VREF-FRAC ⊗ pure (m .iso)) ⊘ pure (m .dt)) ⊗ pure 20! ⊗ pure (m .dt)
 
   unfoldable pub stall : Manifest → Trail → Checked Float
   stall m t = do
@@ -212,18 +216,18 @@ boundary f m k a p t h b = do
 unfoldable pub boundaryBits : Manifest → Kept → List Float → ℕ → ℕ → ℕ
 boundaryBits m k p t h = bitsWhere (boundaryAt (overlap k t h (m .dim)) h (boxDims m p)) 6
 
--- the features of the trail, where it holds 20 samples
+-- the features of the trail, where it holds enough samples
 unfoldable pub moving : Format → Manifest → Trail → Checked (List Float)
 moving f m t = do
-  x ← ifThere (leb 20 (t .len)) (pathIneff f m t)
-  y ← ifThere (leb 20 (t .len)) (stall f m t)
+  x ← ifThere (leb PE-WINDOW (t .len)) (pathIneff f m t)
+  y ← ifThere (leb PE-WINDOW (t .len)) (stall f m t)
   pure (x ∷ y ∷ [])
 
 -- ---- all twelve of a tick
 
--- a feature is valid: a held one by its bit, one of the trail where it holds 20 samples, an external one where it is lent
+-- a feature is valid: a held one by its bit, one of the trail where it holds enough samples, an external one where it is lent
 unfoldable pub validAt : ℕ → ℕ → ℕ → ℕ → Bool
-validAt held len ext j = if ltb j PATH-INEFF then bit held j else if ltb j EXT0 then leb 20 len else ltb (j - EXT0) ext
+validAt held len ext j = if ltb j PATH-INEFF then bit held j else if ltb j EXT0 then leb PE-WINDOW len else ltb (j - EXT0) ext
 
 -- its value
 unfoldable pub valueAt : List Float → List Float → List Float → ℕ → Float

@@ -16,10 +16,10 @@ use Rattle.fmath.specs.Norm.{squaredGap, dist}
 use Rattle.window.specs.Rule.{net, path, step}
 use Rattle.bits.specs.Bits.{bit, bitsWhere}
 use Rattle.tier1.specs.declared.Manifest.{Manifest}
-use Rattle.tier1.specs.Rule.{20!, stallPart, sumRows, normal, gap, jolt, tce, acc, stepLength, acmNeg, njr, reach, startRow, stride, peak, speedPeak, netLength, pathLength, pathIneff, stallReach, stall, overlap, boundary, boundaryBits, moving, validAt, valueAt, twelve}
+use Rattle.tier1.specs.Rule.{20!, STALL-VREF-FRAC, sumRows, normal, gap, jolt, tce, acc, stepLength, acmNeg, njr, reach, startRow, stride, peak, speedPeak, netLength, pathLength, pathIneff, stallReach, stall, overlap, boundary, boundaryBits, moving, validAt, valueAt, twelve}
 
 -- the constants by their bits
-pub stall-part-bits : ofBits binary64 0x3fa999999999999a ≡ stallPart
+pub stall-part-bits : ofBits binary64 0x3fa999999999999a ≡ STALL-VREF-FRAC
 unfolding ofBits ofFields odd
 stall-part-bits = refl
 

@@ -3,7 +3,7 @@ ghost use mathlib.Core.Path.{_≡_};
 ghost use Prim.Native.Nat.{_^_, _<_};
 ghost use lib.Dec.{leb};
 ghost use lib.Ieee.{binary64};
-ghost use Rattle.tier1.specs.Rule.{pathIneff, stall, ifThere, validAt, valueAt, twelve};
+ghost use Rattle.tier1.specs.Rule.{PE-WINDOW, pathIneff, stall, ifThere, validAt, valueAt, twelve};
 ghost use Rattle.envelope.specs.Derive.{kept};
 ghost use Rattle.tier1.specs.Of.{pairFrom, gatheredFrom, twelveFrom};
 use crate::AllFeatures;
@@ -15,17 +15,23 @@ use checked::Reckoned;
 use conformal::Feat;
 use window::Trail;
 
-// PathIneff and Stall of the last 20 samples. The way and the quotient are tested, since greatest and least hide them.
+// How many samples of the trail PathIneff and Stall look at.
+const PE_WINDOW: u8 = 20;
+
+// Stall's reference speed, as a part of the isotropic scale a step.
+const STALL_VREF_FRAC: f64 = 0.05;
+
+// PathIneff and Stall of the last samples. The way and the quotient are tested, since greatest and least hide them.
 fn moving(m: Manifest, t: Trail) -> Pair
-    ensures { λ r. ⌜ r ≡ pairFrom (ifThere (leb 20 (t .len)) (pathIneff binary64 m t)) (ifThere (leb 20 (t .len)) (stall binary64 m t)) ⌝ }
+    ensures { λ r. ⌜ r ≡ pairFrom (ifThere (leb PE-WINDOW (t .len)) (pathIneff binary64 m t)) (ifThere (leb PE-WINDOW (t .len)) (stall binary64 m t)) ⌝ }
 {
-    if t.len < 20 {
+    if t.len < PE_WINDOW {
         return absent_pair();
     }
-    let n = t.displacement(m.pos_dim, 20);
-    let p = t.travelled(m.pos_dim, 20);
+    let n = t.displacement(m.pos_dim, PE_WINDOW as usize);
+    let p = t.travelled(m.pos_dim, PE_WINDOW as usize);
     let first = 1.0 - n / fmath::max(p, EPS);
-    let away = 0.05 * m.iso / m.dt * 20.0 * m.dt;
+    let away = STALL_VREF_FRAC * m.iso / m.dt * 20.0 * m.dt;
     let part = n / away;
     let second = 1.0 - fmath::min(1.0, part);
     let u = fmath::finite(p);
@@ -49,7 +55,7 @@ fn valid_at(held: u32, len: u8, ext: usize, j: usize, w: u32) -> bool
         return held / w % 2 == 1;
     }
     if j < Feat::EXT0 {
-        return 20 <= len;
+        return PE_WINDOW <= len;
     }
     j - Feat::EXT0 < ext
 }

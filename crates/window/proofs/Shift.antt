@@ -5,21 +5,21 @@ use mathlib.Core.Bool.{Bool, true, false}
 use native.Mathlib.Nat.{mul-add-mod-self-right, div-add-mod', add-mul, add-assoc, mul-right-comm}
 use lib.Dec.{lit<}
 use lib.Pow.{high, low, mod-pow-add}
-use Rattle.window.specs.Rule.{bit}
+use Rattle.window.specs.Rule.{flag}
 
-pub bit-small : (h : Bool) → bit h < 2 ^ 1
+pub bit-small : (h : Bool) → flag h < 2 ^ 1
 bit-small true = lit< tt
 bit-small false = lit< tt
 
-pub half-is-rest : (v : ℕ) (h : Bool) → (v * 2 + bit h) / 2 ≡ v
+pub half-is-rest : (v : ℕ) (h : Bool) → (v * 2 + flag h) / 2 ≡ v
 half-is-rest v h = high v 1 (bit-small h)
 
-pub odd-is-newest : (v : ℕ) (h : Bool) → (v * 2 + bit h) % 2 ≡ bit h
+pub odd-is-newest : (v : ℕ) (h : Bool) → (v * 2 + flag h) % 2 ≡ flag h
 odd-is-newest v h = low v 1 (bit-small h)
 
 -- to keep n + 1 digits of a shifted number is to shift n digits
-pub shift-keeps : (n v : ℕ) (h : Bool) → (v * 2 + bit h) % 2 ^ (n + 1) ≡ v % 2 ^ n * 2 + bit h
-shift-keeps n v h = mod-pow-add (v * 2 + bit h) n 1 ∙ ap₂ (λ (x y : ℕ). x % 2 ^ n * 2 + y) (half-is-rest v h) (odd-is-newest v h)
+pub shift-keeps : (n v : ℕ) (h : Bool) → (v * 2 + flag h) % 2 ^ (n + 1) ≡ v % 2 ^ n * 2 + flag h
+shift-keeps n v h = mod-pow-add (v * 2 + flag h) n 1 ∙ ap₂ (λ (x y : ℕ). x % 2 ^ n * 2 + y) (half-is-rest v h) (odd-is-newest v h)
 
 -- what stands above m does not matter for the next push
 pub above-drops : (v b m : ℕ) → (v % m * 2 + b) % m ≡ (v * 2 + b) % m

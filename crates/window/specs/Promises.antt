@@ -7,7 +7,7 @@ use lib.Ieee.{Float}
 use lib.ListN.{length, take, getD}
 use Rattle.checked.specs.Each.{at}
 use Rattle.window.specs.declared.Trail.{Trail}
-use Rattle.window.specs.Rule.{bit, pushed, maskFor, hitsIn, pushCount, sampleBack}
+use Rattle.window.specs.Rule.{flag, pushed, maskFor, hitsIn, pushCount, sampleBack}
 use Rattle.window.specs.Of.{newTrail, recordedOf}
 
 -- ---- the hit window
@@ -20,12 +20,12 @@ bitsAfter n (h ∷ t) = pushed (bitsAfter n t) h (maskFor n)
 -- the number whose digit i is the i-th push, from the newest
 abbrev pub digitsOf : List Bool → ℕ
 digitsOf [] = 0
-digitsOf (h ∷ t) = digitsOf t * 2 + bit h
+digitsOf (h ∷ t) = digitsOf t * 2 + flag h
 
 -- how many pushes are true
 abbrev pub trues : List Bool → ℕ
 trues [] = 0
-trues (h ∷ t) = bit h + trues t
+trues (h ∷ t) = flag h + trues t
 
 -- with one window length n, the bits are the last n pushes, read as binary digits
 abbrev pub BitsAreLastPushes : Type 0
@@ -33,7 +33,7 @@ BitsAreLastPushes = (n : ℕ) → n ≤ 63 → (l : List Bool) → bitsAfter n l
 
 -- bit i is the push i before the newest
 abbrev pub BitIsPush : Type 0
-BitIsPush = (n : ℕ) → n ≤ 63 → (l : List Bool) (i : ℕ) → i < n → bitsAfter n l / 2 ^ i % 2 ≡ bit (getD l i false)
+BitIsPush = (n : ℕ) → n ≤ 63 → (l : List Bool) (i : ℕ) → i < n → bitsAfter n l / 2 ^ i % 2 ≡ flag (getD l i false)
 
 -- hits is the number of true among the last n pushes
 abbrev pub HitsCountLastPushes : Type 0

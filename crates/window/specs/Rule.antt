@@ -17,13 +17,13 @@ use Rattle.bits.specs.Choice.{if_then_else_}
 -- ---- the hit window
 
 -- a push, or a flag, as a binary digit
-abbrev pub bit : Bool → ℕ
-bit true = 1
-bit false = 0
+abbrev pub flag : Bool → ℕ
+flag true = 1
+flag false = 0
 
 -- the bits of 64 shifted left by 1, with hit in bit 0, masked
 abbrev pub pushed : ℕ → Bool → ℕ → ℕ
-pushed bits hit mask = bitAnd ((bits * 2 + bit hit) % 2 ^ 64) mask
+pushed bits hit mask = bitAnd ((bits * 2 + flag hit) % 2 ^ 64) mask
 
 -- how many ones
 abbrev pub hitsIn : ℕ → ℕ

@@ -58,7 +58,7 @@ pub fn word(b: &[u8], at: u32) -> u64
 }
 
 // The float of a pattern. Each pattern of a NaN gives the one NaN, which is made by 0.0 / 0.0.
-pub fn number(bits: u64) -> f64
+pub fn float_of(bits: u64) -> f64
     ensures { λ r. ⌜ r ≡ ofBits binary64 bits ⌝ }
 {
     let field = bits % 0x8000_0000_0000_0000 / 0x10_0000_0000_0000;

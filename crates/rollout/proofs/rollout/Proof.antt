@@ -13,7 +13,7 @@ use Rattle.checked.specs.declared.Row.{Row}
 use Rattle.workspace.specs.Rule.{inward}
 use Rattle.workspace.specs.Of.{wallsOf}
 use Rattle.course.specs.Plant.{State}
-use Rattle.rollout.specs.Rule.{Task, pushes, total, after, forecast}
+use Rattle.rollout.specs.Rule.{Task, rowSubsteps, total, after, forecast}
 use Rattle.rollout.specs.Of.{taskOf, Along, Towards, roomy}
 use Rattle.course.specs.Of.{leftOf, shaped}
 use Rattle.course.proofs.Along.{along-start, along-at, stands-at, run-is, written-is}
@@ -39,8 +39,8 @@ has-room c = sym (c .before .roomy .ensures) ∙ not-false _ (c .if1 .left)
 room : (c : tie.Else1) → (shaped (c .before .before .before .before .args .c) (length (now (c .before .before .before .before .args .rows))) ≡ true) × (total (task (c .before .before .before .before)) ≤ length (now (c .before .before .before .before .args .slack)))
 room c = room-of _ _ _ (has-room c)
 
-push-requires : tie.Need-push-requires
-push-requires c κs =
+follow-requires : tie.Need-follow-requires
+follow-requires c κs =
     let s = c .before .before .before .before .before .args .c in
     let r = room (c .before) in
     (r .0, omega (arith, r .1, add-mul (leftOf s .0) (s .brake .0) (s .per .0)))
@@ -60,33 +60,33 @@ hold-requires c κs =
     let r = room (c .before .before .before .before .before .before .before .before .before .before .before) in
     let axes = shape-of _ _ (r .0) .axes in
     let long : length (c .before .before .before .before .inward .result .at) ≡ 8 = search needs in
-    (axes, omega (arith, long, axes), omega (arith, r .1, add-mul (leftOf s .0) (s .brake .0) (s .per .0), c .before .before .before .before .before .before .before .before .before .push .ensures .0, c .before .before .substeps-in .ensures, c .before .before .before .before .before .before .before .before .before .push .kept .1 .1 .1 .1 .1 .0))
+    (axes, omega (arith, long, axes), omega (arith, r .1, add-mul (leftOf s .0) (s .brake .0) (s .per .0), c .before .before .before .before .before .before .before .before .before .follow .ensures .0, c .before .before .substeps-in .ensures, c .before .before .before .before .before .before .before .before .before .follow .kept .1 .1 .1 .1 .1 .0))
 
 same-length : tie.Need-same-length
 same-length c = search needs
 
-along-rows : (c : tie.After-push) → Along binary64 (task (c .before .before .before .before .before .before)) (now (c .before .before .before .before .before .before .args .slack)) (pushes (task (c .before .before .before .before .before .before))) (c .push .result) (c .push .last .1 .1 .1 .1 .1 .0)
+along-rows : (c : tie.After-follow) → Along binary64 (task (c .before .before .before .before .before .before)) (now (c .before .before .before .before .before .before .args .slack)) (rowSubsteps (task (c .before .before .before .before .before .before))) (c .follow .result) (c .follow .last .1 .1 .1 .1 .1 .0)
 unfolding ofBits div after
-along-rows c = let s = c .before .before .before .before .before .before in c .push .ensures .1 (s .args .start) (now (s .args .slack)) (along-start (forecast binary64 (task s)) (after binary64 (task s)) (now (s .args .slack)) (s .args .start) refl)
+along-rows c = let s = c .before .before .before .before .before .before in c .follow .ensures .1 (s .args .start) (now (s .args .slack)) (along-start (forecast binary64 (task s)) (after binary64 (task s)) (now (s .args .slack)) (s .args .start) refl)
 
 -- N
-whole : (s : tie.Start) → pushes (task s) + (0 + s .args .c .brake .0) * s .args .c .per .0 ≡ total (task s)
-whole s = ap (λ (b : ℕ). pushes (task s) + b * s .args .c .per .0) (zero-add (s .args .c .brake .0)) ∙ sym (add-mul (leftOf (s .args .c) .0) (s .args .c .brake .0) (s .args .c .per .0))
+whole : (s : tie.Start) → rowSubsteps (task s) + (0 + s .args .c .brake .0) * s .args .c .per .0 ≡ total (task s)
+whole s = ap (λ (b : ℕ). rowSubsteps (task s) + b * s .args .c .per .0) (zero-add (s .args .c .brake .0)) ∙ sym (add-mul (leftOf (s .args .c) .0) (s .args .c .brake .0) (s .args .c .per .0))
 
 -- where the rows leave the plant, the setpoint is made
-towards-setpoint : (c : tie.After-hold) → Towards binary64 (task (c .before .before .before .before .before .before .before .before .before .before .before .before .before .before .before .before)) (pushes (task (c .before .before .before .before .before .before .before .before .before .before .before .before .before .before .before .before))) (c .before .before .before .substeps-in .result) (c .before .before .before .before .before .inward .result .at) (c .before .before .before .before .before .before .before .before .before .before .push .result)
+towards-setpoint : (c : tie.After-hold) → Towards binary64 (task (c .before .before .before .before .before .before .before .before .before .before .before .before .before .before .before .before)) (rowSubsteps (task (c .before .before .before .before .before .before .before .before .before .before .before .before .before .before .before .before))) (c .before .before .before .substeps-in .result) (c .before .before .before .before .before .inward .result .at) (c .before .before .before .before .before .before .before .before .before .before .follow .result)
 towards-setpoint c e j b =
     let s = c .before .before .before .before .before .before .before .before .before .before .before .before .before .before .before .before in
-    aims-setpoint binary64 (task s) (pushes (task s) + j) (omega arith)
-    ∙ ap (λ (q : State). inward binary64 (wallsOf (s .args .w)) (q .p) (s .args .c .live) .value) (sym (stands-at (forecast binary64 (task s)) (after binary64 (task s)) (now (s .args .slack)) (pushes (task s)) (c .before .before .before .before .before .before .before .before .before .before .push .result) (c .before .before .before .before .before .before .before .before .before .before .push .last .1 .1 .1 .1 .1 .0) (along-rows (c .before .before .before .before .before .before .before .before .before .before)) e))
+    aims-setpoint binary64 (task s) (rowSubsteps (task s) + j) (omega arith)
+    ∙ ap (λ (q : State). inward binary64 (wallsOf (s .args .w)) (q .p) (s .args .c .live) .value) (sym (stands-at (forecast binary64 (task s)) (after binary64 (task s)) (now (s .args .slack)) (rowSubsteps (task s)) (c .before .before .before .before .before .before .before .before .before .before .follow .result) (c .before .before .before .before .before .before .before .before .before .before .follow .last .1 .1 .1 .1 .1 .0) (along-rows (c .before .before .before .before .before .before .before .before .before .before)) e))
     ∙ sym (ap (λ (r : Row). r .at) (c .before .before .before .before .before .inward .ensures))
 
 along-whole : (c : tie.After-hold) → Along binary64 (task (c .before .before .before .before .before .before .before .before .before .before .before .before .before .before .before .before)) (now (c .before .before .before .before .before .before .before .before .before .before .before .before .before .before .before .before .args .slack)) (total (task (c .before .before .before .before .before .before .before .before .before .before .before .before .before .before .before .before))) (c .hold .result) (c .hold .last .1 .1 .1 .1 .1 .1 .0)
 along-whole c =
     let s = c .before .before .before .before .before .before .before .before .before .before .before .before .before .before .before .before in
-    along-at (forecast binary64 (task s)) (after binary64 (task s)) (now (s .args .slack)) (total (task s)) (c .hold .result) (c .hold .last .1 .1 .1 .1 .1 .1 .0) (pushes (task s) + c .before .before .before .substeps-in .result)
-    (ap (λ (n : ℕ). pushes (task s) + n) (c .before .before .before .substeps-in .ensures) ∙ whole s)
-    (c .hold .ensures .1 (task s) (now (s .args .slack)) (pushes (task s)) (record { gains = refl; walls = refl; live = refl }) (along-rows (c .before .before .before .before .before .before .before .before .before .before)) (towards-setpoint c))
+    along-at (forecast binary64 (task s)) (after binary64 (task s)) (now (s .args .slack)) (total (task s)) (c .hold .result) (c .hold .last .1 .1 .1 .1 .1 .1 .0) (rowSubsteps (task s) + c .before .before .before .substeps-in .result)
+    (ap (λ (n : ℕ). rowSubsteps (task s) + n) (c .before .before .before .substeps-in .ensures) ∙ whole s)
+    (c .hold .ensures .1 (task s) (now (s .args .slack)) (rowSubsteps (task s)) (record { gains = refl; walls = refl; live = refl }) (along-rows (c .before .before .before .before .before .before .before .before .before .before)) (towards-setpoint c))
 
 returns-2 : tie.Need-returns-2
 returns-2 c =
@@ -95,4 +95,4 @@ returns-2 c =
     rw (has-room (c .before .before .before .before .before .before .before .before .before .before .before .before .before .before)) (run-is (forecast binary64 (task s)) (after binary64 (task s)) (now (s .args .slack)) _ _ a, written-is (forecast binary64 (task s)) (after binary64 (task s)) (now (s .args .slack)) _ _ a)
 
 pub rollout-spec : {M : Type 1} → statement M
-rollout-spec = tie.close (tie.spec roomy-requires returns push-requires inward-requires substeps-in-requires slice-aggregate-hold hold-requires same-length returns-2)
+rollout-spec = tie.close (tie.spec roomy-requires returns follow-requires inward-requires substeps-in-requires slice-aggregate-hold hold-requires same-length returns-2)

@@ -23,7 +23,7 @@ returns : tie.Need-returns
 unfolding ofBits div
 returns c =
     let s = c .before .before .before .before .before .before .before .before .before .before .before in
-    rw (c .halted .ensures) (omega arith, λ react rows g w. start-fails binary64 (taskOf (s .args .arm) react (s .args .w) (s .args .c) (s .args .start) rows) (now (s .args .slack)) (s .args .start) refl (s .args .g) g (s .args .wait) w (c .before .before .before .before .before .before .before .radius .result) (c .before .before .before .before .before .before .before .radius .ensures) (c .before .before .before .before .before .before .slack-r .result) (c .before .before .before .before .before .before .slack-r .ensures) (not-true _ (c .before .if1 .taken)))
+    rw (c .halted .ensures) (omega arith, λ ticks rows g w. start-fails binary64 (taskOf (s .args .arm) ticks (s .args .w) (s .args .c) (s .args .start) rows) (now (s .args .slack)) (s .args .start) refl (s .args .g) g (s .args .react) w (c .before .before .before .before .before .before .before .radius .result) (c .before .before .before .before .before .before .before .radius .ensures) (c .before .before .before .before .before .before .slack-r .result) (c .before .before .before .before .before .before .slack-r .ensures) (not-true _ (c .before .if1 .taken)))
 
 slice-write-slack : tie.Need-slice-write-slack
 slice-write-slack c = search needs
@@ -38,7 +38,7 @@ returns-2 : tie.Need-returns-2
 unfolding ofBits div
 returns-2 c =
     let s = c .before .before .before .before .before .before .before .before .before .before .before in
-    (omega arith, λ react rows g w. start-enters binary64 (taskOf (s .args .arm) react (s .args .w) (s .args .c) (s .args .start) rows) (now (s .args .slack)) (s .args .start) refl (s .args .g) g (s .args .wait) w (c .before .before .before .before .before .before .before .radius .result) (c .before .before .before .before .before .before .before .radius .ensures) (c .before .before .before .before .before .before .slack-r .result) (c .before .before .before .before .before .before .slack-r .ensures) (not-false _ (c .before .if1 .left)) _ (c .min .ensures))
+    (omega arith, λ ticks rows g w. start-enters binary64 (taskOf (s .args .arm) ticks (s .args .w) (s .args .c) (s .args .start) rows) (now (s .args .slack)) (s .args .start) refl (s .args .g) g (s .args .react) w (c .before .before .before .before .before .before .before .radius .result) (c .before .before .before .before .before .before .before .radius .ensures) (c .before .before .before .before .before .before .slack-r .result) (c .before .before .before .before .before .before .slack-r .ensures) (not-false _ (c .before .if1 .left)) _ (c .min .ensures))
 
 pub begin-spec : {M : Type 1} → statement M
 begin-spec =

@@ -54,7 +54,7 @@ same-length : tie.Need-same-length
 same-length c = search needs
 
 abbrev task : tie.Start → Task
-task s = taskOf (s .args .arm) (s .args .react) (s .args .w) (s .args .c) (s .args .start) (now (s .args .rows))
+task s = taskOf (s .args .arm) (s .args .react-ticks) (s .args .w) (s .args .c) (s .args .start) (now (s .args .rows))
 
 pull : (c : tie.After-follow) → reckonedFrom (gain binary64 (task (c .before .before .before .before .before .before .before .before .before .before .before .before))) ≡ c .before .before .before .before .before .before .before .ratio .result
 pull c = sym (c .before .before .before .before .before .before .before .ratio .ensures)
@@ -66,9 +66,9 @@ delay c = sym (c .before .before .before .before .before .before .reaction .ensu
 along-whole : (c : tie.After-follow) → Along binary64 (task (c .before .before .before .before .before .before .before .before .before .before .before .before)) (now (c .before .before .before .before .before .before .before .before .before .before .before .before .args .slack)) (suc (leftOf (c .before .before .before .before .before .before .before .before .before .before .before .before .args .c) .0)) (c .follow .result) (c .follow .last .1 .1 .1 .1 .1 .1 .1 .0)
 along-whole c =
     let s = c .before .before .before .before .before .before .before .before .before .before .before .before in
-    c .follow .ensures .1 (s .args .react) (s .args .start) (now (s .args .slack))
+    c .follow .ensures .1 (s .args .react-ticks) (s .args .start) (now (s .args .slack))
     (record { pull = ap (λ (x : Reckoned). x .value) (pull c); delay = ap (λ (x : Reckoned). x .value) (delay c) })
-    (c .before .before .before .before .begin .ensures .1 (s .args .react) (now (s .args .rows)) (pull c) (delay c))
+    (c .before .before .before .before .begin .ensures .1 (s .args .react-ticks) (now (s .args .rows)) (pull c) (delay c))
 
 returns-2 : tie.Need-returns-2
 returns-2 c =

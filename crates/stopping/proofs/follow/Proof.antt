@@ -22,18 +22,18 @@ use Rattle.stopping.proofs.follow.Statement.{statement}
 use Rattle.stopping.proofs.follow.Tie as tie
 
 -- i of the rows that are left are run
-record Following (arm : Arm) (w : Workspace) (c : Course) (g wait : Float) (rows slack₀ : List Float) (left : ℕ) (r₀ : Run) (slack : List Float) (r : Run) (i : ℕ) : Type 0 where
+record Following (arm : Arm) (w : Workspace) (c : Course) (g react : Float) (rows slack₀ : List Float) (left : ℕ) (r₀ : Run) (slack : List Float) (r : Run) (i : ℕ) : Type 0 where
   turns : i ≤ left
   rows-left : left ≡ leftOf c .0
   same : length slack ≡ length slack₀
   written : r .done ≤ r₀ .done + i
-  comes : ((react : ℕ) (s : Plant) (l : List Float) → Under binary64 (taskOf arm react w c s rows) g wait → Along binary64 (taskOf arm react w c s rows) l 1 r₀ slack₀ → Along binary64 (taskOf arm react w c s rows) l (suc i) r slack)
+  comes : ((ticks : ℕ) (s : Plant) (l : List Float) → Under binary64 (taskOf arm ticks w c s rows) g react → Along binary64 (taskOf arm ticks w c s rows) l 1 r₀ slack₀ → Along binary64 (taskOf arm ticks w c s rows) l (suc i) r slack)
 
 abbrev Inv-loop : tie.InvT-loop
-Inv-loop arm w c g wait rows slack₀ left r₀ i₀ slack r i = Following arm w c g wait rows slack₀ left r₀ slack r i
+Inv-loop arm w c g react rows slack₀ left r₀ i₀ slack r i = Following arm w c g react rows slack₀ left r₀ slack r i
 
 abbrev μ-loop : tie.MeasureT-loop
-μ-loop arm w c g wait rows slack₀ left r₀ i₀ slack r i = left - i
+μ-loop arm w c g react rows slack₀ left r₀ i₀ slack r i = left - i
 
 rows-left-requires : tie.Need-rows-left-requires Inv-loop μ-loop
 rows-left-requires c κs = search needs
@@ -48,7 +48,7 @@ loop-holds c =
       rows-left = c .before .rows-left .ensures;
       same = refl;
       written = omega arith;
-      comes = λ react q l u h. h;
+      comes = λ ticks q l u h. h;
     }
 
 add-action : tie.Need-add-action Inv-loop μ-loop
@@ -81,10 +81,10 @@ loop-again c =
       rows-left = i .inv .rows-left;
       same = call .kept .1 .1 .1 .1 .1 .1 .1 .0 ∙ i .inv .same;
       written = omega (arith, call .ensures .0, i .inv .written);
-      comes = λ react q l u h.
-          let t = taskOf (s .args .arm) react (s .args .w) (s .args .c) q (now (s .args .rows)) in
+      comes = λ ticks q l u h.
+          let t = taskOf (s .args .arm) ticks (s .args .w) (s .args .c) q (now (s .args .rows)) in
           along-at (forecast binary64 t) (stand binary64 t) l (suc (i .i + 1)) (call .result) _ (suc (i .i) + 1) (omega arith)
-          (call .ensures .1 react q (now (s .args .rows)) l (i .i) u (i .inv .comes react q l u h) (λ _. sym (c .before .before .before .before .action .ensures)));
+          (call .ensures .1 ticks q (now (s .args .rows)) l (i .i) u (i .inv .comes ticks q l u h) (λ _. sym (c .before .before .before .before .action .ensures)));
     }
 
 same-length : tie.Need-same-length Inv-loop μ-loop
@@ -95,7 +95,7 @@ returns c =
     let s = c .before .before .before .before .before .before in
     let i = c .before .loop in
     let e : i .i ≡ leftOf (s .args .c) .0 = omega (arith, i .inv .rows-left) in
-    (omega (arith, i .inv .written, e), λ react q l u h. let t = taskOf (s .args .arm) react (s .args .w) (s .args .c) q (now (s .args .rows)) in along-at (forecast binary64 t) (stand binary64 t) l (suc (leftOf (s .args .c) .0)) _ _ (suc (i .i)) (ap suc e) (i .inv .comes react q l u h))
+    (omega (arith, i .inv .written, e), λ ticks q l u h. let t = taskOf (s .args .arm) ticks (s .args .w) (s .args .c) q (now (s .args .rows)) in along-at (forecast binary64 t) (stand binary64 t) l (suc (leftOf (s .args .c) .0)) _ _ (suc (i .i)) (ap suc e) (i .inv .comes ticks q l u h))
 
 pub follow-spec : {M : Type 1} → statement M
 follow-spec =

@@ -24,7 +24,7 @@ returns : tie.Need-returns
 unfolding radius
 returns c = let s = c .before .before .before .before .before .before .args in
     let m : c .before .before .before .before .magnitude .result ≡ norm binary64 (s .t3) (s .n) .value = c .before .before .before .before .magnitude .ensures in
-    rw (c .before .finite .ensures, c .before .before .before .d-stop .ensures, m, radius-tells binary64 (s .arm .brake) (s .arm .«a_max») (s .arm .«j_max») (s .wait) (s .t3) (s .n))
+    rw (c .before .finite .ensures, c .before .before .before .d-stop .ensures, m, radius-tells binary64 (s .arm .brake) (s .arm .«a_max») (s .arm .«j_max») (s .react) (s .t3) (s .n))
 
 pub radius-spec : {M : Type 1} → statement M
 radius-spec =

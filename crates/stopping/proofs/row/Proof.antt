@@ -21,7 +21,7 @@ axes : (s : tie.Start) → s .args .c .live ≤ length (s .args .run .plant .v)
 axes s = omega (arith, long s, s .pre .0)
 
 returns : tie.Need-returns
-returns c = (omega arith, λ react q rows l k u h go. let t = taskOf (c .before .before .before .before .args .arm) react (c .before .before .before .before .args .w) (c .before .before .before .before .args .c) q rows in along-stopped (forecast binary64 t) (stand binary64 t) l _ _ _ h (not-true _ (c .if1 .taken)))
+returns c = (omega arith, λ ticks q rows l k u h go. let t = taskOf (c .before .before .before .before .args .arm) ticks (c .before .before .before .before .args .w) (c .before .before .before .before .args .c) q rows in along-stopped (forecast binary64 t) (stand binary64 t) l _ _ _ h (not-true _ (c .if1 .taken)))
 
 command-requires : tie.Need-command-requires
 command-requires c κs = search needs
@@ -41,10 +41,10 @@ halted-requires c κs = search needs
 returns-2 : tie.Need-returns-2
 returns-2 c = rw (c .halted .ensures) (
   omega arith,
-  λ react q rows l k u h go.
+  λ ticks q rows l k u h go.
       let s = c .before .before .before .before .before .before .before .before .before .before .before .before .before .before .before .before in
       let live = not-false _ (c .before .before .before .before .before .before .before .before .before .before .before .before .if1 .left) in
-      turn-fails binary64 (taskOf (s .args .arm) react (s .args .w) (s .args .c) q rows) l k (s .args .run) (now (s .args .slack)) h live (s .args .g) (s .args .wait) u (now (s .args .a)) (go live) (axes s)
+      turn-fails binary64 (taskOf (s .args .arm) ticks (s .args .w) (s .args .c) q rows) l k (s .args .run) (now (s .args .slack)) h live (s .args .g) (s .args .react) u (now (s .args .a)) (go live) (axes s)
       (c .before .before .before .before .before .before .before .before .before .command .result) (c .before .before .before .before .before .before .before .before .before .command .ensures) (c .before .before .before .before .before .before .before .before .radius .result) (c .before .before .before .before .before .before .before .before .radius .ensures) (c .before .before .before .before .before .before .before .slack-r .result) (c .before .before .before .before .before .before .before .slack-r .ensures) (c .before .before .before .before .before .before .step .result) (c .before .before .before .before .before .before .step .ensures)
       (not-true _ (c .before .if2 .taken)),
 )
@@ -67,10 +67,10 @@ same-length c = search needs
 returns-3 : tie.Need-returns-3
 returns-3 c = (
   omega arith,
-  λ react q rows l k u h go.
+  λ ticks q rows l k u h go.
       let s = c .before .before .before .before .before .before .before .before .before .before .before .before .before .before .before .before in
       let live = not-false _ (c .before .before .before .before .before .before .before .before .before .before .before .before .if1 .left) in
-      turn-advances binary64 (taskOf (s .args .arm) react (s .args .w) (s .args .c) q rows) l k (s .args .run) (now (s .args .slack)) h live (s .args .g) (s .args .wait) u (now (s .args .a)) (go live) (axes s)
+      turn-advances binary64 (taskOf (s .args .arm) ticks (s .args .w) (s .args .c) q rows) l k (s .args .run) (now (s .args .slack)) h live (s .args .g) (s .args .react) u (now (s .args .a)) (go live) (axes s)
       (c .before .before .before .before .before .before .before .before .before .command .result) (c .before .before .before .before .before .before .before .before .before .command .ensures) (c .before .before .before .before .before .before .before .before .radius .result) (c .before .before .before .before .before .before .before .before .radius .ensures) (c .before .before .before .before .before .before .before .slack-r .result) (c .before .before .before .before .before .before .before .slack-r .ensures) (c .before .before .before .before .before .before .step .result) (c .before .before .before .before .before .before .step .ensures)
       (not-false _ (c .before .if2 .left)) _ (c .min .ensures),
 )

@@ -35,7 +35,7 @@ returns c =
     let w = c .before .before .before .before .before .before .before .before .before .before in
     let s = w .before .args in
     let m : c .before .before .before .distance .result ≡ dist binary64 (s .end .p) (s .start .p) (s .n) .value = c .before .before .before .distance .ensures in
-    rw (c .before .finite .ensures, m, c .before .before .before .before .before .before .radius .ensures, w .reaction .ensures, stop-tells binary64 (s .arm) (times binary64 (ofInt binary64 (pos (s .react))) (s .arm .dt) .value) (stateOf (s .start)) (stateOf (s .end)) (s .n))
+    rw (c .before .finite .ensures, m, c .before .before .before .before .before .before .radius .ensures, w .reaction .ensures, stop-tells binary64 (s .arm) (times binary64 (ofInt binary64 (pos (s .react-ticks))) (s .arm .dt) .value) (stateOf (s .start)) (stateOf (s .end)) (s .n))
 
 pub stop-distance-spec : {M : Type 1} → statement M
 stop-distance-spec =

@@ -4,18 +4,18 @@ use borrow.Author.Needs.{needs}
 use Rattle.card.proofs.desk.brake.Statement.{statement}
 use Rattle.card.proofs.desk.brake.Tie as tie
 
-number-requires : tie.Need-number-requires
-number-requires c κs = search needs
+float-of-requires : tie.Need-float-of-requires
+float-of-requires c κs = search needs
 
-number-requires-2 : tie.Need-number-requires-2
-number-requires-2 c κs = search needs
+float-of-requires-2 : tie.Need-float-of-requires-2
+float-of-requires-2 c κs = search needs
 
-number-requires-3 : tie.Need-number-requires-3
-number-requires-3 c κs = search needs
+float-of-requires-3 : tie.Need-float-of-requires-3
+float-of-requires-3 c κs = search needs
 
 returns : tie.Need-returns
 unfolding brakeOf
-returns c = rw (c .number3 .ensures, c .before .number2 .ensures, c .before .before .number .ensures)
+returns c = rw (c .float-of3 .ensures, c .before .float-of2 .ensures, c .before .before .float-of .ensures)
 
 pub brake-spec : {M : Type 1} → statement M
-brake-spec = tie.close (tie.spec number-requires number-requires-2 number-requires-3 returns)
+brake-spec = tie.close (tie.spec float-of-requires float-of-requires-2 float-of-requires-3 returns)

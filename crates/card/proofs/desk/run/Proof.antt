@@ -11,23 +11,23 @@ configure-requires c κs = search needs
 table-requires : tie.Need-table-requires
 table-requires c κs = search needs
 
-number-requires : tie.Need-number-requires
-number-requires c κs = search needs
+float-of-requires : tie.Need-float-of-requires
+float-of-requires c κs = search needs
 
-number-requires-2 : tie.Need-number-requires-2
-number-requires-2 c κs = search needs
+float-of-requires-2 : tie.Need-float-of-requires-2
+float-of-requires-2 c κs = search needs
 
-number-requires-3 : tie.Need-number-requires-3
-number-requires-3 c κs = search needs
+float-of-requires-3 : tie.Need-float-of-requires-3
+float-of-requires-3 c κs = search needs
 
-number-requires-4 : tie.Need-number-requires-4
-number-requires-4 c κs = search needs
+float-of-requires-4 : tie.Need-float-of-requires-4
+float-of-requires-4 c κs = search needs
 
-number-requires-5 : tie.Need-number-requires-5
-number-requires-5 c κs = search needs
+float-of-requires-5 : tie.Need-float-of-requires-5
+float-of-requires-5 c κs = search needs
 
-number-requires-6 : tie.Need-number-requires-6
-number-requires-6 c κs = search needs
+float-of-requires-6 : tie.Need-float-of-requires-6
+float-of-requires-6 c κs = search needs
 
 cast-from : tie.Need-cast-from
 cast-from c = search needs
@@ -52,7 +52,7 @@ returns c =
     let n = c .before .before .before .before .before .before .before .before .before .before in
     let t = n .before .before .before .before .before .before in
     let g = t .before .before .before .args in
-    ran (g .c) (now (g .slack)) (t .before .configure .ensures) (t .table .ensures) (n .before .before .before .before .before .number .ensures) (n .before .before .before .before .number2 .ensures) (n .before .before .before .number3 .ensures) (n .before .before .number4 .ensures) (n .before .number5 .ensures) (n .number6 .ensures) (c .before .before .brake-feasible .ensures)
+    ran (g .c) (now (g .slack)) (t .before .configure .ensures) (t .table .ensures) (n .before .before .before .before .before .float-of .ensures) (n .before .before .before .before .float-of2 .ensures) (n .before .before .before .float-of3 .ensures) (n .before .before .float-of4 .ensures) (n .before .float-of5 .ensures) (n .float-of6 .ensures) (c .before .before .brake-feasible .ensures)
 
 pub run-spec : {M : Type 1} → statement M
 run-spec =
@@ -60,12 +60,12 @@ run-spec =
     (tie.spec
     configure-requires
     table-requires
-    number-requires
-    number-requires-2
-    number-requires-3
-    number-requires-4
-    number-requires-5
-    number-requires-6
+    float-of-requires
+    float-of-requires-2
+    float-of-requires-3
+    float-of-requires-4
+    float-of-requires-5
+    float-of-requires-6
     cast-from
     slice-aggregate-brake-feasible
     slice-aggregate-brake-feasible-2

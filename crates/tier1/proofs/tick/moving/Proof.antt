@@ -14,8 +14,14 @@ absent-pair-requires c κs = search needs
 returns : tie.Need-returns
 returns c = let g = c .before .before .before .args in neither-there _ _ (lt-leb 20 (g .t .len) (c .before .if1 .taken)) (c .absent-pair .ensures)
 
+cast-displacement : tie.Need-cast-displacement
+cast-displacement c = search needs
+
 displacement-requires : tie.Need-displacement-requires
 displacement-requires c κs = search needs
+
+cast-travelled : tie.Need-cast-travelled
+cast-travelled c = search needs
 
 travelled-requires : tie.Need-travelled-requires
 travelled-requires c κs = search needs
@@ -54,7 +60,9 @@ moving-spec =
     (tie.spec
     absent-pair-requires
     returns
+    cast-displacement
     displacement-requires
+    cast-travelled
     travelled-requires
     max-requires
     min-requires

@@ -7,14 +7,14 @@ use borrow.Author.Needs.{needs}
 use lib.Bits.{bitAnd}
 use lib.Dec.{lit<}
 use mir.Val.{boolByte}
-use Rattle.window.specs.Rule.{bit}
+use Rattle.window.specs.Rule.{flag}
 use Rattle.window.specs.Of.{pushedOf}
 use Rattle.window.specs.declared.Window.{Window}
 use Rattle.window.proofs.Shift.{shift-keeps}
 use Rattle.window.proofs.Window.pushed.Statement.{statement}
 use Rattle.window.proofs.Window.pushed.Tie as tie
 
-digit : (h : Bool) → boolByte h ≡ bit h
+digit : (h : Bool) → boolByte h ≡ flag h
 digit true = refl
 digit false = refl
 

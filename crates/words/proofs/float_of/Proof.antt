@@ -1,4 +1,4 @@
--- `words::number` meets its contract: a pattern is a NaN's, or `from_bits` is defined there.
+-- `words::float_of` meets its contract: a pattern is a NaN's, or `from_bits` is defined there.
 use Prim.Native.Nat.{ℕ}
 use native.Mathlib.Omega.{arith}
 use mathlib.Core.Path.{_≡_, refl, sym, _∙_}
@@ -7,8 +7,8 @@ use lib.Dec.{T}
 use lib.Ieee.{Float, nan, inf, fin, isNan, ofBits, nanBits, div, binary64}
 use lib.Ieee.Bits.{nanBits-is}
 use borrow.Author.Needs.{needs}
-use Rattle.words.proofs.number.Statement.{statement}
-use Rattle.words.proofs.number.Tie as tie
+use Rattle.words.proofs.float_of.Statement.{statement}
+use Rattle.words.proofs.float_of.Tie as tie
 
 nan-of : (x : Float) → isNan x ≡ true → nan ≡ x
 unfolding isNan
@@ -31,5 +31,5 @@ float-from-bits-result c = none _ (c .if1 .left)
 returns-2 : tie.Need-returns-2
 returns-2 c = search needs
 
-pub number-spec : {M : Type 1} → statement M
-number-spec = tie.close (tie.spec returns float-from-bits-result returns-2)
+pub float-of-spec : {M : Type 1} → statement M
+float-of-spec = tie.close (tie.spec returns float-from-bits-result returns-2)

@@ -1,4 +1,4 @@
--- `rollout::push` meets its contract: the loop holds one row a turn, and row i is what its substeps go towards (`Rows`).
+-- `rollout::follow` meets its contract: the loop holds one row a turn, and row i is what its substeps go towards (`Rows`).
 use Prim.Native.Nat.{ℕ, _+_, _-_, _*_, _≤_, _<_}
 use mathlib.Core.Path.{_≡_, refl, sym, ap, _∙_}
 use mathlib.Core.List.{List}
@@ -21,11 +21,11 @@ use Rattle.course.specs.Of.{leftOf}
 use Rattle.course.proofs.Along.{along-at}
 use Rattle.course.proofs.Room.{shape-of}
 use Rattle.rollout.proofs.Rows.{row-more, aims-row}
-use Rattle.rollout.proofs.push.Statement.{statement}
-use Rattle.rollout.proofs.push.Tie as tie
+use Rattle.rollout.proofs.follow.Statement.{statement}
+use Rattle.rollout.proofs.follow.Tie as tie
 
 -- i of the rows that are left are run
-record Pushing (g : Law) (w : Workspace) (c : Course) (rows slack₀ : List Float) (left per : ℕ) (r₀ : Run) (slack : List Float) (r : Run) (i : ℕ) : Type 0 where
+record Following (g : Law) (w : Workspace) (c : Course) (rows slack₀ : List Float) (left per : ℕ) (r₀ : Run) (slack : List Float) (r : Run) (i : ℕ) : Type 0 where
   turns : i ≤ left
   rows-left : left ≡ leftOf c .0
   substeps : per ≡ c .per .0
@@ -34,7 +34,7 @@ record Pushing (g : Law) (w : Workspace) (c : Course) (rows slack₀ : List Floa
   comes : ((s : Plant) (l : List Float) → Along binary64 (taskOf g w c s rows) l 0 r₀ slack₀ → Along binary64 (taskOf g w c s rows) l (i * per) r slack)
 
 abbrev Inv-loop : tie.InvT-loop
-Inv-loop g w c rows slack₀ left per r₀ i₀ slack r i = Pushing g w c rows slack₀ left per r₀ slack r i
+Inv-loop g w c rows slack₀ left per r₀ i₀ slack r i = Following g w c rows slack₀ left per r₀ slack r i
 
 abbrev μ-loop : tie.MeasureT-loop
 μ-loop g w c rows slack₀ left per r₀ i₀ slack r i = left - i
@@ -113,8 +113,8 @@ returns c =
     let m : i .i * per ≡ leftOf (s .args .c) .0 * per = ap (λ (x : ℕ). x * per) e in
     (omega (arith, i .inv .written, m), λ q l h. along-at (forecast binary64 (taskOf (s .args .g) (s .args .w) (s .args .c) q (now (s .args .rows)))) (after binary64 (taskOf (s .args .g) (s .args .w) (s .args .c) q (now (s .args .rows)))) l (leftOf (s .args .c) .0 * per) _ _ (i .i * per) m (i .inv .comes q l h))
 
-pub push-spec : {M : Type 1} → statement M
-push-spec =
+pub follow-spec : {M : Type 1} → statement M
+follow-spec =
     tie.close
     (tie.spec
     Inv-loop
