@@ -1,17 +1,17 @@
--- A forecast's refusal, case by case: what is judged before anything is computed comes first, and where that passes the forecast decides.
+-- A forecast's refusal: what is judged before anything is computed comes first, and where that passes the forecast decides.
 use Prim.Native.Nat.{ℕ, _+_, _≤_}
 use mathlib.Core.Path.{_≡_, refl, sym, ap, _∙_}
 use mathlib.Core.Bool.{Bool, true, false, not, _||_}
 use mathlib.Core.List.{List, [], _∷_, _++_}
 use native.Mathlib.Nat.{le-trans, mul-le-mul-right}
 use native.Mathlib.Omega.{arith}
-use borrow.Author.Tests.{eqb-true, eqb-false, eq-eqb, ne-eqb, ltb-false, not-false}
+use borrow.Author.Tests.{eqb-true, eqb-false, ne-eqb, ltb-false, not-false}
 use lib.Dec.{eqb, ltb}
 use lib.ListN.{length}
 use lib.Ieee.{Float, Format}
-use Rattle.refusal.specs.Order.{Judged, numberOf, width, short, notFinite, computed, _when_, refusal, refusedFor}
+use Rattle.refusal.specs.Order.{Judged, numberOf, width, short, notFinite, computed, _when_, refusal, orLater, refusedFor}
 use Rattle.bits.specs.Choice.{if_then_else_}
-use Rattle.refusal.specs.Chain.{chain, first-refuses, first-passes, both-pass, passes-at}
+use Rattle.refusal.specs.Chain.{chain, joined, first-refuses, first-passes, both-pass, passes-at}
 use Rattle.refusal.specs.declared.Refusal.{Refusal}
 use Rattle.fmath.specs.Answer.{someLentNotFinite}
 use Rattle.checked.proofs.Each.{neither}
@@ -74,19 +74,6 @@ module _ (f : Format) (c : FuseConfig) (p v rows : List Float) (h d from room : 
   pub brief-is : {s : Bool} {n : ℕ} → s ≡ tooShort (c .«pos_dim») (length p) (length v) n room → n ≡ countFor (c .brake) (c .brake .kind) from → s ≡ brief
   brief-is g y = g ∙ ap (λ (n : ℕ). tooShort (c .«pos_dim») (length p) (length v) n room) (y ∙ sym (count-is f c p v rows h d from (c .brake .kind)))
 
-  pub by-width : (d ≡ c .dim → ⊥) → 10 ≡ refusal lent
-  by-width g = rw (ne-eqb d (c .dim) g)
-
-  module _ (ew : d ≡ c .dim) {s : Bool} (es : s ≡ brief) where
-    pub by-11 : s ≡ true → 11 ≡ refusal lent
-    by-11 g = rw (eq-eqb d (c .dim) ew, sym es ∙ g)
-
-    pub by-12 : s ≡ false → {u : Bool} → u ≡ unfit → u ≡ true → 12 ≡ refusal lent
-    by-12 g eu y = rw (eq-eqb d (c .dim) ew, sym es ∙ g, sym eu ∙ y)
-
-    pub by-none : s ≡ false → {u : Bool} → u ≡ unfit → u ≡ false → 0 ≡ refusal lent
-    by-none g eu y = rw (eq-eqb d (c .dim) ew, sym es ∙ g, sym eu ∙ y)
-
   enough : brief ≡ false → countFor (c .brake) (c .brake .kind) from ≤ room
   unfolding tooShort
   enough g =
@@ -104,21 +91,12 @@ module _ (f : Format) (c : FuseConfig) (tabs : Tables) (p v rows : List Float) (
     abbrev later : List Judged
     later = lent f c p v rows h d from room
 
+    -- what is judged before anything is computed, and its number from that of each part
     abbrev before : List Judged
     before = configJudged f c tabs ++ (sizes ++ later)
 
-    pub by-config : {r : ℕ} → r ≡ refusal (configJudged f c tabs) → (r ≡ 0 → ⊥) → r ≡ refusal before
-    by-config g y = g ∙ sym (first-refuses (configJudged f c tabs) (sizes ++ later) (λ z. y (g ∙ z)))
-
-    module _ {k : ℕ} (ek : k ≡ refusal (configJudged f c tabs)) (ez : k ≡ 0) where
-      passed-on : refusal before ≡ chain (sizes ++ later)
-      passed-on = first-passes (configJudged f c tabs) (sizes ++ later) (sym ek ∙ ez)
-
-      pub by-sizes : {r : ℕ} → r ≡ refusal sizes → (r ≡ 0 → ⊥) → r ≡ refusal before
-      by-sizes g y = g ∙ sym (passed-on ∙ first-refuses sizes later (λ z. y (g ∙ z)))
-
-      pub by-lent : {r q : ℕ} → r ≡ refusal sizes → r ≡ 0 → q ≡ refusal later → q ≡ refusal before
-      by-lent g y i = i ∙ sym (passed-on ∙ first-passes sizes later (sym g ∙ y))
+    pub before-is : {k s q i r : ℕ} → k ≡ refusal (configJudged f c tabs) → s ≡ refusal sizes → q ≡ refusal later → i ≡ orLater s q → r ≡ orLater k i → r ≡ refusal before
+    before-is ek es eq ei er = joined (configJudged f c tabs) (sizes ++ later) ek (joined sizes later es eq ei) er
 
     -- what is known where nothing is refused yet
     pub planned : refusal before ≡ 0 → Planned c (length rows) h d from room

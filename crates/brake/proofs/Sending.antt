@@ -1,5 +1,5 @@
--- A row's refusal, case by case; a kind that is none of the velocity kinds; the whole answer, by the row that is sent; and that hold, at a box, never gives 13.
-use Prim.Native.Nat.{ℕ, zero, suc, min, _≤_, _<_}
+-- A kind that is none of the velocity kinds; the whole answer, by the row that is sent; and that hold, at a box, never gives 13.
+use Prim.Native.Nat.{ℕ, min, _≤_}
 use mathlib.Core.Path.{_≡_, refl, sym, ap, _∙_}
 use mathlib.Core.Bool.{Bool, true, false, not, _||_, false≢true}
 use mathlib.Core.Logic.{inl, inr}
@@ -7,14 +7,15 @@ use mathlib.Core.List.{List, [], _∷_, _++_}
 use native.Mathlib.Omega.{arith}
 use types.Run.{OneOf}
 use denote.Enum.Declared.{tagOf}
-use borrow.Author.Tests.{lt-ltb, le-ltb, ltb-false}
+use borrow.Author.Tests.{ltb-false}
 use lib.Dec.{ltb}
 use lib.ListN.{length}
 use lib.Ieee.{Float, Format}
 use Rattle.refusal.specs.Order.{Reason, Judged, short, notFinite, computed, _when_, among, refusal, refusedFor}
-use Rattle.bits.specs.Choice.{if_then_else_}
 use Rattle.refusal.specs.Exactly.{First, here, later, exactly-first}
-use Rattle.refusal.specs.Chain.{chain, first-refuses, first-passes, both-pass, passes-at}
+use Rattle.refusal.specs.Chain.{both-pass, passes-at}
+use Rattle.refusal.proofs.Entry.{Answered, by-lent, by-computed}
+use Rattle.refusal.proofs.Entry as entry
 use Rattle.refusal.specs.declared.Refusal.{Refusal}
 use Rattle.fmath.specs.Answer.{someNotFinite}
 use Rattle.checked.specs.Each.{at, over}
@@ -31,13 +32,12 @@ use Rattle.workspace.specs.Rule.{Walls, setpoint}
 use Rattle.workspace.specs.Of.{wallsOf}
 use Rattle.workspace.specs.declared.Workspace.{Workspace}
 use Rattle.workspace.proofs.Inside.{setpoint-sound}
-use Rattle.brake.specs.declared.Sent.{Sent}
 use Rattle.brake.specs.declared.Sent.the-variants as sent
 use Rattle.checked.specs.declared.Row.{Row}
 use Rattle.brake.specs.Rule.{wallsAt, brakeRow, holdRow}
 use Rattle.brake.specs.Of.{workspaceFor}
 use Rattle.checked.specs.Of.{rowFrom}
-use Rattle.brake.specs.Answer.{rowLent, sentAt, rowAt, brakeSent, brakeRefusal, holdSent, holdRefusal}
+use Rattle.brake.specs.Answer.{rowLent, brakeSent, brakeRefusal, holdSent, holdRefusal}
 
 -- ---- position kinds
 
@@ -69,87 +69,55 @@ module _ (w : Walls) (p : List Float) (n : ℕ) where
   position-holds f JointVelocity (inr (inl e)) = absurd (let z : ⊥ = omega arith in z)
   position-holds f JointVelocity (inr (inr e)) = absurd (let z : ⊥ = omega arith in z)
 
--- ---- the number
+-- ---- the whole answer
 
 module _ (f : Format) (c : FuseConfig) (tabs : Tables) (unfit : Bool) (room : ℕ) where
-  abbrev lent : List Judged
-  lent = rowLent c unfit room
-
-  abbrev before : ℕ
-  before = refusal (configJudged f c tabs ++ lent)
-
-  pub by-config : {r : ℕ} → r ≡ refusal (configJudged f c tabs) → (r ≡ 0 → ⊥) → r ≡ before
-  by-config g y = g ∙ sym (first-refuses (configJudged f c tabs) lent (λ z. y (g ∙ z)))
-
-  module _ {k : ℕ} (ek : k ≡ refusal (configJudged f c tabs)) (ez : k ≡ 0) where
-    passed-on : before ≡ chain lent
-    passed-on = first-passes (configJudged f c tabs) lent (sym ek ∙ ez)
-
-    pub by-11 : room < c .dim → 11 ≡ before
-    by-11 g = sym (passed-on ∙ rw (lt-ltb _ _ g))
-
-    pub by-12 : c .dim ≤ room → unfit ≡ true → 12 ≡ before
-    by-12 g y = sym (passed-on ∙ rw (le-ltb _ _ g, y))
-
-    pub by-none : c .dim ≤ room → unfit ≡ false → 0 ≡ before
-    by-none g y = sym (passed-on ∙ rw (le-ltb _ _ g, y))
+  -- what is judged before the row is computed
+  abbrev before : List Judged
+  before = configJudged f c tabs ++ rowLent c unfit room
 
   -- an accepted row is narrow, and the output has room for it
-  pub sized : before ≡ 0 → (c .dim ≤ 8) × (c .dim ≤ room)
+  pub sized : refusal before ≡ 0 → (c .dim ≤ 8) × (c .dim ≤ room)
   sized z =
-      let w = both-pass (configJudged f c tabs) lent z in
+      let w = both-pass (configJudged f c tabs) (rowLent c unfit room) z in
       let a = passes-at short (ltb room (c .dim)) ((notFinite when unfit) ∷ []) (w .1) in
       (dim-most f c tabs (accepted f c tabs (w .0)), ltb-false room (c .dim) (a .0))
 
 -- all of a row of eight is put over an output with room for dim numbers
-all-sent : (f : Format) (c : FuseConfig) (tabs : Tables) (unfit : Bool) (row l : List Float) → before f c tabs unfit (length l) ≡ 0 → length row ≡ 8 → {m : List Float} → m ≡ over (at row) l (min (c .dim) (min (length row) (length l))) → m ≡ over (at row) l (c .dim)
+all-sent : (f : Format) (c : FuseConfig) (tabs : Tables) (unfit : Bool) (row l : List Float) → refusal (before f c tabs unfit (length l)) ≡ 0 → length row ≡ 8 → {m : List Float} → m ≡ over (at row) l (min (c .dim) (min (length row) (length l))) → m ≡ over (at row) l (c .dim)
 all-sent f c tabs unfit row l z long = let w = sized f c tabs unfit (length l) z in all-put l row (omega (arith, w .0)) (w .1)
-
--- ---- the whole answer
-
-first-applies : (applies : Reason → Bool) {l : List Reason} {k : Reason} → First applies l k → applies k ≡ true
-first-applies applies (here e) = e
-first-applies applies (later e h) = first-applies applies h
-
-sent-number : (k : ℕ) → (k ≡ 0 → ⊥) → {r : Refusal} → r ≡ refusedFor k → sent.Refused r ≡ sentAt k
-sent-number zero h i = absurd (h refl)
-sent-number (suc k) h i = ap sent.Refused i
-
-kept-number : (k : ℕ) → (k ≡ 0 → ⊥) → (row : List Float) (n : ℕ) (l : List Float) → l ≡ rowAt k row n l
-kept-number zero h row n l = absurd (h refl)
-kept-number (suc k) h row n l = refl
-
--- what is answered by a number, and what the output then is
-pub record Answered (k : ℕ) (row : List Float) (n : ℕ) (l : List Float) (r : Sent) (m : List Float) : Type 0 where
-  pub gives : r ≡ sentAt k
-  pub leaves : m ≡ rowAt k row n l
 
 module _ (f : Format) (c : FuseConfig) (tabs : Tables) (l : List Float) {bad unfit : Bool} (ef : bad ≡ unfit) (x : Checked (List Float)) {k : ℕ}
     (ek : k ≡ refusal (configJudged f c tabs ++ (rowLent c unfit (length l) ++ ((computed when not (x .sound)) ∷ [])))) where
   abbrev judged : List Judged
-  judged = configJudged f c tabs ++ rowLent c unfit (length l)
+  judged = before f c tabs unfit (length l)
 
-  abbrev rest : List Judged
-  rest = (computed when not (x .sound)) ∷ []
+  abbrev written : List Float
+  written = over (at (x .value)) l (c .dim)
 
-  numbered : (j : ℕ) → k ≡ j → (j ≡ 0 → ⊥) → {r : Refusal} → r ≡ refusedFor j → Answered k (x .value) (c .dim) l (sent.Refused r) l
-  numbered j e y i = record { gives = rw e (sent-number j y i); leaves = rw e (kept-number j y _ _ l) }
+  same-judged : refusal (before f c tabs bad (length l)) ≡ refusal judged
+  same-judged = ap (λ (b : Bool). refusal (before f c tabs b (length l))) ef
 
-  same-judged : before f c tabs bad (length l) ≡ refusal judged
-  same-judged = ap (λ (b : Bool). before f c tabs b (length l)) ef
+  pub row-refused : {j : ℕ} → j ≡ refusal (before f c tabs bad (length l)) → (j ≡ 0 → ⊥) → {r : Refusal} → r ≡ refusedFor j → Answered sent.Refused sent.Done l written k (sent.Refused r) l
+  row-refused g = by-lent sent.Refused sent.Done l written judged (x .sound) ek (g ∙ same-judged)
 
-  pub row-refused : {j : ℕ} → j ≡ before f c tabs bad (length l) → (j ≡ 0 → ⊥) → {r : Refusal} → r ≡ refusedFor j → Answered k (x .value) (c .dim) l (sent.Refused r) l
-  row-refused {j} g y = numbered j (ek ∙ first-refuses judged rest (λ z. y (g ∙ same-judged ∙ z)) ∙ sym (g ∙ same-judged)) y
+  module _ (z : refusal (before f c tabs bad (length l)) ≡ 0) {row : Row} (er : row ≡ rowFrom x) where
+    passed : refusal judged ≡ 0
+    passed = sym same-judged ∙ z
 
-  module _ (z : before f c tabs bad (length l) ≡ 0) {row : Row} (er : row ≡ rowFrom x) where
-    left : k ≡ (if not (row .sound) then 13 else 0)
-    left = ek ∙ first-passes judged rest (sym same-judged ∙ z) ∙ ap (λ (y : Row). if not (y .sound) then 13 else 0) (sym er)
+    sound-is : row .sound ≡ x .sound
+    sound-is = ap (λ (y : Row). y .sound) er
 
-    pub row-unsound : row .sound ≡ false → {r : Refusal} → r ≡ refusedFor 13 → Answered k (x .value) (c .dim) l (sent.Refused r) l
-    row-unsound y = numbered 13 (left ∙ ap (λ (b : Bool). if not b then 13 else 0) y) (λ q. omega arith)
+    pub row-unsound : row .sound ≡ false → {r : Refusal} → r ≡ refusedFor 13 → Answered sent.Refused sent.Done l written k (sent.Refused r) l
+    row-unsound = by-computed sent.Refused sent.Done l written judged (x .sound) ek passed sound-is
 
-    pub row-done : row .sound ≡ true → length (row .at) ≡ 8 → {m : List Float} → m ≡ over (at (row .at)) l (min (c .dim) (min (length (row .at)) (length l))) → Answered k (x .value) (c .dim) l sent.Done m
-    row-done y long i = let e = left ∙ ap (λ (b : Bool). if not b then 13 else 0) y in record { gives = rw e; leaves = all-sent f c tabs bad (row .at) l z long i ∙ rw (e, er) }
+    pub row-done : row .sound ≡ true → length (row .at) ≡ 8 → {m : List Float} → m ≡ over (at (row .at)) l (min (c .dim) (min (length (row .at)) (length l))) → Answered sent.Refused sent.Done l written k sent.Done m
+    row-done y long i = entry.accepted sent.Refused sent.Done l written judged (x .sound) ek passed sound-is y refl (all-sent f c tabs bad (row .at) l z long i ∙ rw er)
+
+-- where a number is given its reason applies
+first-applies : (applies : Reason → Bool) {l : List Reason} {k : Reason} → First applies l k → applies k ≡ true
+first-applies applies (here e) = e
+first-applies applies (later e h) = first-applies applies h
 
 -- ---- brake and hold, each by its row
 

@@ -1,11 +1,11 @@
 -- What the brake's entries judge (R7), and what they answer.
-use Prim.Native.Nat.{ℕ, zero, suc}
+use Prim.Native.Nat.{ℕ}
 use mathlib.Core.Bool.{Bool, not, _||_}
 use mathlib.Core.List.{List, [], _∷_, _++_}
 use lib.Dec.{ltb, eqb}
 use lib.ListN.{length}
 use lib.Ieee.{Float, Format}
-use Rattle.refusal.specs.Order.{Judged, width, short, notFinite, computed, numberOf, _when_, refusal, refusedFor}
+use Rattle.refusal.specs.Order.{Judged, width, short, notFinite, computed, numberOf, _when_, refusal, refusedFor, answerBy, leftBy}
 use Rattle.bits.specs.Choice.{if_then_else_}
 use Rattle.fmath.specs.Answer.{someNotFinite, someLentNotFinite}
 use Rattle.checked.specs.Each.{at, over}
@@ -68,13 +68,11 @@ module _ (f : Format) (c : FuseConfig) (t : Tables) (p v rows : List Float) (h d
 -- ---- brake and hold
 
 abbrev pub sentAt : ℕ → Sent
-sentAt zero = sent.Done
-sentAt (suc k) = sent.Refused (refusedFor (suc k))
+sentAt n = answerBy sent.Refused sent.Done n
 
--- the first n numbers of a row over the output, where the refusal is 0; the rest stays
+-- the first k numbers of a row over the output, where the refusal is 0; the rest stays
 abbrev pub rowAt : ℕ → List Float → ℕ → List Float → List Float
-rowAt zero row n l = over (at row) l n
-rowAt (suc k) row n l = l
+rowAt n row k l = leftBy l (over (at row) l k) n
 
 -- 11 and 12, where the output has so much room and some lent number is not finite, or none
 abbrev pub rowLent : FuseConfig → Bool → ℕ → List Judged

@@ -219,7 +219,7 @@ fn too_short(pos_dim: usize, pos: usize, vel: usize, count: usize, room: usize) 
     (pos < pos_dim) | (vel < pos_dim) | (room < count)
 }
 
-// The number for what is lent where the configuration and the sizes are accepted: 10, then 11, then 12.
+// The number for what is lent: 10, then 11, then 12.
 fn lent_refusal(
     c: FuseConfig,
     pos: &[f64],
@@ -232,17 +232,12 @@ fn lent_refusal(
 ) -> u8
     ensures { λ r. ⌜ r ≡ refusal (lentJudged binary64 c (now (pos .entry)) (now (vel .entry)) (now (rows .entry)) horizon dim from room) ⌝ }
 {
-    if dim as usize != c.dim {
-        return Refusal::WIDTH;
-    }
     let count = entries(c.brake, from);
-    if too_short(c.pos_dim, pos.len(), vel.len(), count, room) {
-        return Refusal::SHORT;
-    }
-    if fmath::some_not_finite(pos, vel, rows) {
-        return Refusal::NOT_FINITE;
-    }
-    0
+    let short = too_short(c.pos_dim, pos.len(), vel.len(), count, room);
+    let unfit = fmath::some_not_finite(pos, vel, rows);
+    let numbers = Refusal::when(Refusal::NOT_FINITE, unfit, 0);
+    let lengths = Refusal::when(Refusal::SHORT, short, numbers);
+    Refusal::when(Refusal::WIDTH, dim as usize != c.dim, lengths)
 }
 
 // The number before anything is computed: the configuration's own, then the sizes', then that of what is lent; 0 where there is none.
@@ -260,14 +255,9 @@ fn forecast_refusal(
 ) -> u8
     ensures { λ r. ⌜ ((t : Tables) → number ≡ refusal (configJudged binary64 c t) → r ≡ refusal (configJudged binary64 c t ++ (chunkReasons horizon dim «exec_steps» (length (now (rows .entry))) ++ lentJudged binary64 c (now (pos .entry)) (now (vel .entry)) (now (rows .entry)) horizon dim from room))) ⌝ }
 {
-    if number != 0 {
-        return number;
-    }
     let sizes = chunk::chunk_refusal(horizon, dim, exec_steps, rows.len());
-    if sizes != 0 {
-        return sizes;
-    }
-    lent_refusal(c, pos, vel, rows, horizon, dim, from, room)
+    let lent = lent_refusal(c, pos, vel, rows, horizon, dim, from, room);
+    Refusal::or_later(number, Refusal::or_later(sizes, lent))
 }
 
 // Whether the arm can still stop inside its walls: from row `from` through the committed rows and the braking after them. The slack
@@ -414,16 +404,9 @@ fn hold_row(kind: ActionKind, w: Workspace, pos: &[f64], n: usize) -> Row
 fn row_refusal(c: FuseConfig, number: u8, unfit: bool, room: usize) -> u8
     ensures { λ r. ⌜ ((t : Tables) → number ≡ refusal (configJudged binary64 c t) → r ≡ refusal (configJudged binary64 c t ++ rowLent c unfit room)) ⌝ }
 {
-    if number != 0 {
-        return number;
-    }
-    if room < c.dim {
-        return Refusal::SHORT;
-    }
-    if unfit {
-        return Refusal::NOT_FINITE;
-    }
-    0
+    let numbers = Refusal::when(Refusal::NOT_FINITE, unfit, 0);
+    let lent = Refusal::when(Refusal::SHORT, room < c.dim, numbers);
+    Refusal::or_later(number, lent)
 }
 
 // The row that brakes, written over the output's first dim numbers. A refusal, by the first number of the order that applies, writes nothing.

@@ -157,13 +157,13 @@ pub check-action-exactly :
     (c : FuseConfig) (tabs : Tables) (p aux prev a : List Float) (room : ℕ)
     → Exactly (checkNumber (actionAnswer binary64 c tabs p aux prev a room)) (among (configJudged binary64 c tabs ++ lentToAction c p aux prev a room ((computed when not (actionRuling binary64 c p aux prev a .sound)) ∷ [])))
 unfolding actionAnswer actionRefusal
-check-action-exactly c tabs p aux prev a room = exactly _ (check-told _ _)
+check-action-exactly c tabs p aux prev a room = exactly _ (check-told _ (actionRuling binary64 c p aux prev a .value))
 
 pub check-chunk-exactly :
     (c : FuseConfig) (tabs : Tables) (p aux rows : List Float) (h d e room : ℕ)
     → Exactly (checkNumber (chunkAnswer binary64 c tabs p aux rows h d e room)) (among (configJudged binary64 c tabs ++ (chunkReasons h d e (length rows) ++ lentToChunk c p aux rows h d room ((computed when not (chunkRuling binary64 c p aux rows h .sound)) ∷ []))))
 unfolding chunkAnswer chunkRefusal
-check-chunk-exactly c tabs p aux rows h d e room = exactly _ (check-told _ _)
+check-chunk-exactly c tabs p aux rows h d e room = exactly _ (check-told _ (chunkRuling binary64 c p aux rows h .value))
 
 -- ---- tier1 (R6)
 

@@ -78,6 +78,7 @@ use Rattle.conformal.proofs.time_bin.Reads as time-bin
 use Rattle.bits.proofs.weight.Reads as weight
 use Rattle.refusal.proofs.Refusal.of.Reads as refusal-of
 use Rattle.refusal.proofs.Refusal.when.Reads as refusal-when
+use Rattle.refusal.proofs.Refusal.or_later.Reads as refusal-or-later
 use Rattle.refusal.proofs.Refusal.earlier.Reads as refusal-earlier
 use Rattle.words.proofs.pair.Reads as pair
 use Rattle.words.proofs.word.Reads as word
@@ -385,6 +386,9 @@ one-refusal-of l a r s x y = unique
 
 pub one-refusal-when : One refusal-when.Post (λ r x. r)
 one-refusal-when l a r s x y = unique
+
+pub one-refusal-or-later : One refusal-or-later.Post (λ r x. r)
+one-refusal-or-later l a r s x y = unique
 
 pub one-refusal-earlier : One refusal-earlier.Post (λ r x. r)
 one-refusal-earlier l a r s x y = unique

@@ -31,7 +31,7 @@ use Rattle.tier1.specs.Refusals.{stateJudged}
 use Rattle.tier1.specs.Of.{Tick, featuredAt, ticked, featuresRefusal, featuresOf, clearedAt, resetOf}
 use Rattle.course.specs.Forecast.{Forecast, placeOf, marginOf, feasibleOf, writtenOf}
 use Rattle.brake.specs.declared.BrakeOut.the-variants as out
-use Rattle.brake.specs.Answer.{outcome, answerAt, slacksAt, plan, forecastRefusal, forecastAnswer, forecastSlacks, sentAt, rowAt, brakeSent, brakeRefusal, brakeAnswer, brakeOutput, holdRefusal, holdAnswer, holdOutput}
+use Rattle.brake.specs.Answer.{outcome, answerAt, slacksAt, plan, forecastRefusal, forecastAnswer, forecastSlacks, sentAt, rowAt, brakeSent, brakeRefusal, brakeAnswer, brakeOutput, holdSent, holdRefusal, holdAnswer, holdOutput}
 use Rattle.lictor.specs.Answer.{checkNumber, forecastNumber, sentNumber}
 use Rattle.promises.specs.Refused.{Refuses, RefusalChangesNothing}
 
@@ -111,7 +111,7 @@ brake-kept c tabs p v l = row-kept (brakeRefusal binary64 c tabs p v (length l))
 
 hold-kept : (c : FuseConfig) (tabs : Tables) (p l : List Float) → Refuses (sentNumber (holdAnswer binary64 c tabs p (length l))) → holdOutput binary64 c tabs p l ≡ l
 unfolding holdAnswer holdOutput
-hold-kept c tabs p l = row-kept (holdRefusal binary64 c tabs p (length l)) _ (c .dim) l
+hold-kept c tabs p l = row-kept (holdRefusal binary64 c tabs p (length l)) (holdSent binary64 c p .value) (c .dim) l
 
 -- ---- a forecast: what it comes to is accepted or 13
 

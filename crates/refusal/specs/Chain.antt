@@ -1,10 +1,12 @@
 -- What is judged in the order of the list: its first reason that applies. So a list of two parts is refused by the first part, and by the second where
 -- the first passes. For a list whose reasons stand in order `refusal` computes to `chain`.
 use Prim.Native.Nat.{ℕ}
-use mathlib.Core.Path.{_≡_, refl, sym}
+use mathlib.Core.Path.{_≡_, refl, sym, _∙_}
 use mathlib.Core.Bool.{Bool, true, false}
 use mathlib.Core.List.{List, [], _∷_, _++_}
-use Rattle.refusal.specs.Order.{Reason, Judged, numberOf, _when_}
+use borrow.Author.Tests.{eqb-true, eqb-false}
+use lib.Dec.{eqb}
+use Rattle.refusal.specs.Order.{Reason, Judged, numberOf, _when_, orLater}
 use Rattle.bits.specs.Choice.{if_then_else_}
 use Rattle.refusal.specs.Exactly.{not-zero}
 
@@ -21,6 +23,14 @@ pub first-passes : (l m : List Judged) → chain l ≡ 0 → chain (l ++ m) ≡ 
 first-passes [] m h = refl
 first-passes ((r when true) ∷ l) m h = absurd (not-zero r (sym h))
 first-passes ((r when false) ∷ l) m h = first-passes l m h
+
+-- the number for two parts, from the number for each
+pub joined : (l m : List Judged) {a b r : ℕ} → a ≡ chain l → b ≡ chain m → r ≡ orLater a b → r ≡ chain (l ++ m)
+joined l m {a} {b} {r} ea eb er = go (eqb a 0) refl
+  where
+    go : (none : Bool) → eqb a 0 ≡ none → r ≡ chain (l ++ m)
+    go true z = er ∙ rw (z, eb, first-passes l m (sym ea ∙ eqb-true a 0 z))
+    go false z = er ∙ rw (z, ea, first-refuses l m (λ y. eqb-false a 0 z (ea ∙ y)))
 
 pub both-pass : (l m : List Judged) → chain (l ++ m) ≡ 0 → (chain l ≡ 0) × (chain m ≡ 0)
 both-pass [] m h = (refl, h)

@@ -1,5 +1,5 @@
 -- The refusals of the table (R0): their numbers, the order in which they are judged, and the answer, the first that applies.
-use Prim.Native.Nat.{ℕ}
+use Prim.Native.Nat.{ℕ, zero, suc}
 use mathlib.Core.Bool.{Bool, false, _||_}
 use mathlib.Core.List.{List, [], _∷_}
 use lib.Dec.{eqb}
@@ -70,6 +70,20 @@ named n k = eqb n (numberOf k)
 abbrev pub earlier : ℕ → ℕ → ℕ
 earlier a b = given (named a or named b)
 
+-- the number of a part that refuses, else that of the parts judged after it
+abbrev pub orLater : ℕ → ℕ → ℕ
+orLater n later = if eqb n 0 then later else n
+
 -- a refusal without a place
 abbrev pub refusedFor : ℕ → Refusal
 refusedFor n = record { number = n; place = 0 }
+
+-- what an entry answers by the number of its refusal: the refusal, and its own answer where the number is 0
+abbrev pub answerBy : {A : Type 0} → (Refusal → A) → A → ℕ → A
+answerBy refused answer zero = answer
+answerBy refused answer (suc n) = refused (refusedFor (suc n))
+
+-- what it then leaves of what was lent: all as it was, and what it writes where the number is 0
+abbrev pub leftBy : {A : Type 0} → A → A → ℕ → A
+leftBy was written zero = written
+leftBy was written (suc n) = was

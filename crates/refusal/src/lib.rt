@@ -1,7 +1,7 @@
 // Why a call is refused: a number of the table (R0) and, for a computed number that isn't finite, its place.
 ghost use mathlib.Core.Path.{_≡_};
 ghost use Rattle.bits.specs.Choice.{if_then_else_};
-ghost use Rattle.refusal.specs.Order.{earlier, refusedFor};
+ghost use Rattle.refusal.specs.Order.{earlier, orLater, refusedFor};
 
 pub struct Refusal {
     pub number: u8,
@@ -49,6 +49,13 @@ impl Refusal {
         ensures { λ r. ⌜ r ≡ (if applies then number else later) ⌝ }
     {
         if applies { number } else { later }
+    }
+
+    // The number of a part that refuses, else that of the parts judged after it.
+    pub fn or_later(number: u8, later: u8) -> u8
+        ensures { λ r. ⌜ r ≡ orLater number later ⌝ }
+    {
+        if number == 0 { later } else { number }
     }
 
     // Of two numbers the one that is judged first, where 0 and what is no number of the table count as none.

@@ -43,16 +43,10 @@ pub(crate) fn action_refusal(
 ) -> u8
     ensures { λ r. ⌜ ((t : Tables) → number ≡ refusal (configJudged binary64 c t) → r ≡ refusal (configJudged binary64 c t ++ lentToAction c (now (pos .entry)) (now (aux .entry)) (now (prev .entry)) (now (a .entry)) room [])) ⌝ }
 {
-    if number != 0 {
-        return number;
-    }
-    if too_short(c.dim, c.pos_dim, pos.len(), prev.len(), a.len(), room) {
-        return Refusal::SHORT;
-    }
-    if not_finite(pos, aux, prev, a) {
-        return Refusal::NOT_FINITE;
-    }
-    0
+    let short = too_short(c.dim, c.pos_dim, pos.len(), prev.len(), a.len(), room);
+    let unfit = not_finite(pos, aux, prev, a);
+    let numbers = Refusal::when(Refusal::NOT_FINITE, unfit, 0);
+    Refusal::or_later(number, Refusal::when(Refusal::SHORT, short, numbers))
 }
 
 // Whether the position is shorter than pos_dim, or the output than the chunk.
@@ -62,7 +56,7 @@ fn chunk_too_short(pos_dim: usize, pos: usize, size: usize, room: usize) -> bool
     (pos < pos_dim) | (room < size)
 }
 
-// The number for what is lent with a chunk whose configuration and sizes are accepted: 10, then 11, then 12.
+// The number for what is lent with a chunk: 10, then 11, then 12.
 fn rows_refusal(
     c: FuseConfig,
     pos: &[f64],
@@ -76,16 +70,11 @@ fn rows_refusal(
 {
     let h = horizon as usize;
     let d = dim as usize;
-    if d != c.dim {
-        return Refusal::WIDTH;
-    }
-    if chunk_too_short(c.pos_dim, pos.len(), h * d, room) {
-        return Refusal::SHORT;
-    }
-    if fmath::some_not_finite(pos, aux, rows) {
-        return Refusal::NOT_FINITE;
-    }
-    0
+    let short = chunk_too_short(c.pos_dim, pos.len(), h * d, room);
+    let unfit = fmath::some_not_finite(pos, aux, rows);
+    let numbers = Refusal::when(Refusal::NOT_FINITE, unfit, 0);
+    let lengths = Refusal::when(Refusal::SHORT, short, numbers);
+    Refusal::when(Refusal::WIDTH, d != c.dim, lengths)
 }
 
 // The number for a chunk: the configuration's own, then the sizes', then what is lent; 0 where there is none.
@@ -102,12 +91,7 @@ pub(crate) fn chunk_refusal(
 ) -> u8
     ensures { λ r. ⌜ ((t : Tables) → number ≡ refusal (configJudged binary64 c t) → r ≡ refusal (configJudged binary64 c t ++ (chunkReasons horizon dim «exec_steps» (length (now (rows .entry))) ++ lentToChunk c (now (pos .entry)) (now (aux .entry)) (now (rows .entry)) horizon dim room []))) ⌝ }
 {
-    if number != 0 {
-        return number;
-    }
     let sizes = chunk::chunk_refusal(horizon, dim, exec_steps, rows.len());
-    if sizes != 0 {
-        return sizes;
-    }
-    rows_refusal(c, pos, aux, rows, horizon, dim, room)
+    let lent = rows_refusal(c, pos, aux, rows, horizon, dim, room);
+    Refusal::or_later(number, Refusal::or_later(sizes, lent))
 }

@@ -1,21 +1,32 @@
--- `brake::row_refusal` meets its contract, by the tests that led to each answer.
-use Rattle.brake.proofs.Sending.{by-config, by-11, by-12, by-none}
+-- `brake::row_refusal` meets its contract: the configuration's number, then that of what is lent.
+use mathlib.Core.Path.{_∙_}
 use lib.Ieee.{binary64}
+use borrow.Author.Needs.{needs}
+use Rattle.refusal.specs.Chain.{joined}
+use Rattle.envelope.specs.Refusals.{configJudged}
+use Rattle.brake.specs.Answer.{rowLent}
 use Rattle.brake.proofs.row_refusal.Statement.{statement}
 use Rattle.brake.proofs.row_refusal.Tie as tie
 
+when-requires : tie.Need-when-requires
+when-requires c κs = search needs
+
+when-requires-2 : tie.Need-when-requires-2
+when-requires-2 c κs = search needs
+
+or-later-requires : tie.Need-or-later-requires
+or-later-requires c κs = search needs
+
 returns : tie.Need-returns
-returns c t e = let g = c .before .args in by-config binary64 (g .c) t (g .unfit) (g .room) e (c .if1 .taken)
-
-returns-2 : tie.Need-returns-2
-returns-2 c t e = let g = c .before .before .before .args in by-11 binary64 (g .c) t (g .unfit) (g .room) e (c .before .before .if1 .left) (c .if2 .taken)
-
-returns-3 : tie.Need-returns-3
-returns-3 c t e = let g = c .before .before .before .before .args in by-12 binary64 (g .c) t (g .unfit) (g .room) e (c .before .before .before .if1 .left) (c .before .if2 .left) (c .if3 .taken)
-
-returns-4 : tie.Need-returns-4
-returns-4 c t e = let g = c .before .before .before .before .args in by-none binary64 (g .c) t (g .unfit) (g .room) e (c .before .before .before .if1 .left) (c .before .if2 .left) (c .if3 .left)
+returns c t e =
+    let g = c .before .before .before .before .args in
+    joined (configJudged binary64 (g .c) t) (rowLent (g .c) (g .unfit) (g .room)) e (c .before .when2 .ensures ∙ rw (c .before .before .before .when .ensures)) (c .or-later .ensures)
 
 pub row-refusal-spec : {M : Type 1} → statement M
 row-refusal-spec =
-    tie.close (tie.spec returns returns-2 returns-3 returns-4)
+    tie.close
+    (tie.spec
+    when-requires
+    when-requires-2
+    or-later-requires
+    returns)

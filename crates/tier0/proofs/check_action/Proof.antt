@@ -21,7 +21,7 @@ of-requires : tie.Need-of-requires
 of-requires c κs = search needs
 
 returns : tie.Need-returns
-returns c = let g = c .before .before .before .before .before .before .before .before .before .args in let w = lent-refused binary64 (g .c) (tables (now (g .center)) (now (g .scale))) (now (g .pos)) (now (g .aux)) (now (g .prev)) (now (g .a)) (now (g .out)) _ (c .before .before .action-refusal .ensures _ (compiled-number (c .before .before .before .compile .ensures))) (c .before .if1 .taken) (c .of .ensures) in (w .gives, w .leaves)
+returns c = let g = c .before .before .before .before .before .before .before .before .before .args in lent-refused binary64 (g .c) (tables (now (g .center)) (now (g .scale))) (now (g .pos)) (now (g .aux)) (now (g .prev)) (now (g .a)) (now (g .out)) _ (c .before .before .action-refusal .ensures _ (compiled-number (c .before .before .before .compile .ensures))) (c .before .if1 .taken) (c .of .ensures)
 
 checks-of-requires : tie.Need-checks-of-requires
 checks-of-requires c κs = search needs
@@ -33,7 +33,7 @@ of-requires-2 : tie.Need-of-requires-2
 of-requires-2 c κs = search needs
 
 returns-2 : tie.Need-returns-2
-returns-2 c = let g = c .before .before .before .before .before .before .before .before .before .before .before .before .before .args in let w = not-sound binary64 (g .c) (tables (now (g .center)) (now (g .scale))) (now (g .pos)) (now (g .aux)) (now (g .prev)) (now (g .a)) (now (g .out)) (sym (c .before .before .before .before .before .before .action-refusal .ensures _ (compiled-number (c .before .before .before .before .before .before .before .compile .ensures))) ∙ c .before .before .before .before .before .if1 .left) (checks-are binary64 (g .c) (c .before .before .before .before .checks-of .ensures) (compiled-derived (c .before .before .before .before .before .before .before .compile .ensures))) (c .before .before .before .judge-action .ensures) (not-true _ (c .before .if2 .taken)) (c .of2 .ensures) in (w .gives, w .leaves)
+returns-2 c = let g = c .before .before .before .before .before .before .before .before .before .before .before .before .before .args in not-sound binary64 (g .c) (tables (now (g .center)) (now (g .scale))) (now (g .pos)) (now (g .aux)) (now (g .prev)) (now (g .a)) (now (g .out)) (sym (c .before .before .before .before .before .before .action-refusal .ensures _ (compiled-number (c .before .before .before .before .before .before .before .compile .ensures))) ∙ c .before .before .before .before .before .if1 .left) (checks-are binary64 (g .c) (c .before .before .before .before .checks-of .ensures) (compiled-derived (c .before .before .before .before .before .before .before .compile .ensures))) (c .before .before .before .judge-action .ensures) (not-true _ (c .before .if2 .taken)) (c .of2 .ensures)
 
 slice-aggregate-put : tie.Need-slice-aggregate-put
 slice-aggregate-put c = let ok = c .before .before .before .before .judge-action .ok in search needs
@@ -48,7 +48,7 @@ same-length : tie.Need-same-length
 same-length c = search needs
 
 returns-3 : tie.Need-returns-3
-returns-3 c = let g = c .before .before .before .before .before .before .before .before .before .before .before .before .before .before .before .before .before .before .before .args in let w = passes binary64 (g .c) (tables (now (g .center)) (now (g .scale))) (now (g .pos)) (now (g .aux)) (now (g .prev)) (now (g .a)) (now (g .out)) (sym (c .before .before .before .before .before .before .before .before .before .before .before .before .action-refusal .ensures _ (compiled-number (c .before .before .before .before .before .before .before .before .before .before .before .before .before .compile .ensures))) ∙ c .before .before .before .before .before .before .before .before .before .before .before .if1 .left) (checks-are binary64 (g .c) (c .before .before .before .before .before .before .before .before .before .before .checks-of .ensures) (compiled-derived (c .before .before .before .before .before .before .before .before .before .before .before .before .before .compile .ensures))) (c .before .before .before .before .before .before .before .before .before .judge-action .ensures) (not-false _ (c .before .before .before .before .before .before .before .if2 .left)) (c .before .before .before .put .ensures) (le-of-eq (slice-aggregate-put (c .before .before .before .before .before))) in (c .found .ensures ∙ w .gives, w .leaves)
+returns-3 c = let g = c .before .before .before .before .before .before .before .before .before .before .before .before .before .before .before .before .before .before .before .args in let w = passes binary64 (g .c) (tables (now (g .center)) (now (g .scale))) (now (g .pos)) (now (g .aux)) (now (g .prev)) (now (g .a)) (now (g .out)) (sym (c .before .before .before .before .before .before .before .before .before .before .before .before .action-refusal .ensures _ (compiled-number (c .before .before .before .before .before .before .before .before .before .before .before .before .before .compile .ensures))) ∙ c .before .before .before .before .before .before .before .before .before .before .before .if1 .left) (checks-are binary64 (g .c) (c .before .before .before .before .before .before .before .before .before .before .checks-of .ensures) (compiled-derived (c .before .before .before .before .before .before .before .before .before .before .before .before .before .compile .ensures))) (c .before .before .before .before .before .before .before .before .before .judge-action .ensures) (not-false _ (c .before .before .before .before .before .before .before .if2 .left)) (c .before .before .before .put .ensures) (le-of-eq (slice-aggregate-put (c .before .before .before .before .before))) in (c .found .ensures ∙ w .0, w .1)
 
 pub check-action-spec : {M : Type 1} → statement M
 check-action-spec = tie.close (tie.spec compile-requires action-refusal-requires of-requires returns checks-of-requires judge-action-requires of-requires-2 returns-2 slice-aggregate-put put-requires found-requires same-length returns-3)
