@@ -7,6 +7,7 @@ use native.Mathlib.Omega.{arith}
 use types.Run.{OneOf}
 use denote.Enum.Declared.{tagOf}
 use lib.Ieee.{Float, Format}
+use Rattle.chunk.specs.declared.Header.{Header}
 use Rattle.envelope.specs.declared.BrakeKind.{BrakeKind}
 use Rattle.envelope.specs.declared.BrakeKind.the-variants.{PdSecondOrder, FirstOrderDecay, BoundedAccel, JerkLimited, ZeroVelocityHold}
 use Rattle.envelope.specs.declared.BrakeModel.{BrakeModel}
@@ -40,8 +41,8 @@ other-count b from (BoundedAccel kp kv dt) h = refl
 other-count b from (JerkLimited kp kv dt) h = refl
 other-count b from (ZeroVelocityHold kp kv dt) h = refl
 
-module _ (f : Format) (c : FuseConfig) (p v rows : List Float) (h d from : ℕ) where
-  pub other-forecast : (k : BrakeKind) → Other k → forecastBy f c p v rows h d from k ≡ stopping.forecast f (closed f c p v rows h d from)
+module _ (f : Format) (c : FuseConfig) (p v rows : List Float) (head : Header) (from : ℕ) where
+  pub other-forecast : (k : BrakeKind) → Other k → forecastBy f c p v rows head from k ≡ stopping.forecast f (closed f c p v rows head from)
   unfolding forecastBy
   other-forecast (PdSecondOrder kp kv dt) o = absurd (no-tag o)
   other-forecast (FirstOrderDecay kp kv dt) o = refl
@@ -50,7 +51,7 @@ module _ (f : Format) (c : FuseConfig) (p v rows : List Float) (h d from : ℕ) 
   other-forecast (ZeroVelocityHold kp kv dt) o = refl
 
   -- the number of entries that is judged is the forecast's
-  pub count-is : (k : BrakeKind) → forecastBy f c p v rows h d from k .count ≡ countFor (c .brake) k from
+  pub count-is : (k : BrakeKind) → forecastBy f c p v rows head from k .count ≡ countFor (c .brake) k from
   unfolding forecastBy
   count-is (PdSecondOrder kp kv dt) = refl
   count-is (FirstOrderDecay kp kv dt) = refl
@@ -59,12 +60,12 @@ module _ (f : Format) (c : FuseConfig) (p v rows : List Float) (h d from : ℕ) 
   count-is (ZeroVelocityHold kp kv dt) = refl
 
 -- the forecast of what the code builds is the configuration's
-module _ (f : Format) (c : FuseConfig) (p v rows : List Float) (h d from : ℕ) {w : Workspace} {course : Course} {start : Plant} (ew : w ≡ workspaceFor f c) (ec : course ≡ courseFor c h d from) (es : start ≡ startFor c p v) where
+module _ (f : Format) (c : FuseConfig) (p v rows : List Float) (head : Header) (from : ℕ) {w : Workspace} {course : Course} {start : Plant} (ew : w ≡ workspaceFor f c) (ec : course ≡ courseFor c head from) (es : start ≡ startFor c p v) where
   pub second-order-is : (kp kv dt : Float) → c .brake .kind ≡ PdSecondOrder kp kv dt
-      → rollout.forecast f (rolled.taskOf (record { «k_p» = kp; «k_v» = kv; dt = dt }) w course start rows) ≡ forecastOf f c p v rows h d from
+      → rollout.forecast f (rolled.taskOf (record { «k_p» = kp; «k_v» = kv; dt = dt }) w course start rows) ≡ forecastOf f c p v rows head from
   unfolding forecastBy
   second-order-is kp kv dt e = rw (ew, ec, es, e)
 
   pub closed-is : {arm : Arm} → arm ≡ armOf c → Other (c .brake .kind)
-      → stopping.forecast f (stopped.taskOf arm (c .brake .«react_ticks») w course start rows) ≡ forecastOf f c p v rows h d from
-  closed-is ea o = rw (ew, ec, es, ea) (sym (other-forecast f c p v rows h d from (c .brake .kind) o))
+      → stopping.forecast f (stopped.taskOf arm (c .brake .«react_ticks») w course start rows) ≡ forecastOf f c p v rows head from
+  closed-is ea o = rw (ew, ec, es, ea) (sym (other-forecast f c p v rows head from (c .brake .kind) o))

@@ -10,6 +10,7 @@ use lib.Ieee.{Float, Format}
 use Rattle.refusal.specs.Order.{refusal}
 use Rattle.checked.specs.Each.{at, all}
 use Rattle.chunk.specs.Refusals.{chunkReasons}
+use Rattle.chunk.specs.declared.Header.{Header}
 use Rattle.conformal.specs.Rule.{Tables}
 use Rattle.envelope.specs.Refusals.{configJudged}
 use Rattle.envelope.specs.declared.BrakeKind.the-variants.{PdSecondOrder}
@@ -25,23 +26,23 @@ use Rattle.brake.proofs.Judged.{foreseen}
 
 -- ---- the forecast
 
-module _ (f : Format) (c : FuseConfig) (tabs : Tables) (p v rows : List Float) (h d e from : ℕ) (l : List Float)
-    (free : refusal (configJudged f c tabs ++ (chunkReasons h d e (length rows) ++ lentJudged f c p v rows h d from (length l))) ≡ 0) where
+module _ (f : Format) (c : FuseConfig) (tabs : Tables) (p v rows : List Float) (head : Header) (from : ℕ) (l : List Float)
+    (free : refusal (configJudged f c tabs ++ (chunkReasons head (length rows) ++ lentJudged f c p v rows head from (length l))) ≡ 0) where
   abbrev t : Forecast
-  t = plan f c p v rows h d from
+  t = plan f c p v rows head from
 
   abbrev answer : BrakeOut
-  answer = forecastAnswer f c tabs p v rows h d e from (length l)
+  answer = forecastAnswer f c tabs p v rows head from (length l)
 
   abbrev slacks : List Float
-  slacks = forecastSlacks f c tabs p v rows h d e from l
+  slacks = forecastSlacks f c tabs p v rows head from l
 
   -- where no refusal but 13 stops the call, the answer is what the forecast comes to
   pub answer-is : answer ≡ outcome t
-  answer-is = sym (foreseen f c tabs p v rows h d e from l free refl refl .gives)
+  answer-is = sym (foreseen f c tabs p v rows head from l free refl refl .gives)
 
   pub slacks-are : slacks ≡ writtenOf t l
-  slacks-are = sym (foreseen f c tabs p v rows h d e from l free refl refl .leaves)
+  slacks-are = sym (foreseen f c tabs p v rows head from l free refl refl .leaves)
 
   -- if every computed number is finite, the count, the margin, the flag and the stop distance are the forecast's ..
   pub accepted-answer : Whole t → t .stop .sound ≡ true → answer ≡ out.Accepted (t .count) (marginOf t) (feasibleOf t) (t .stop .value)
@@ -74,10 +75,10 @@ module _ (f : Format) (c : FuseConfig) (tabs : Tables) (p v rows : List Float) (
 
 -- for the second-order brake the forecast is that of `rollout`, whose promises say what N is, what each entry is, when it is feasible, and that the
 -- shorter of two lists begins the longer
-module _ (f : Format) (c : FuseConfig) (p v rows : List Float) (h d from : ℕ) (kp kv dt : Float) (is : c .brake .kind ≡ PdSecondOrder kp kv dt) where
-  pub second-order-plan : plan f c p v rows h d from ≡ forecast f (secondOrder f c p v rows h d from (record { kp = kp; kv = kv; dt = dt }))
+module _ (f : Format) (c : FuseConfig) (p v rows : List Float) (head : Header) (from : ℕ) (kp kv dt : Float) (is : c .brake .kind ≡ PdSecondOrder kp kv dt) where
+  pub second-order-plan : plan f c p v rows head from ≡ forecast f (secondOrder f c p v rows head from (record { kp = kp; kv = kv; dt = dt }))
   unfolding forecastBy
   second-order-plan = rw is
 
-  pub count-is-N : plan f c p v rows h d from .count ≡ (c .brake .commit .0 - from + c .brake .«brake_steps» .0) * c .brake .substeps .0
+  pub count-is-N : plan f c p v rows head from .count ≡ (c .brake .commit .0 - from + c .brake .«brake_steps» .0) * c .brake .substeps .0
   count-is-N = ap (λ (t : Forecast). t .count) second-order-plan

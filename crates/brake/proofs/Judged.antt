@@ -17,6 +17,7 @@ use Rattle.fmath.specs.Answer.{someLentNotFinite}
 use Rattle.checked.proofs.Each.{neither}
 use Rattle.chunk.specs.Refusals.{chunkReasons}
 use Rattle.chunk.proofs.Judged.{sizes-accepted}
+use Rattle.chunk.specs.declared.Header.{Header}
 use Rattle.conformal.specs.Rule.{Tables}
 use Rattle.envelope.specs.Refusals.{configJudged}
 use Rattle.envelope.specs.declared.BrakeKind.{BrakeKind}
@@ -43,9 +44,9 @@ never k ((r when true) ∷ l) z a e = eqb-false (numberOf r) k (neither (eqb (nu
 never k ((r when false) ∷ l) z a e = never k l z (neither (eqb (numberOf r) k) (listed k l) a .1) e
 
 -- the whole answer
-pub record Answered (f : Format) (c : FuseConfig) (tabs : Tables) (p v rows : List Float) (h d e from : ℕ) (l : List Float) (r : BrakeOut) (m : List Float) : Type 0 where
-  pub gives : r ≡ forecastAnswer f c tabs p v rows h d e from (length l)
-  pub leaves : m ≡ forecastSlacks f c tabs p v rows h d e from l
+pub record Answered (f : Format) (c : FuseConfig) (tabs : Tables) (p v rows : List Float) (k : Header) (from : ℕ) (l : List Float) (r : BrakeOut) (m : List Float) : Type 0 where
+  pub gives : r ≡ forecastAnswer f c tabs p v rows k from (length l)
+  pub leaves : m ≡ forecastSlacks f c tabs p v rows k from l
 
 -- at most 4,096 entries
 few-entries : (f : Format) (c : FuseConfig) (tabs : Tables) (from : ℕ) (k : BrakeKind) → Fit f c tabs → countFor (c .brake) k from ≤ 4096
@@ -60,85 +61,85 @@ few-entries f c tabs from (ZeroVelocityHold kp kv dt) w = let b = commit-most f 
 
 -- ---- the number of what is lent
 
-module _ (f : Format) (c : FuseConfig) (p v rows : List Float) (h d from room : ℕ) where
+module _ (f : Format) (c : FuseConfig) (p v rows : List Float) (k : Header) (from room : ℕ) where
   abbrev brief : Bool
-  brief = tooShort (c .«pos_dim») (length p) (length v) (plan f c p v rows h d from .count) room
+  brief = tooShort (c .«pos_dim») (length p) (length v) (plan f c p v rows k from .count) room
 
   abbrev unfit : Bool
   unfit = someLentNotFinite (p ∷ v ∷ rows ∷ [])
 
   abbrev lent : List Judged
-  lent = lentJudged f c p v rows h d from room
+  lent = lentJudged f c p v rows k from room
 
   -- the tests that are made are the ones that are judged
   pub brief-is : {s : Bool} {n : ℕ} → s ≡ tooShort (c .«pos_dim») (length p) (length v) n room → n ≡ countFor (c .brake) (c .brake .kind) from → s ≡ brief
-  brief-is g y = g ∙ ap (λ (n : ℕ). tooShort (c .«pos_dim») (length p) (length v) n room) (y ∙ sym (count-is f c p v rows h d from (c .brake .kind)))
+  brief-is g y = g ∙ ap (λ (n : ℕ). tooShort (c .«pos_dim») (length p) (length v) n room) (y ∙ sym (count-is f c p v rows k from (c .brake .kind)))
 
   enough : brief ≡ false → countFor (c .brake) (c .brake .kind) from ≤ room
   unfolding tooShort
   enough g =
-      let k = plan f c p v rows h d from .count in
-      let b : k ≤ room = ltb-false room k (neither (ltb (length p) (c .«pos_dim») || ltb (length v) (c .«pos_dim»)) (ltb room k) g .1) in
-      rw (← count-is f c p v rows h d from (c .brake .kind)) b
+      let n = plan f c p v rows k from .count in
+      let b : n ≤ room = ltb-false room n (neither (ltb (length p) (c .«pos_dim») || ltb (length v) (c .«pos_dim»)) (ltb room n) g .1) in
+      rw (← count-is f c p v rows k from (c .brake .kind)) b
 
 -- ---- the number, and the answer
 
-module _ (f : Format) (c : FuseConfig) (tabs : Tables) (p v rows : List Float) (h d e from : ℕ) where
+module _ (f : Format) (c : FuseConfig) (tabs : Tables) (p v rows : List Float) (k : Header) (from : ℕ) where
   abbrev sizes : List Judged
-  sizes = chunkReasons h d e (length rows)
+  sizes = chunkReasons k (length rows)
 
   module _ (room : ℕ) where
     abbrev later : List Judged
-    later = lent f c p v rows h d from room
+    later = lent f c p v rows k from room
 
     -- what is judged before anything is computed, and its number from that of each part
     abbrev before : List Judged
     before = configJudged f c tabs ++ (sizes ++ later)
 
-    pub before-is : {k s q i r : ℕ} → k ≡ refusal (configJudged f c tabs) → s ≡ refusal sizes → q ≡ refusal later → i ≡ orLater s q → r ≡ orLater k i → r ≡ refusal before
-    before-is ek es eq ei er = joined (configJudged f c tabs) (sizes ++ later) ek (joined sizes later es eq ei) er
+    pub before-is : {n s q i r : ℕ} → n ≡ refusal (configJudged f c tabs) → s ≡ refusal sizes → q ≡ refusal later → i ≡ orLater s q → r ≡ orLater n i → r ≡ refusal before
+    before-is en es eq ei er = joined (configJudged f c tabs) (sizes ++ later) en (joined sizes later es eq ei) er
 
     -- what is known where nothing is refused yet
-    pub planned : refusal before ≡ 0 → Planned c (length rows) h d from room
+    pub planned : refusal before ≡ 0 → Planned c (length rows) k from room
     planned z =
         let w = both-pass (configJudged f c tabs) (sizes ++ later) z in
         let x = both-pass sizes later (w .1) in
         let fit = accepted f c tabs (w .0) in
-        let sized = sizes-accepted h d e (length rows) (x .0) in
-        let a = passes-at width (not (eqb d (c .dim))) ((short when brief f c p v rows h d from room) ∷ (notFinite when unfit f c p v rows h d from room) ∷ []) (x .1) in
-        let b = passes-at short (brief f c p v rows h d from room) ((notFinite when unfit f c p v rows h d from room) ∷ []) (a .1) in
+        let sized = sizes-accepted k (length rows) (x .0) in
+        let a = passes-at width (not (eqb (k .dim) (c .dim))) ((short when brief f c p v rows k from room) ∷ (notFinite when unfit f c p v rows k from room) ∷ []) (x .1) in
+        let b = passes-at short (brief f c p v rows k from room) ((notFinite when unfit f c p v rows k from room) ∷ []) (a .1) in
         record {
           narrow = dim-most f c tabs fit;
-          wide = eqb-true d (c .dim) (not-false (eqb d (c .dim)) (a .0));
+          wide = eqb-true (k .dim) (c .dim) (not-false (eqb (k .dim) (c .dim)) (a .0));
           rowed = omega (arith, sized .some-rows);
           there = sized .all-there;
           parted = substeps-least f c tabs fit;
           few = few-entries f c tabs from (c .brake .kind) fit;
-          space = enough f c p v rows h d from room (b .0);
+          space = enough f c p v rows k from room (b .0);
         }
 
   -- what is judged last
   abbrev rest : List Judged
-  rest = (computed when not (eqb (placeOf (plan f c p v rows h d from)) 0)) ∷ []
+  rest = (computed when not (eqb (placeOf (plan f c p v rows k from)) 0)) ∷ []
 
   either : (b : Bool) → (eqb (if b then 13 else 0) 0 || eqb (if b then 13 else 0) 13) ≡ true
   either true = refl
   either false = refl
 
   module _ (l : List Float) where
-    pub refused : {k : ℕ} → k ≡ refusal (before (length l)) → (k ≡ 0 → ⊥) → {r : Refusal} → r ≡ refusedFor k → Answered f c tabs p v rows h d e from l (out.Refused r) l
+    pub refused : {n : ℕ} → n ≡ refusal (before (length l)) → (n ≡ 0 → ⊥) → {r : Refusal} → r ≡ refusedFor n → Answered f c tabs p v rows k from l (out.Refused r) l
     unfolding forecastAnswer forecastSlacks forecastRefusal
-    refused {k} g y i =
+    refused {n} g y i =
         let b = before (length l) in
-        let z : chain (b ++ rest) ≡ k = first-refuses b rest (λ q. y (g ∙ q)) ∙ sym g in
-        let n = ne-eqb k 0 y in
-        let m = ne-eqb k 13 (λ q. never 13 b (λ o. omega arith) refl (sym g ∙ q)) in
-        record { gives = rw (z, n, m, i); leaves = rw (z, n, m) }
+        let z : chain (b ++ rest) ≡ n = first-refuses b rest (λ q. y (g ∙ q)) ∙ sym g in
+        let j = ne-eqb n 0 y in
+        let m = ne-eqb n 13 (λ q. never 13 b (λ o. omega arith) refl (sym g ∙ q)) in
+        record { gives = rw (z, j, m, i); leaves = rw (z, j, m) }
 
-    pub foreseen : refusal (before (length l)) ≡ 0 → {r : BrakeOut} {m : List Float} → r ≡ outcome (plan f c p v rows h d from) → m ≡ writtenOf (plan f c p v rows h d from) l → Answered f c tabs p v rows h d e from l r m
+    pub foreseen : refusal (before (length l)) ≡ 0 → {r : BrakeOut} {m : List Float} → r ≡ outcome (plan f c p v rows k from) → m ≡ writtenOf (plan f c p v rows k from) l → Answered f c tabs p v rows k from l r m
     unfolding forecastAnswer forecastSlacks forecastRefusal
     foreseen z i j =
         let b = before (length l) in
-        let k : chain (b ++ rest) ≡ (if not (eqb (placeOf (plan f c p v rows h d from)) 0) then 13 else 0) = first-passes b rest z in
-        let o = either (not (eqb (placeOf (plan f c p v rows h d from)) 0)) in
-        record { gives = i ∙ rw (k, o); leaves = j ∙ rw (k, o) }
+        let q : chain (b ++ rest) ≡ (if not (eqb (placeOf (plan f c p v rows k from)) 0) then 13 else 0) = first-passes b rest z in
+        let o = either (not (eqb (placeOf (plan f c p v rows k from)) 0)) in
+        record { gives = i ∙ rw (q, o); leaves = j ∙ rw (q, o) }

@@ -50,12 +50,12 @@ feasibleIn (Refused r) = false
 
 module _ (x : Call) where
   abbrev t : Forecast
-  t = plan binary64 (x .config) (x .position) (x .velocity) (x .rows) (x .horizon) (x .dim) (x .from)
+  t = plan binary64 (x .config) (x .position) (x .velocity) (x .rows) (x .header) (x .from)
 
   abbrev before : List Judged
   before =
       configJudged binary64 (x .config) (x .tables)
-      ++ (chunkReasons (x .horizon) (x .dim) (x .exec) (length (x .rows)) ++ lentJudged binary64 (x .config) (x .position) (x .velocity) (x .rows) (x .horizon) (x .dim) (x .from) (length (x .lent)))
+      ++ (chunkReasons (x .header) (length (x .rows)) ++ lentJudged binary64 (x .config) (x .position) (x .velocity) (x .rows) (x .header) (x .from) (length (x .lent)))
 
   -- where no refusal but 13 stops the call, nothing that is judged beforehand refuses it
   free : OnlyThirteen x → refusal before ≡ 0
@@ -64,7 +64,7 @@ module _ (x : Call) where
       go : (b : Bool) → eqb (refusal before) 0 ≡ b → refusal before ≡ 0
       go true e = eqb-true (refusal before) 0 e
       go false e =
-          let a = refused binary64 (x .config) (x .tables) (x .position) (x .velocity) (x .rows) (x .horizon) (x .dim) (x .exec) (x .from) (x .lent) refl (eqb-false (refusal before) 0 e) refl in
+          let a = refused binary64 (x .config) (x .tables) (x .position) (x .velocity) (x .rows) (x .header) (x .from) (x .lent) refl (eqb-false (refusal before) 0 e) refl in
           absurd (never 13 before (λ o. omega arith) refl (only (refusedFor (refusal before)) (sym (a .gives))))
 
 module _ (x : Call) (g : Gains) (is : SecondOrder x g) (only : OnlyThirteen x) where
@@ -75,18 +75,18 @@ module _ (x : Call) (g : Gains) (is : SecondOrder x g) (only : OnlyThirteen x) w
   clear = free x only
 
   plan-is : f ≡ forecast binary64 (task x g)
-  plan-is = second-order-plan binary64 (x .config) (x .position) (x .velocity) (x .rows) (x .horizon) (x .dim) (x .from) (g .kp) (g .kv) (g .dt) is
+  plan-is = second-order-plan binary64 (x .config) (x .position) (x .velocity) (x .rows) (x .header) (x .from) (g .kp) (g .kv) (g .dt) is
 
   is-N : f .count ≡ N x
-  is-N = count-is-N binary64 (x .config) (x .position) (x .velocity) (x .rows) (x .horizon) (x .dim) (x .from) (g .kp) (g .kv) (g .dt) is
+  is-N = count-is-N binary64 (x .config) (x .position) (x .velocity) (x .rows) (x .header) (x .from) (g .kp) (g .kv) (g .dt) is
 
   room : f .count ≤ length (x .lent)
   room =
-      rw (count-is binary64 (x .config) (x .position) (x .velocity) (x .rows) (x .horizon) (x .dim) (x .from) (x .config .brake .kind))
-      (planned binary64 (x .config) (x .tables) (x .position) (x .velocity) (x .rows) (x .horizon) (x .dim) (x .exec) (x .from) (length (x .lent)) clear .space)
+      rw (count-is binary64 (x .config) (x .position) (x .velocity) (x .rows) (x .header) (x .from) (x .config .brake .kind))
+      (planned binary64 (x .config) (x .tables) (x .position) (x .velocity) (x .rows) (x .header) (x .from) (length (x .lent)) clear .space)
 
   entries-are : entries x ≡ writtenOf f (x .lent)
-  entries-are = slacks-are binary64 (x .config) (x .tables) (x .position) (x .velocity) (x .rows) (x .horizon) (x .dim) (x .exec) (x .from) (x .lent) clear
+  entries-are = slacks-are binary64 (x .config) (x .tables) (x .position) (x .velocity) (x .rows) (x .header) (x .from) (x .lent) clear
 
   fine-is : (k : ℕ) → fine f k ≡ finiteIn x g k
   fine-is k = ap (λ (y : Forecast). fine y k) plan-is
@@ -115,7 +115,7 @@ module _ (x : Call) (g : Gains) (is : SecondOrder x g) (only : OnlyThirteen x) w
   wrote-all w = wrote (N x) (whole-leads f w ∙ is-N)
 
   report : Whole f → f .stop .sound ≡ true → answer x ≡ Accepted (f .count) (marginOf f) (feasibleOf f) (f .stop .value)
-  report w s = accepted-answer binary64 (x .config) (x .tables) (x .position) (x .velocity) (x .rows) (x .horizon) (x .dim) (x .exec) (x .from) (x .lent) clear w s
+  report w s = accepted-answer binary64 (x .config) (x .tables) (x .position) (x .velocity) (x .rows) (x .header) (x .from) (x .lent) clear w s
 
   module _ (w : Whole f) where
     entry-at : (k : ℕ) → k < N x → at (entries x) k ≡ slackAt f k
@@ -157,14 +157,14 @@ module _ (x : Call) (g : Gains) (is : SecondOrder x g) (only : OnlyThirteen x) w
     failing = fine-is k ∙ c .there
 
     refuses : RefusedAt x (suc k)
-    refuses = refused-answer binary64 (x .config) (x .tables) (x .position) (x .velocity) (x .rows) (x .horizon) (x .dim) (x .exec) (x .from) (x .lent) clear k counted finite-before failing
+    refuses = refused-answer binary64 (x .config) (x .tables) (x .position) (x .velocity) (x .rows) (x .header) (x .from) (x .lent) clear k counted finite-before failing
 
     wrote-before : Wrote x g k
     wrote-before = wrote k (first-failing-place f k counted finite-before failing .1)
 
   refuses-the-stop : Whole f → stopFinite x g ≡ false → RefusedAt x (suc (N x))
   refuses-the-stop w s =
-      refused-at-the-end binary64 (x .config) (x .tables) (x .position) (x .velocity) (x .rows) (x .horizon) (x .dim) (x .exec) (x .from) (x .lent) clear w (ap (λ (y : Forecast). y .stop .sound) plan-is ∙ s)
+      refused-at-the-end binary64 (x .config) (x .tables) (x .position) (x .velocity) (x .rows) (x .header) (x .from) (x .lent) clear w (ap (λ (y : Forecast). y .stop .sound) plan-is ∙ s)
       ∙ rw is-N
 
   -- ---- a call comes to one of the three

@@ -6,6 +6,7 @@ use native.Mathlib.Omega.{arith}
 use borrow.Author.Tests.{le-leb, lt-ltb}
 use lib.Ieee.{Float}
 use Rattle.checked.specs.Each.{every, every-from}
+use Rattle.chunk.specs.declared.Header.{Header}
 use Rattle.envelope.specs.declared.BrakeKind.{BrakeKind}
 use Rattle.envelope.specs.declared.BrakeKind.the-variants.{PdSecondOrder}
 use Rattle.envelope.specs.declared.FuseConfig.{FuseConfig}
@@ -19,18 +20,18 @@ use Rattle.brake.specs.Rule.{live}
 use Rattle.brake.specs.Of.{courseFor, countFor, Planned}
 use Rattle.brake.proofs.ByKind.{Other, other-count}
 
-module _ (c : FuseConfig) (len h d from room : ℕ) (w : Planned c len h d from room) where
-  shape : shaped (courseFor c h d from) len ≡ true
-  shape = is-shaped (courseFor c h d from) len (record { axes = axes; within = within; rowed = w .rowed; there = w .there })
+module _ (c : FuseConfig) (len : ℕ) (head : Header) (from room : ℕ) (w : Planned c len head from room) where
+  shape : shaped (courseFor c head from) len ≡ true
+  shape = is-shaped (courseFor c head from) len (record { axes = axes; within = within; rowed = w .rowed; there = w .there })
     where
       axes : live c ≤ 8
       axes = omega (arith, w .narrow)
 
-      within : live c ≤ d
+      within : live c ≤ head .dim
       within = omega (arith, w .wide)
 
   pub second-order-room : (kp kv dt : Float) → c .brake .kind ≡ PdSecondOrder kp kv dt
-      → (rolled.roomy (courseFor c h d from) len room ≡ true) × (substepsIn (rowsLeft (c .brake .commit) from) (c .brake .«brake_steps») (c .brake .substeps) ≤ 4096)
+      → (rolled.roomy (courseFor c head from) len room ≡ true) × (substepsIn (rowsLeft (c .brake .commit) from) (c .brake .«brake_steps») (c .brake .substeps) ≤ 4096)
   unfolding rolled.roomy every every-from
   second-order-room kp kv dt e =
       let n = substepsIn (rowsLeft (c .brake .commit) from) (c .brake .«brake_steps») (c .brake .substeps) in
@@ -40,7 +41,7 @@ module _ (c : FuseConfig) (len h d from room : ℕ) (w : Planned c len h d from 
       (rw (shape, le-leb _ _ (w .parted), le-leb _ _ space), few)
 
   pub closed-room : Other (c .brake .kind)
-      → (stopped.roomy (courseFor c h d from) len room ≡ true) × (suc (rowsLeft (c .brake .commit) from .0) ≤ 4096)
+      → (stopped.roomy (courseFor c head from) len room ≡ true) × (suc (rowsLeft (c .brake .commit) from .0) ≤ 4096)
   unfolding stopped.roomy every every-from
   closed-room o =
       let n = rowsLeft (c .brake .commit) from .0 in

@@ -11,6 +11,7 @@ use Rattle.fmath.specs.Answer.{someNotFinite, someLentNotFinite}
 use Rattle.checked.specs.Each.{at, over}
 use Rattle.checked.specs.Checked.{Checked}
 use Rattle.chunk.specs.Refusals.{chunkReasons}
+use Rattle.chunk.specs.declared.Header.{Header}
 use Rattle.conformal.specs.Rule.{Tables}
 use Rattle.envelope.specs.Refusals.{configJudged}
 use Rattle.envelope.specs.declared.FuseConfig.{FuseConfig}
@@ -41,23 +42,23 @@ answerAt k t = if eqb k 0 || eqb k (numberOf computed) then outcome t else out.R
 abbrev pub slacksAt : ℕ → Forecast → List Float → List Float
 slacksAt k t l = if eqb k 0 || eqb k (numberOf computed) then writtenOf t l else l
 
-module _ (f : Format) (c : FuseConfig) (p v rows : List Float) (h d from : ℕ) where
+module _ (f : Format) (c : FuseConfig) (p v rows : List Float) (k : Header) (from : ℕ) where
   abbrev pub plan : Forecast
-  plan = forecastOf f c p v rows h d from
+  plan = forecastOf f c p v rows k from
 
   -- 10, 11 and 12, where the entries have so much room
   abbrev pub lentJudged : ℕ → List Judged
   lentJudged room =
-      (width when not (eqb d (c .dim)))
+      (width when not (eqb (k .dim) (c .dim)))
       ∷ (short when tooShort (c .«pos_dim») (length p) (length v) (plan .count) room)
       ∷ (notFinite when someLentNotFinite (p ∷ v ∷ rows ∷ [])) ∷ []
 
-module _ (f : Format) (c : FuseConfig) (t : Tables) (p v rows : List Float) (h d e from : ℕ) where
+module _ (f : Format) (c : FuseConfig) (t : Tables) (p v rows : List Float) (k : Header) (from : ℕ) where
   abbrev planned : Forecast
-  planned = plan f c p v rows h d from
+  planned = plan f c p v rows k from
 
   unfoldable pub forecastRefusal : ℕ → ℕ
-  forecastRefusal room = refusal (configJudged f c t ++ (chunkReasons h d e (length rows) ++ (lentJudged f c p v rows h d from room ++ (computed when not (eqb (placeOf planned) 0) ∷ []))))
+  forecastRefusal room = refusal (configJudged f c t ++ (chunkReasons k (length rows) ++ (lentJudged f c p v rows k from room ++ (computed when not (eqb (placeOf planned) 0) ∷ []))))
 
   unfoldable pub forecastAnswer : ℕ → BrakeOut
   forecastAnswer room = answerAt (forecastRefusal room) planned

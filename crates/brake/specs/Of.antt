@@ -3,6 +3,7 @@ use Prim.Native.Nat.{ℕ, suc, _*_, _≤_}
 use mathlib.Core.Path.{_≡_}
 use mathlib.Core.List.{List}
 use lib.Ieee.{Float, Format}
+use Rattle.chunk.specs.declared.Header.{Header}
 use Rattle.envelope.specs.Derive.{derived}
 use Rattle.envelope.specs.Steps.{substepsIn}
 use Rattle.envelope.specs.declared.BrakeKind.{BrakeKind}
@@ -23,11 +24,11 @@ workspaceFrom d = record { lo = d .«box_lo»; hi = d .«box_hi» }
 abbrev pub workspaceFor : Format → FuseConfig → Workspace
 workspaceFor f c = workspaceFrom (derived f c)
 
-abbrev pub courseFor : FuseConfig → ℕ → ℕ → ℕ → Course
-courseFor c h d from = record {
+abbrev pub courseFor : FuseConfig → Header → ℕ → Course
+courseFor c k from = record {
   live = live c;
-  horizon = h;
-  dim = d;
+  horizon = k .horizon;
+  dim = k .dim;
   from = from;
   commit = c .brake .commit;
   brake = c .brake .«brake_steps»;
@@ -46,11 +47,11 @@ countFor b (JerkLimited kp kv dt) from = suc (rowsLeft (b .commit) from .0)
 countFor b (ZeroVelocityHold kp kv dt) from = suc (rowsLeft (b .commit) from .0)
 
 -- what is known of a call where nothing is refused: rows that are all there and as wide as the configuration says, and room for the entries
-pub record Planned (c : FuseConfig) (len h d from room : ℕ) : Type 0 where
+pub record Planned (c : FuseConfig) (len : ℕ) (k : Header) (from room : ℕ) : Type 0 where
   pub narrow : c .dim ≤ 8
-  pub wide : d ≡ c .dim
-  pub rowed : 1 ≤ h
-  pub there : len ≡ h * d
+  pub wide : k .dim ≡ c .dim
+  pub rowed : 1 ≤ k .horizon
+  pub there : len ≡ k .horizon * k .dim
   pub parted : 1 ≤ c .brake .substeps .0
   pub few : countFor (c .brake) (c .brake .kind) from ≤ 4096
   pub space : countFor (c .brake) (c .brake .kind) from ≤ room

@@ -9,6 +9,7 @@ use lib.Ieee.{Float, binary64, inf, lt, le}
 use Rattle.refusal.specs.declared.Refusal.{Refusal}
 use Rattle.checked.specs.Each.{at}
 use Rattle.checked.specs.Finite.{+0}
+use Rattle.chunk.specs.declared.Header.{Header}
 use Rattle.conformal.specs.Rule.{Tables}
 use Rattle.envelope.specs.declared.ActionKind.{ActionKind}
 use Rattle.envelope.specs.declared.ActionKind.the-variants.{EePosition, EeDelta, JointPosition, JointVelocity, Other}
@@ -34,18 +35,16 @@ pub record Call : Type 0 where
   pub position : List Float
   pub velocity : List Float
   pub rows : List Float
-  pub horizon : ℕ
-  pub dim : ℕ
-  pub exec : ℕ
+  pub header : Header
   pub from : ℕ
   pub lent : List Float
 
 -- what it answers, and the lent entries afterwards, as the entry's contract has them
 abbrev pub answer : Call → BrakeOut
-answer x = forecastAnswer binary64 (x .config) (x .tables) (x .position) (x .velocity) (x .rows) (x .horizon) (x .dim) (x .exec) (x .from) (length (x .lent))
+answer x = forecastAnswer binary64 (x .config) (x .tables) (x .position) (x .velocity) (x .rows) (x .header) (x .from) (length (x .lent))
 
 abbrev pub entries : Call → List Float
-entries x = forecastSlacks binary64 (x .config) (x .tables) (x .position) (x .velocity) (x .rows) (x .horizon) (x .dim) (x .exec) (x .from) (x .lent)
+entries x = forecastSlacks binary64 (x .config) (x .tables) (x .position) (x .velocity) (x .rows) (x .header) (x .from) (x .lent)
 
 -- no refusal but 13 stops the call
 abbrev pub OnlyThirteen : Call → Type 0
@@ -62,7 +61,7 @@ N x = (x .config .brake .commit .0 - x .from + x .config .brake .«brake_steps»
 -- ---- the step rules, from the given start
 
 abbrev pub task : Call → Gains → Task
-task x g = secondOrder binary64 (x .config) (x .position) (x .velocity) (x .rows) (x .horizon) (x .dim) (x .from) g
+task x g = secondOrder binary64 (x .config) (x .position) (x .velocity) (x .rows) (x .header) (x .from) g
 
 -- the plant after k substeps of the rule, and the slack that is taken there
 abbrev pub plantAfter : Call → Gains → ℕ → State
@@ -143,9 +142,7 @@ braked x b l = record {
   position = x .position;
   velocity = x .velocity;
   rows = x .rows;
-  horizon = x .horizon;
-  dim = x .dim;
-  exec = x .exec;
+  header = x .header;
   from = x .from;
   lent = l;
 }

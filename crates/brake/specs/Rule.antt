@@ -12,6 +12,7 @@ use Rattle.checked.specs.Row.{eight}
 use Rattle.checked.specs.Least.{greater}
 use Rattle.checked.specs.Checked.{Checked, _>>=_, pure, plus, minus, times, divided, each}
 use Rattle.fmath.specs.Norm.{norm}
+use Rattle.chunk.specs.declared.Header.{Header}
 use Rattle.envelope.specs.Derive.{derived}
 use Rattle.envelope.specs.declared.ActionKind.{ActionKind}
 use Rattle.envelope.specs.declared.ActionKind.the-variants.{EePosition, EeDelta, JointPosition, JointVelocity, Other}
@@ -39,7 +40,7 @@ wallsAt f c = record { lo = derived f c .«box_lo»; hi = derived f c .«box_hi�
 abbrev pub armOf : FuseConfig → Arm
 armOf c = record { kind = c .kind; brake = c .brake .kind; dt = c .limits .dt; «a_max» = c .limits .«a_max»; «j_max» = c .limits .«j_max» }
 
-module _ (f : Format) (c : FuseConfig) (p v rows : List Float) (h d from : ℕ) where
+module _ (f : Format) (c : FuseConfig) (p v rows : List Float) (k : Header) (from : ℕ) where
   -- the given start on the axes that move
   abbrev pub start : State
   start = record { p = eight p (live c); v = eight v (live c) }
@@ -51,8 +52,8 @@ module _ (f : Format) (c : FuseConfig) (p v rows : List Float) (h d from : ℕ) 
     n = live c;
     start = start;
     rows = rows;
-    horizon = h;
-    dim = d;
+    horizon = k .horizon;
+    dim = k .dim;
     from = from;
     commit = c .brake .commit;
     brake = c .brake .«brake_steps»;
@@ -67,8 +68,8 @@ module _ (f : Format) (c : FuseConfig) (p v rows : List Float) (h d from : ℕ) 
     n = live c;
     start = start;
     rows = rows;
-    horizon = h;
-    dim = d;
+    horizon = k .horizon;
+    dim = k .dim;
     from = from;
     commit = c .brake .commit;
   }

@@ -25,6 +25,7 @@ ghost use Rattle.brake.specs.Of.{workspaceFrom, workspaceFor, courseFor,
 ghost use Rattle.checked.specs.Of.{rowFrom, reckonedFrom};
 use checked::Reckoned;
 use checked::Row;
+use chunk::Header;
 use course::Course;
 use course::Plant;
 use course::Run;
@@ -66,8 +67,8 @@ fn workspace_of(d: Derived) -> Workspace
 
 // ---- the forecast
 
-fn course_of(c: FuseConfig, horizon: u16, dim: u16, from: usize) -> Course
-    ensures { λ r. ⌜ r ≡ courseFor c horizon dim from ⌝ }
+fn course_of(c: FuseConfig, header: Header, from: usize) -> Course
+    ensures { λ r. ⌜ r ≡ courseFor c header from ⌝ }
 {
     let live = fmath::fewer(c.dim, c.pos_dim);
     let model = c.brake;
@@ -76,8 +77,8 @@ fn course_of(c: FuseConfig, horizon: u16, dim: u16, from: usize) -> Course
     let per = model.substeps;
     Course {
         live,
-        horizon,
-        dim,
+        horizon: header.horizon,
+        dim: header.dim,
         from,
         commit,
         brake,
@@ -174,15 +175,14 @@ fn forecast(
     pos: &[f64],
     vel: &[f64],
     rows: &[f64],
-    horizon: u16,
-    dim: u16,
+    header: Header,
     from: usize,
     slack: &mut [f64],
 ) -> BrakeOut
-    requires { ⌜ Planned c (length (now rows)) horizon dim from (length (now slack)) × (w ≡ workspaceFor binary64 c) ⌝ }
-    ensures { λ r. ⌜ (r ≡ outcome (forecastOf binary64 c (now (pos .entry)) (now (vel .entry)) (now (rows .entry)) horizon dim from)) × (now (slack .exit) ≡ writtenOf (forecastOf binary64 c (now (pos .entry)) (now (vel .entry)) (now (rows .entry)) horizon dim from) (now (slack .entry))) ⌝ }
+    requires { ⌜ Planned c (length (now rows)) header from (length (now slack)) × (w ≡ workspaceFor binary64 c) ⌝ }
+    ensures { λ r. ⌜ (r ≡ outcome (forecastOf binary64 c (now (pos .entry)) (now (vel .entry)) (now (rows .entry)) header from)) × (now (slack .exit) ≡ writtenOf (forecastOf binary64 c (now (pos .entry)) (now (vel .entry)) (now (rows .entry)) header from) (now (slack .entry))) ⌝ }
 {
-    let course = course_of(c, horizon, dim, from);
+    let course = course_of(c, header, from);
     let start = start_of(c, pos, vel);
     let arm = arm_of(c);
     let model = c.brake;
@@ -225,19 +225,18 @@ fn lent_refusal(
     pos: &[f64],
     vel: &[f64],
     rows: &[f64],
-    horizon: u16,
-    dim: u16,
+    header: Header,
     from: usize,
     room: usize,
 ) -> u8
-    ensures { λ r. ⌜ r ≡ refusal (lentJudged binary64 c (now (pos .entry)) (now (vel .entry)) (now (rows .entry)) horizon dim from room) ⌝ }
+    ensures { λ r. ⌜ r ≡ refusal (lentJudged binary64 c (now (pos .entry)) (now (vel .entry)) (now (rows .entry)) header from room) ⌝ }
 {
     let count = entries(c.brake, from);
     let short = too_short(c.pos_dim, pos.len(), vel.len(), count, room);
     let unfit = fmath::some_not_finite(pos, vel, rows);
     let numbers = Refusal::when(Refusal::NOT_FINITE, unfit, 0);
     let lengths = Refusal::when(Refusal::SHORT, short, numbers);
-    Refusal::when(Refusal::WIDTH, dim as usize != c.dim, lengths)
+    Refusal::when(Refusal::WIDTH, header.dim as usize != c.dim, lengths)
 }
 
 // The number before anything is computed: the configuration's own, then the sizes', then that of what is lent; 0 where there is none.
@@ -247,16 +246,14 @@ fn forecast_refusal(
     pos: &[f64],
     vel: &[f64],
     rows: &[f64],
-    horizon: u16,
-    dim: u16,
-    exec_steps: u16,
+    header: Header,
     from: usize,
     room: usize,
 ) -> u8
-    ensures { λ r. ⌜ ((t : Tables) → number ≡ refusal (configJudged binary64 c t) → r ≡ refusal (configJudged binary64 c t ++ (chunkReasons horizon dim «exec_steps» (length (now (rows .entry))) ++ lentJudged binary64 c (now (pos .entry)) (now (vel .entry)) (now (rows .entry)) horizon dim from room))) ⌝ }
+    ensures { λ r. ⌜ ((t : Tables) → number ≡ refusal (configJudged binary64 c t) → r ≡ refusal (configJudged binary64 c t ++ (chunkReasons header (length (now (rows .entry))) ++ lentJudged binary64 c (now (pos .entry)) (now (vel .entry)) (now (rows .entry)) header from room))) ⌝ }
 {
-    let sizes = chunk::chunk_refusal(horizon, dim, exec_steps, rows.len());
-    let lent = lent_refusal(c, pos, vel, rows, horizon, dim, from, room);
+    let sizes = chunk::chunk_refusal(header, rows.len());
+    let lent = lent_refusal(c, pos, vel, rows, header, from, room);
     Refusal::or_later(number, Refusal::or_later(sizes, lent))
 }
 
@@ -270,32 +267,20 @@ pub fn brake_feasible(
     pos: &[f64],
     vel: &[f64],
     rows: &[f64],
-    horizon: u16,
-    dim: u16,
-    exec_steps: u16,
+    header: Header,
     from: usize,
     slack: &mut [f64],
 ) -> BrakeOut
-    ensures { λ r. ⌜ (r ≡ forecastAnswer binary64 c (tables (now (center .entry)) (now (scale .entry))) (now (pos .entry)) (now (vel .entry)) (now (rows .entry)) horizon dim «exec_steps» from (length (now (slack .entry)))) × (now (slack .exit) ≡ forecastSlacks binary64 c (tables (now (center .entry)) (now (scale .entry))) (now (pos .entry)) (now (vel .entry)) (now (rows .entry)) horizon dim «exec_steps» from (now (slack .entry))) ⌝ }
+    ensures { λ r. ⌜ (r ≡ forecastAnswer binary64 c (tables (now (center .entry)) (now (scale .entry))) (now (pos .entry)) (now (vel .entry)) (now (rows .entry)) header from (length (now (slack .entry)))) × (now (slack .exit) ≡ forecastSlacks binary64 c (tables (now (center .entry)) (now (scale .entry))) (now (pos .entry)) (now (vel .entry)) (now (rows .entry)) header from (now (slack .entry))) ⌝ }
 {
     let compiled = envelope::compile(c, center, scale);
-    let number = forecast_refusal(
-        c,
-        compiled.number,
-        pos,
-        vel,
-        rows,
-        horizon,
-        dim,
-        exec_steps,
-        from,
-        slack.len(),
-    );
+    let room = slack.len();
+    let number = forecast_refusal(c, compiled.number, pos, vel, rows, header, from, room);
     if number != 0 {
         return BrakeOut::Refused(Refusal::of(number));
     }
     let w = workspace_of(compiled.derived);
-    forecast(c, w, pos, vel, rows, horizon, dim, from, slack)
+    forecast(c, w, pos, vel, rows, header, from, slack)
 }
 
 // ---- brake and hold

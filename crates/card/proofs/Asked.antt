@@ -9,7 +9,7 @@ use Rattle.envelope.specs.declared.FuseConfig.{FuseConfig}
 use Rattle.brake.specs.Answer.{forecastAnswer, forecastSlacks}
 use Rattle.brake.specs.declared.BrakeOut.{BrakeOut}
 use Rattle.card.specs.declared.record.Card.{Card}
-use Rattle.card.specs.Desk.{num, configOf, outcomeOf, slacksOf}
+use Rattle.card.specs.Desk.{num, configOf, fourRows, outcomeOf, slacksOf}
 
 pub ran : (c : Card) (old : List Float) {g : FuseConfig} {t : List Float} {p v r0 r1 r2 r3 : Float} {o : BrakeOut} {new : List Float}
     → g ≡ configOf c
@@ -20,8 +20,8 @@ pub ran : (c : Card) (old : List Float) {g : FuseConfig} {t : List Float} {p v r
     → r1 ≡ num (c .row1)
     → r2 ≡ num (c .row2)
     → r3 ≡ num (c .row3)
-    → (o ≡ forecastAnswer binary64 g (tables t t) (p ∷ []) (v ∷ []) (r0 ∷ r1 ∷ r2 ∷ r3 ∷ []) 4 1 1 (c .from) (length old))
-    × (new ≡ forecastSlacks binary64 g (tables t t) (p ∷ []) (v ∷ []) (r0 ∷ r1 ∷ r2 ∷ r3 ∷ []) 4 1 1 (c .from) old)
+    → (o ≡ forecastAnswer binary64 g (tables t t) (p ∷ []) (v ∷ []) (r0 ∷ r1 ∷ r2 ∷ r3 ∷ []) fourRows (c .from) (length old))
+    × (new ≡ forecastSlacks binary64 g (tables t t) (p ∷ []) (v ∷ []) (r0 ∷ r1 ∷ r2 ∷ r3 ∷ []) fourRows (c .from) old)
     → (o ≡ outcomeOf c (length old)) × (new ≡ slacksOf c old)
 unfolding outcomeOf slacksOf
 ran c old eg et ep ev e0 e1 e2 e3 h = rw (eg, et, ep, ev, e0, e1, e2, e3) at h

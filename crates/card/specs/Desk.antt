@@ -9,6 +9,7 @@ use Rattle.refusal.specs.Order.{computed, numberOf}
 use Rattle.bits.specs.Choice.{if_then_else_}
 use Rattle.checked.specs.Constants.{1! }
 use Rattle.checked.specs.Finite.{+0}
+use Rattle.chunk.specs.declared.Header.{Header}
 use Rattle.conformal.specs.Of.{tables}
 use Rattle.conformal.specs.Rule.{Tables}
 use Rattle.conformal.specs.declared.Calibration.{Calibration}
@@ -85,11 +86,15 @@ configOf c = record {
 abbrev pub rowsOf : Card → List Float
 rowsOf c = num (c .row0) ∷ num (c .row1) ∷ num (c .row2) ∷ num (c .row3) ∷ []
 
+-- one of them to be executed
+abbrev pub fourRows : Header
+fourRows = record { seq = 0; «t_emit» = 0; horizon = 4; dim = 1; «exec_steps» = 1 }
+
 unfoldable pub outcomeOf : Card → ℕ → BrakeOut
-outcomeOf c room = forecastAnswer binary64 (configOf c) tablesOf (num (c .p) ∷ []) (num (c .v) ∷ []) (rowsOf c) 4 1 1 (c .from) room
+outcomeOf c room = forecastAnswer binary64 (configOf c) tablesOf (num (c .p) ∷ []) (num (c .v) ∷ []) (rowsOf c) fourRows (c .from) room
 
 unfoldable pub slacksOf : Card → List Float → List Float
-slacksOf c l = forecastSlacks binary64 (configOf c) tablesOf (num (c .p) ∷ []) (num (c .v) ∷ []) (rowsOf c) 4 1 1 (c .from) l
+slacksOf c l = forecastSlacks binary64 (configOf c) tablesOf (num (c .p) ∷ []) (num (c .v) ∷ []) (rowsOf c) fourRows (c .from) l
 
 -- ---- the answer
 

@@ -6,6 +6,7 @@ ghost use Rattle.checked.specs.Constants.{1! };
 ghost use Rattle.card.specs.Desk.{calibrationOf, brakeOf, wallsOf, limitsOf, normOf, configOf, outcomeOf, slacksOf, countOf, answerFor};
 use crate::record::Card;
 use brake::BrakeOut;
+use chunk::Header;
 use conformal::Calibration;
 use conformal::GateSpec;
 use envelope::ActionKind;
@@ -145,7 +146,14 @@ pub fn run(c: Card, slack: &mut [f64]) -> BrakeOut
     let r3 = float_of(c.row3);
     let rows = [r0, r1, r2, r3];
     let from = c.from as usize;
-    brake::brake_feasible(config, &table, &table, &p, &v, &rows, 4, 1, 1, from, slack)
+    let header = Header {
+        seq: 0,
+        t_emit: 0,
+        horizon: 4,
+        dim: 1,
+        exec_steps: 1,
+    };
+    brake::brake_feasible(config, &table, &table, &p, &v, &rows, header, from, slack)
 }
 
 // ---- the answer

@@ -14,12 +14,13 @@ use Rattle.refusal.specs.Order.{Judged, _when_, empty, tooLong, tooWide, execEx
 use Rattle.bits.specs.Choice.{if_then_else_}
 use Rattle.refusal.specs.Exactly.{exactly-none}
 use Rattle.refusal.specs.Chain.{first-refuses, first-passes, both-pass, passes-at}
+use Rattle.chunk.specs.declared.Header.{Header}
 use Rattle.chunk.specs.Refusals.{chunkReasons, lentReasons}
 
 -- r is the sizes' number, and the rows are finite where ok
-module _ (h d e n r : ℕ) (ok : Bool) (is : r ≡ refusal (chunkReasons h d e n)) where
+module _ (k : Header) (n r : ℕ) (ok : Bool) (is : r ≡ refusal (chunkReasons k n)) where
   abbrev sizes : List Judged
-  sizes = chunkReasons h d e n
+  sizes = chunkReasons k n
 
   abbrev numbers : List Judged
   numbers = (notFinite when not ok) ∷ []
@@ -40,36 +41,38 @@ module _ (h d e n r : ℕ) (ok : Bool) (is : r ≡ refusal (chunkReasons h d e n
   accepted z t = sym (passed z ∙ rw t)
 
 -- what is known of a chunk whose sizes are accepted
-pub record Accepted (h d e n : ℕ) : Type 0 where
-  pub some-rows : 0 < h
-  pub some-width : 0 < d
-  pub not-long : h ≤ 64
-  pub not-wide : d ≤ 8
-  pub exec-inside : e ≤ h
-  pub all-there : n ≡ h * d
+pub record Accepted (k : Header) (n : ℕ) : Type 0 where
+  pub some-rows : 0 < k .horizon
+  pub some-width : 0 < k .dim
+  pub not-long : k .horizon ≤ 64
+  pub not-wide : k .dim ≤ 8
+  pub exec-inside : k .«exec_steps» ≤ k .horizon
+  pub all-there : n ≡ k .horizon * k .dim
 
 above : (n : ℕ) → eqb n 0 ≡ false → 0 < n
 above n f = let k : n ≡ 0 → ⊥ = eqb-false n 0 f in pos-of-ne-zero k
 
-pub sizes-accepted : (h d e n : ℕ) → refusal (chunkReasons h d e n) ≡ 0 → Accepted h d e n
-sizes-accepted h d e n z =
-    let passed = exactly-none (among (chunkReasons h d e n)) .1 z in
+pub sizes-accepted : (k : Header) (n : ℕ) → refusal (chunkReasons k n) ≡ 0 → Accepted k n
+sizes-accepted k n z =
+    let h = k .horizon in
+    let d = k .dim in
+    let passed = exactly-none (among (chunkReasons k n)) .1 z in
     let zeros = neither (eqb h 0) (eqb d 0) (passed empty) in
     record {
       some-rows = above h (zeros .0);
       some-width = above d (zeros .1);
       not-long = ltb-false 64 h (passed tooLong);
       not-wide = ltb-false 8 d (passed tooWide);
-      exec-inside = ltb-false h e (passed execExceedsHorizon);
+      exec-inside = ltb-false h (k .«exec_steps») (passed execExceedsHorizon);
       all-there = eqb-true n (h * d) (not-false (eqb n (h * d)) (passed lenMismatch));
     }
 
 -- an accepted lent chunk has accepted sizes and finite numbers
-pub lent-accepted : (l : List Float) (h d e : ℕ) → refusal (lentReasons l h d e) ≡ 0 → Accepted h d e (length l) × (allFinite l (length l) ≡ true)
-lent-accepted l h d e z =
-    let both = both-pass (chunkReasons h d e (length l)) ((notFinite when not (allFinite l (length l))) ∷ []) z in
-    (sizes-accepted h d e (length l) (both .0), not-false (allFinite l (length l)) (passes-at notFinite (not (allFinite l (length l))) [] (both .1) .0))
+pub lent-accepted : (l : List Float) (k : Header) → refusal (lentReasons l k) ≡ 0 → Accepted k (length l) × (allFinite l (length l) ≡ true)
+lent-accepted l k z =
+    let both = both-pass (chunkReasons k (length l)) ((notFinite when not (allFinite l (length l))) ∷ []) z in
+    (sizes-accepted k (length l) (both .0), not-false (allFinite l (length l)) (passes-at notFinite (not (allFinite l (length l))) [] (both .1) .0))
 
 -- accepted sizes fit a buffer
-pub accepted-fits : {h d e n : ℕ} → Accepted h d e n → n ≤ 512
-accepted-fits {h} {d} {e} {n} a = rw (a .all-there) (mul-le-mul (a .not-long) (a .not-wide))
+pub accepted-fits : {k : Header} {n : ℕ} → Accepted k n → n ≤ 512
+accepted-fits a = rw (a .all-there) (mul-le-mul (a .not-long) (a .not-wide))

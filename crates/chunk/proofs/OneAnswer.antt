@@ -1,6 +1,5 @@
 -- One answer for each input, of the functions that are proved by a walk, and of `row_mut`. `clauses` is the contract as the prover takes it from the source: what it says of one
--- answer and what it says of another, for the same arguments, together say that the two are the same. A view is the same where its numbers are and the rows that it shows.
-use Prim.Native.Nat.{ℕ}
+-- answer and what it says of another, for the same arguments, together say that the two are the same. A view is the same where its header is and the rows that it shows.
 use mathlib.Core.Path.{_≡_, sym, _∙_}
 use mathlib.Core.List.{List}
 use lib.Ieee.{Float}
@@ -16,6 +15,7 @@ use denote.Ref.{now, ptr}
 use denote.Triple.Entry.{Args, Res}
 use denote.Triple.Clauses.{Ended, Clauses, AtExit}
 use Rattle.chunk.specs.declared.ChunkView.{ChunkView}
+use Rattle.chunk.specs.declared.Header.{Header}
 use Rattle.chunk.proofs.row_mut.Reads as row-mut
 use Rattle.chunk.proofs.view as view
 use Rattle.chunk.proofs.view_held as view-held
@@ -27,17 +27,16 @@ use Rattle.chunk.proofs.ChunkView.action as view-action
 unique : {A : Type 0} {a b c : A} → a ≡ c → b ≡ c → a ≡ b
 unique p q = p ∙ sym q
 
--- a view has these numbers, and shows these rows
-abbrev Has : ChunkView → ℕ → ℕ → ℕ → ℕ → ℕ → List Float → Type 0
-Has v s t h d e l = (v .seq ≡ s) × ((v .«t_emit» ≡ t) × ((v .horizon ≡ h) × ((v .dim ≡ d) × ((v .«exec_steps» ≡ e) × (now (v .«data») ≡ l)))))
+-- a view has this header, and shows these rows
+abbrev Has : ChunkView → Header → List Float → Type 0
+Has v k l = (v .header ≡ k) × (now (v .«data») ≡ l)
 
--- a view has the numbers of another, and shows its rows
+-- a view has the header of another, and shows its rows
 abbrev pub Same : ChunkView → ChunkView → Type 0
-Same v w = Has v (w .seq) (w .«t_emit») (w .horizon) (w .dim) (w .«exec_steps») (now (w .«data»))
+Same v w = Has v (w .header) (now (w .«data»))
 
-same : (v w : ChunkView) {s t h d e : ℕ} {l : List Float} → Has v s t h d e l → Has w s t h d e l → Same v w
-same v w p q =
-    (unique (p .0) (q .0), (unique (p .1 .0) (q .1 .0), (unique (p .1 .1 .0) (q .1 .1 .0), (unique (p .1 .1 .1 .0) (q .1 .1 .1 .0), (unique (p .1 .1 .1 .1 .0) (q .1 .1 .1 .1 .0), unique (p .1 .1 .1 .1 .1) (q .1 .1 .1 .1 .1))))))
+same : (v w : ChunkView) {k : Header} {l : List Float} → Has v k l → Has w k l → Same v w
+same v w p q = (unique (p .0) (q .0), unique (p .1) (q .1))
 
 -- the part that is handed out to be written: its numbers, and the place where it lies
 abbrev OnePart : {L A R E : Type 0} → (L → A → R → E → Type 0) → (R → R → Type 0) → Type 0

@@ -14,36 +14,36 @@ use Rattle.bits.specs.Choice.{if_then_else_}
 use Rattle.chunk.specs.declared.ChunkBuf.{ChunkBuf}
 use Rattle.chunk.specs.declared.ChunkView.{ChunkView}
 use Rattle.chunk.specs.declared.Filled.{Filled}
+use Rattle.chunk.specs.declared.Header.{Header}
 use Rattle.chunk.specs.declared.Holding.{Holding}
 use Rattle.chunk.specs.declared.Holding.the-variants.{Held, Refused}
 use Rattle.chunk.specs.declared.Part.{Part}
-use Rattle.chunk.specs.Rule.{rowStart, rowWithin, rowOf, heldSize, heldRows}
+use Rattle.chunk.specs.Rule.{rowStart, rowWithin, rowOf, heldRows}
 use Rattle.chunk.specs.Refusals.{lentReasons, heldReasons}
 
 -- a buffer that holds no chunk yet
 abbrev pub newChunk : ChunkBuf
-newChunk = record { «data» = replicate 512 +0; seq = 0; «t_emit» = 0; horizon = 0; dim = 0; «exec_steps» = 0; filled = false }
+newChunk = record { «data» = replicate 512 +0; header = record { seq = 0; «t_emit» = 0; horizon = 0; dim = 0; «exec_steps» = 0 }; filled = false }
 
 -- the buffer with a chunk copied in; the numbers past the chunk's own stay
-abbrev pub heldOf : ChunkBuf → ℕ → ℕ → ℕ → ℕ → ℕ → List Float → ChunkBuf
-heldOf b s t h d e l = record { «data» = paste (b .«data») 0 l (length l); seq = s; «t_emit» = t; horizon = h; dim = d; «exec_steps» = e; filled = true }
+abbrev pub heldOf : ChunkBuf → Header → List Float → ChunkBuf
+heldOf b k l = record { «data» = paste (b .«data») 0 l (length l); header = k; filled = true }
 
 -- a refused chunk gives its number and leaves the buffer as it was
-unfoldable pub fillOf : ChunkBuf → ℕ → ℕ → ℕ → ℕ → ℕ → List Float → Filled
-fillOf b s t h d e l =
-    if eqb (refusal (lentReasons l h d e)) 0 then record { number = 0; buf = heldOf b s t h d e l } else record { number = refusal (lentReasons l h d e); buf = b }
+unfoldable pub fillOf : ChunkBuf → Header → List Float → Filled
+fillOf b k l = if eqb (refusal (lentReasons l k)) 0 then record { number = 0; buf = heldOf b k l } else record { number = refusal (lentReasons l k); buf = b }
 
 -- the same for a view
 abbrev pub copyOf : ChunkBuf → ChunkView → Filled
-copyOf b v = fillOf b (v .seq) (v .«t_emit») (v .horizon) (v .dim) (v .«exec_steps») (now (v .«data»))
+copyOf b v = fillOf b (v .header) (now (v .«data»))
 
 -- the buffer with no chunk held; all else stays
 abbrev pub clearedOf : ChunkBuf → ChunkBuf
-clearedOf b = record { «data» = b .«data»; seq = b .seq; «t_emit» = b .«t_emit»; horizon = b .horizon; dim = b .dim; «exec_steps» = b .«exec_steps»; filled = false }
+clearedOf b = record { «data» = b .«data»; header = b .header; filled = false }
 
 -- the number for a held chunk
 unfoldable pub heldRefusalOf : ChunkBuf → ℕ
-heldRefusalOf b = if b .filled then refusal (heldReasons (b .«data») (b .horizon) (b .dim) (b .«exec_steps»)) else 0
+heldRefusalOf b = if b .filled then refusal (heldReasons (b .«data») (b .header)) else 0
 
 -- a held chunk that is refused gives its number and stays
 unfoldable pub clearOf : ChunkBuf → Filled
@@ -62,19 +62,17 @@ abbrev pub IsRow : RefT (List Float) → RefT (List Float) → ℕ → ℕ → �
 IsRow r l h d i = (now r ≡ rowOf (now l) h d i) × (ptr r ≡ (ptr l .0, partOf (length (now l)) h d i .start * 8 + ptr l .1))
 
 -- the view of lent rows
-abbrev pub viewOf : ℕ → ℕ → ℕ → ℕ → ℕ → RefT (List Float) → ChunkView
-viewOf s t h d e r = record { seq = s; «t_emit» = t; horizon = h; dim = d; «exec_steps» = e; «data» = r }
+abbrev pub viewOf : Header → RefT (List Float) → ChunkView
+viewOf k r = record { header = k; «data» = r }
+
+-- what is said of a held chunk: sizes 0 where none is held
+unfoldable pub heldHeader : Header → Bool → Header
+heldHeader k filled = if filled then k else record { seq = k .seq; «t_emit» = k .«t_emit»; horizon = 0; dim = 0; «exec_steps» = 0 }
 
 -- a view that shows what a buffer holds: sizes 0 and no rows where no chunk is held
-abbrev pub Shows : ChunkView → ℕ → ℕ → ℕ → ℕ → ℕ → Bool → List Float → Type 0
-Shows v s t h d e filled l =
-    (v .seq ≡ s)
-    × ((v .«t_emit» ≡ t)
-    × ((v .horizon ≡ heldSize h filled)
-    × ((v .dim ≡ heldSize d filled)
-    × ((v .«exec_steps» ≡ heldSize e filled)
-    × (now (v .«data») ≡ heldRows l h d filled)))))
+abbrev pub Shows : ChunkView → Header → Bool → List Float → Type 0
+Shows v k filled l = (v .header ≡ heldHeader k filled) × (now (v .«data») ≡ heldRows l (k .horizon) (k .dim) filled)
 
 -- a view shows what a buffer holds
 abbrev pub ShowsHeld : ChunkView → ChunkBuf → Type 0
-ShowsHeld v b = Shows v (b .seq) (b .«t_emit») (b .horizon) (b .dim) (b .«exec_steps») (b .filled) (b .«data»)
+ShowsHeld v b = Shows v (b .header) (b .filled) (b .«data»)

@@ -32,10 +32,6 @@ rowOf l h d i = if rowIn l h d i then take d (drop (rowStart h d i) l) else []
 unfoldable pub rowSet : List Float → ℕ → ℕ → ℕ → List Float → List Float
 rowSet l h d i r = if rowIn l h d i then paste l (rowStart h d i) r (min d (length r)) else l
 
--- a size of a held chunk, 0 where none is held
-abbrev pub heldSize : ℕ → Bool → ℕ
-heldSize n filled = if filled then n else 0
-
 -- the rows of a held chunk: its first h x d numbers, none where no chunk is held
 unfoldable pub heldRows : List Float → ℕ → ℕ → Bool → List Float
 heldRows l h d filled = if filled && leb (h * d) (length l) then take (h * d) l else []

@@ -2,19 +2,24 @@
 ghost use mathlib.Core.Path.{_≡_};
 ghost use Prim.Native.Nat.{_<_};
 ghost use Rattle.refusal.specs.Order.{refusal};
-ghost use Rattle.chunk.specs.Rule.{rowStart, rowOf, rowSet, heldSize, heldRows};
+ghost use Rattle.chunk.specs.Rule.{rowStart, rowOf, rowSet, heldRows};
 ghost use Rattle.chunk.specs.Refusals.{chunkReasons, lentReasons};
-ghost use Rattle.chunk.specs.Of.{newChunk, fillOf, copyOf, clearedOf, heldRefusalOf, clearOf, holdingOf, partOf, IsRow, viewOf, Shows, ShowsHeld};
+ghost use Rattle.chunk.specs.Of.{newChunk, fillOf, copyOf, clearedOf, heldRefusalOf, clearOf, holdingOf, partOf, IsRow, viewOf, heldHeader, Shows, ShowsHeld};
 use refusal::Refusal;
 
-// The numbers of a chunk in row-major order: row i starts at i x dim.
-pub struct ChunkBuf {
-    pub data: [f64; 512],
+// What is said of a chunk besides its rows.
+pub struct Header {
     pub seq: u32,
     pub t_emit: u32,
     pub horizon: u16,
     pub dim: u16,
     pub exec_steps: u16,
+}
+
+// The numbers of a chunk in row-major order: row i starts at i x dim.
+pub struct ChunkBuf {
+    pub data: [f64; 512],
+    pub header: Header,
     pub filled: bool,
 }
 
@@ -32,11 +37,7 @@ pub enum Holding {
 
 // A chunk whose rows stay the caller's.
 pub struct ChunkView<'a> {
-    pub seq: u32,
-    pub t_emit: u32,
-    pub horizon: u16,
-    pub dim: u16,
-    pub exec_steps: u16,
+    pub header: Header,
     pub data: &'a [f64],
 }
 
@@ -47,9 +48,11 @@ struct Part {
 }
 
 // The number for a chunk's sizes, in the order of `fill`, where its rows are len numbers; 0 where they are accepted.
-pub fn chunk_refusal(horizon: u16, dim: u16, exec_steps: u16, len: usize) -> u8
-    ensures { λ r. ⌜ r ≡ refusal (chunkReasons horizon dim «exec_steps» len) ⌝ }
+pub fn chunk_refusal(header: Header, len: usize) -> u8
+    ensures { λ r. ⌜ r ≡ refusal (chunkReasons header len) ⌝ }
 {
+    let horizon = header.horizon;
+    let dim = header.dim;
     if (horizon == 0) | (dim == 0) {
         return Refusal::EMPTY;
     }
@@ -59,7 +62,7 @@ pub fn chunk_refusal(horizon: u16, dim: u16, exec_steps: u16, len: usize) -> u8
     if ChunkBuf::MAX_D < dim {
         return Refusal::TOO_WIDE;
     }
-    if horizon < exec_steps {
+    if horizon < header.exec_steps {
         return Refusal::EXEC_EXCEEDS_HORIZON;
     }
     if len != (horizon as usize) * (dim as usize) {
@@ -69,10 +72,10 @@ pub fn chunk_refusal(horizon: u16, dim: u16, exec_steps: u16, len: usize) -> u8
 }
 
 // The number for a lent chunk: its sizes, then its rows' numbers, which have to be finite.
-fn lent_refusal(rows: &[f64], horizon: u16, dim: u16, exec_steps: u16) -> u8
-    ensures { λ r. ⌜ r ≡ refusal (lentReasons (now (rows .entry)) horizon dim «exec_steps») ⌝ }
+fn lent_refusal(rows: &[f64], header: Header) -> u8
+    ensures { λ r. ⌜ r ≡ refusal (lentReasons (now (rows .entry)) header) ⌝ }
 {
-    let number = chunk_refusal(horizon, dim, exec_steps, rows.len());
+    let number = chunk_refusal(header, rows.len());
     if number != 0 {
         return number;
     }
@@ -94,20 +97,22 @@ impl ChunkBuf {
     {
         ChunkBuf {
             data: [0.0; 512],
-            seq: 0,
-            t_emit: 0,
-            horizon: 0,
-            dim: 0,
-            exec_steps: 0,
+            header: Header {
+                seq: 0,
+                t_emit: 0,
+                horizon: 0,
+                dim: 0,
+                exec_steps: 0,
+            },
             filled: false,
         }
     }
 
     // The lent chunk, copied in; the numbers past its own stay. A refusal leaves the buffer as it was.
-    pub fn fill(self, seq: u32, t_emit: u32, h: u16, d: u16, exec: u16, src: &[f64]) -> Filled
-        ensures { λ r. ⌜ r ≡ fillOf self seq «t_emit» h d exec (now (src .entry)) ⌝ }
+    pub fn fill(self, header: Header, src: &[f64]) -> Filled
+        ensures { λ r. ⌜ r ≡ fillOf self header (now (src .entry)) ⌝ }
     {
-        let number = lent_refusal(src, h, d, exec);
+        let number = lent_refusal(src, header);
         if number != 0 {
             return Filled { number, buf: self };
         }
@@ -117,11 +122,7 @@ impl ChunkBuf {
             number: 0,
             buf: ChunkBuf {
                 data,
-                seq,
-                t_emit,
-                horizon: h,
-                dim: d,
-                exec_steps: exec,
+                header,
                 filled: true,
             },
         }
@@ -131,7 +132,7 @@ impl ChunkBuf {
     pub fn copy_from<'a>(self, v: ChunkView<'a>) -> Filled
         ensures { λ r. ⌜ r ≡ copyOf self (v .entry) ⌝ }
     {
-        self.fill(v.seq, v.t_emit, v.horizon, v.dim, v.exec_steps, v.data)
+        self.fill(v.header, v.data)
     }
 
     // The buffer with no chunk held, all else kept, for a caller that has judged it.
@@ -173,8 +174,9 @@ impl ChunkBuf {
             return 0;
         }
         let data = self.data;
-        let n = (self.horizon as usize) * (self.dim as usize);
-        let number = chunk_refusal(self.horizon, self.dim, self.exec_steps, n);
+        let header = self.header;
+        let n = (header.horizon as usize) * (header.dim as usize);
+        let number = chunk_refusal(header, n);
         if number != 0 {
             return number;
         }
@@ -189,15 +191,7 @@ impl ChunkBuf {
     pub fn view<'a>(&'a self) -> ChunkView<'a>
         ensures { λ r. ⌜ ShowsHeld r (now (self .entry)) ⌝ }
     {
-        view_held(
-            self.seq,
-            self.t_emit,
-            self.horizon,
-            self.dim,
-            self.exec_steps,
-            self.filled,
-            &self.data,
-        )
+        view_held(self.header, self.filled, &self.data)
     }
 }
 
@@ -276,40 +270,32 @@ pub fn held_rows(data: &[f64], horizon: u16, dim: u16, filled: bool) -> &[f64]
     }
 }
 
-// A size of a held chunk: 0 where none is held.
-fn held_size(n: u16, filled: bool) -> u16
-    ensures { λ r. ⌜ r ≡ heldSize n filled ⌝ }
+// What is said of a held chunk: sizes 0 where none is held.
+fn held_header(mut header: Header, filled: bool) -> Header
+    ensures { λ r. ⌜ r ≡ heldHeader header filled ⌝ }
 {
-    if filled { n } else { 0 }
+    if filled {
+        return header;
+    }
+    header.horizon = 0;
+    header.dim = 0;
+    header.exec_steps = 0;
+    header
 }
 
 // The view of lent rows: the caller's numbers, none copied.
-pub fn view<'a>(
-    seq: u32,
-    t_emit: u32,
-    horizon: u16,
-    dim: u16,
-    exec_steps: u16,
-    data: &'a [f64],
-) -> ChunkView<'a>
-    ensures { λ r. ⌜ r ≡ viewOf seq «t_emit» horizon dim «exec_steps» («data» .entry) ⌝ }
+pub fn view<'a>(header: Header, data: &'a [f64]) -> ChunkView<'a>
+    ensures { λ r. ⌜ r ≡ viewOf header («data» .entry) ⌝ }
 {
-    ChunkView {
-        seq,
-        t_emit,
-        horizon,
-        dim,
-        exec_steps,
-        data,
-    }
+    ChunkView { header, data }
 }
 
 impl<'a> ChunkView<'a> {
     // Row i of the view, as `row_of` gives it.
     pub fn action(self, i: usize) -> &'a [f64]
-        ensures { λ r. ⌜ now r ≡ rowOf (now (self .entry .«data»)) (self .entry .horizon) (self .entry .dim) i ⌝ }
+        ensures { λ r. ⌜ now r ≡ rowOf (now (self .entry .«data»)) (self .entry .header .horizon) (self .entry .header .dim) i ⌝ }
     {
-        row_of(self.data, self.horizon, self.dim, i)
+        row_of(self.data, self.header.horizon, self.header.dim, i)
     }
 }
 
@@ -317,24 +303,21 @@ impl<'a> ChunkView<'a> {
 pub fn action(data: &[f64], horizon: u16, dim: u16, i: usize) -> &[f64]
     ensures { λ r. ⌜ now r ≡ rowOf (now («data» .entry)) horizon dim i ⌝ }
 {
-    view(0, 0, horizon, dim, 0, data).action(i)
+    let header = Header {
+        seq: 0,
+        t_emit: 0,
+        horizon,
+        dim,
+        exec_steps: 0,
+    };
+    view(header, data).action(i)
 }
 
 // The view of what a buffer holds: sizes 0 and no rows where no chunk is held.
-pub fn view_held<'a>(
-    seq: u32,
-    t_emit: u32,
-    horizon: u16,
-    dim: u16,
-    exec_steps: u16,
-    filled: bool,
-    data: &'a [f64],
-) -> ChunkView<'a>
-    ensures { λ r. ⌜ Shows r seq «t_emit» horizon dim «exec_steps» filled (now («data» .entry)) ⌝ }
+pub fn view_held<'a>(header: Header, filled: bool, data: &'a [f64]) -> ChunkView<'a>
+    ensures { λ r. ⌜ Shows r header filled (now («data» .entry)) ⌝ }
 {
-    let h = held_size(horizon, filled);
-    let d = held_size(dim, filled);
-    let e = held_size(exec_steps, filled);
-    let rows = held_rows(data, horizon, dim, filled);
-    view(seq, t_emit, h, d, e, rows)
+    let held = held_header(header, filled);
+    let rows = held_rows(data, header.horizon, header.dim, filled);
+    view(held, rows)
 }

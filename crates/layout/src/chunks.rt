@@ -4,6 +4,7 @@ ghost use Rattle.layout.specs.Chunk.{headerFits, chunkOf, headerFrom, he
 use crate::places::to_u16;
 use crate::places::to_u32;
 use chunk::ChunkBuf;
+use chunk::Header;
 
 // The flag is one, and of a chunk that is held the sequence number and the time fit their fields.
 pub fn header_fits(h: &[u64; 6]) -> bool
@@ -23,33 +24,27 @@ pub fn chunk_of(l: &[f64; 512], h: &[u64; 6]) -> ChunkBuf
     let exec_steps = to_u16(h[4]);
     ChunkBuf {
         data: *l,
-        seq,
-        t_emit,
-        horizon,
-        dim,
-        exec_steps,
+        header: Header {
+            seq,
+            t_emit,
+            horizon,
+            dim,
+            exec_steps,
+        },
         filled: h[5] == 1,
     }
 }
 
 // Lays what is said of a chunk besides its rows out in the array.
-pub fn put_header(
-    seq: u32,
-    t_emit: u32,
-    horizon: u16,
-    dim: u16,
-    exec_steps: u16,
-    filled: bool,
-    h: &mut [u64; 6],
-)
-    ensures { λ _. ⌜ now (h .exit) ≡ headerFrom seq «t_emit» horizon dim «exec_steps» filled ⌝ }
+pub fn put_header(header: Header, filled: bool, h: &mut [u64; 6])
+    ensures { λ _. ⌜ now (h .exit) ≡ headerFrom header filled ⌝ }
 {
     *h = [
-        seq as u64,
-        t_emit as u64,
-        horizon as u64,
-        dim as u64,
-        exec_steps as u64,
+        header.seq as u64,
+        header.t_emit as u64,
+        header.horizon as u64,
+        header.dim as u64,
+        header.exec_steps as u64,
         filled as u64,
     ];
 }
@@ -60,7 +55,7 @@ pub fn put_chunk(b: ChunkBuf, l: &mut [f64; 512], h: &mut [u64; 6])
 {
     let data = b.data;
     *l = data;
-    put_header(b.seq, b.t_emit, b.horizon, b.dim, b.exec_steps, b.filled, h);
+    put_header(b.header, b.filled, h);
 }
 
 // Lets go of the chunk; what is said of it stays.

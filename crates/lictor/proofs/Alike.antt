@@ -27,7 +27,7 @@ use Rattle.envelope.specs.declared.Compiled.{Compiled}
 use Rattle.envelope.specs.Refusals.{compiled}
 use Rattle.tier0.specs.declared.Tier0Out.{Tier0Out}
 use Rattle.tier0.specs.Of.{actionAnswer, actionOut, chunkAnswer, chunkOut}
-use Rattle.tier1.specs.declared.Head.{Head}
+use Rattle.chunk.specs.declared.Header.{Header}
 use Rattle.tier1.specs.declared.Tier1Rt.{Tier1Rt}
 use Rattle.tier1.specs.declared.Cleared.{Cleared}
 use Rattle.tier1.specs.Of.{featuresOf, resetOf}
@@ -58,7 +58,7 @@ pub derived-alike : {m n : ℕ} {d e : Derived} {r : ℕ} {old new : List Float}
 derived-alike p q g = rw (p, q) at g
 
 -- the features of a tick, of a configuration, a state and scores that are taken apart
-pub featured-alike : (t : Tables) (p ext : List Float) (there : Bool) (k : Head) (rows : List Float) {e f g i j l : Bool} {c y : FuseConfig} {rt st : Tier1Rt} {sc tc : Scores} {r : ℕ} {d₀ d : List Float} {h₀ h : List ℕ} {f₀ f₁ : List Float} {c₀ c₁ : List ℕ} {s₀ s : List Float} {m₀ m : List ℕ}
+pub featured-alike : (t : Tables) (p ext : List Float) (there : Bool) (k : Header) (rows : List Float) {e f g i j l : Bool} {c y : FuseConfig} {rt st : Tier1Rt} {sc tc : Scores} {r : ℕ} {d₀ d : List Float} {h₀ h : List ℕ} {f₀ f₁ : List Float} {c₀ c₁ : List ℕ} {s₀ s : List Float} {m₀ m : List ℕ}
     → e ≡ i → f ≡ j → g ≡ l → c ≡ y → rt ≡ st → sc ≡ tc
     → FeaturedGiven (e && f && g) there (featuresOf binary64 c t p ext there k rows rt sc) r d₀ d h₀ h f₀ f₁ c₀ c₁ s₀ s m₀ m
     → FeaturedGiven (i && j && l) there (featuresOf binary64 y t p ext there k rows st tc) r d₀ d h₀ h f₀ f₁ c₀ c₁ s₀ s m₀ m
@@ -137,8 +137,8 @@ len-alike p q = p ∙ ap countOf q
 pub is-empty-alike : {a : Emptiness} {t u : Trail} → a ≡ emptinessOf t → t ≡ u → a ≡ emptinessOf u
 is-empty-alike p q = p ∙ ap emptinessOf q
 
-pub chunk-alike : (t : Tables) (p aux rows : List Float) (h d e : ℕ) (l : List Float) {a : Tier0Out} {o : List Float} {c k : FuseConfig} → (a ≡ chunkAnswer binary64 c t p aux rows h d e (length l)) × (o ≡ chunkOut binary64 c t p aux rows h d e l) → c ≡ k → (a ≡ chunkAnswer binary64 k t p aux rows h d e (length l)) × (o ≡ chunkOut binary64 k t p aux rows h d e l)
-chunk-alike t p aux rows h d e l g q = rw q at g
+pub chunk-alike : (t : Tables) (p aux rows : List Float) (x : Header) (l : List Float) {a : Tier0Out} {o : List Float} {c k : FuseConfig} → (a ≡ chunkAnswer binary64 c t p aux rows x (length l)) × (o ≡ chunkOut binary64 c t p aux rows x l) → c ≡ k → (a ≡ chunkAnswer binary64 k t p aux rows x (length l)) × (o ≡ chunkOut binary64 k t p aux rows x l)
+chunk-alike t p aux rows x l g q = rw q at g
 
 pub action-alike : (t : Tables) (p aux prev b l : List Float) {a : Tier0Out} {o : List Float} {c k : FuseConfig} → (a ≡ actionAnswer binary64 c t p aux prev b (length l)) × (o ≡ actionOut binary64 c t p aux prev b l) → c ≡ k → (a ≡ actionAnswer binary64 k t p aux prev b (length l)) × (o ≡ actionOut binary64 k t p aux prev b l)
 action-alike t p aux prev b l g q = rw q at g
@@ -146,8 +146,8 @@ action-alike t p aux prev b l g q = rw q at g
 pub reset-alike : {a : Cleared} {x y : Tier1Rt} → a ≡ resetOf x → x ≡ y → a ≡ resetOf y
 reset-alike e q = rw q at e
 
-pub forecast-alike : (t : Tables) (p v rows : List Float) (h d e from : ℕ) (l : List Float) {a : BrakeOut} {m : List Float} {c k : FuseConfig} → (a ≡ forecastAnswer binary64 c t p v rows h d e from (length l)) × (m ≡ forecastSlacks binary64 c t p v rows h d e from l) → c ≡ k → (a ≡ forecastAnswer binary64 k t p v rows h d e from (length l)) × (m ≡ forecastSlacks binary64 k t p v rows h d e from l)
-forecast-alike t p v rows h d e from l q y = (rw y at (q .0), rw y at (q .1))
+pub forecast-alike : (t : Tables) (p v rows : List Float) (x : Header) (from : ℕ) (l : List Float) {a : BrakeOut} {m : List Float} {c k : FuseConfig} → (a ≡ forecastAnswer binary64 c t p v rows x from (length l)) × (m ≡ forecastSlacks binary64 c t p v rows x from l) → c ≡ k → (a ≡ forecastAnswer binary64 k t p v rows x from (length l)) × (m ≡ forecastSlacks binary64 k t p v rows x from l)
+forecast-alike t p v rows x from l q y = (rw y at (q .0), rw y at (q .1))
 
 pub brake-alike : (t : Tables) (p v l : List Float) {a : Sent} {m : List Float} {c k : FuseConfig} → (a ≡ brakeAnswer binary64 c t p v (length l)) × (m ≡ brakeOutput binary64 c t p v l) → c ≡ k → (a ≡ brakeAnswer binary64 k t p v (length l)) × (m ≡ brakeOutput binary64 k t p v l)
 brake-alike t p v l q y = (rw y at (q .0), rw y at (q .1))

@@ -14,17 +14,17 @@ use Rattle.chunk.specs.Of.{heldOf}
 use Rattle.conformal.specs.Rule.{Tables}
 use Rattle.conformal.specs.declared.Scores.{Scores}
 use Rattle.envelope.specs.declared.FuseConfig.{FuseConfig}
-use Rattle.tier1.specs.declared.Head.{Head}
+use Rattle.chunk.specs.declared.Header.{Header}
 use Rattle.tier1.specs.declared.Tier1Rt.{Tier1Rt}
 use Rattle.tier1.specs.declared.TickOut.{TickOut}
 use Rattle.tier1.specs.declared.Featured.{Featured}
 use Rattle.tier1.specs.Of.{outOf, featuresOf}
 use Rattle.tier1.proofs.Ticks.{passed-whole, rows-fit}
-use Rattle.layout.specs.Chunk.{chunkOf, headerFlat}
+use Rattle.layout.specs.Chunk.{chunkOf, headerFrom, headerFlat}
 use Rattle.layout.specs.State.{heldMarks, stateOf}
 use Rattle.layout.specs.Scores.{scoresFlat, marksFlat}
 use Rattle.lictor.specs.Answer.{fitting, FeaturedGiven}
-use Rattle.lictor.specs.Asked.{headerSaid, rowsOver}
+use Rattle.lictor.specs.Asked.{rowsOver}
 
 -- a state's rows are the array they were taken from
 pub state-rows : (l : List Float) (h : List ℕ) (p : List Float) (t : List ℕ) (f : List Float) (c : List ℕ) {rt : Tier1Rt} → rt ≡ stateOf l h p t f c → rt .prev .«data» ≡ l
@@ -44,7 +44,7 @@ fitted : (g : Bool) (n : ℕ) → fitting g n ≡ 0 → n ≡ 0
 fitted true n e = e
 fitted false n e = absurd (omega arith)
 
-module _ (f : Format) (c : FuseConfig) (tabs : Tables) (p ext : List Float) (k : Head) (rows : List Float) (rt : Tier1Rt) (sc : Scores) where
+module _ (f : Format) (c : FuseConfig) (tabs : Tables) (p ext : List Float) (k : Header) (rows : List Float) (rt : Tier1Rt) (sc : Scores) where
   pub refused-places : (there : Bool) {g : Bool} {a : TickOut} {n : ℕ} {d : List Float} {h : List ℕ} {v : List Float} {m : List ℕ} {s : List Float} {q : List ℕ}
       → a ≡ outOf (featuresOf f c tabs p ext there k rows rt sc) → n ≡ fitting g (a .refusal .number) → (n ≡ 0 → ⊥)
       → FeaturedGiven g there (featuresOf f c tabs p ext there k rows rt sc) n d d h h v v m m s s q q
@@ -53,18 +53,18 @@ module _ (f : Format) (c : FuseConfig) (tabs : Tables) (p ext : List Float) (k :
       let v = ne-eqb _ _ (λ y. z (w ∙ y)) in
       record { number = w; rows = rw v; header = rw v; held = rw v; kept = rw v; scores = rw v; marks = rw v }
 
-  rows-at : (t : Bool) {d : List Float} → (t ≡ true → length rows ≤ 512) → rt .prev .«data» ≡ d → (if t then rowsOver d rows else d) ≡ (if t then heldOf (rt .prev) (k .seq) (k .«t_emit») (k .horizon) (k .dim) (k .«exec_steps») rows else rt .prev) .«data»
+  rows-at : (t : Bool) {d : List Float} → (t ≡ true → length rows ≤ 512) → rt .prev .«data» ≡ d → (if t then rowsOver d rows else d) ≡ (if t then heldOf (rt .prev) k rows else rt .prev) .«data»
   rows-at true f e = rw (le-leb (length rows) 512 (f refl), ← e)
   rows-at false f e = sym e
 
-  header-at : (t : Bool) (h : List ℕ) → (if t then headerSaid k true else h) ≡ (if t then headerFlat (if t then heldOf (rt .prev) (k .seq) (k .«t_emit») (k .horizon) (k .dim) (k .«exec_steps») rows else rt .prev) else h)
+  header-at : (t : Bool) (h : List ℕ) → (if t then headerFrom k true else h) ≡ (if t then headerFlat (if t then heldOf (rt .prev) k rows else rt .prev) else h)
   header-at true h = refl
   header-at false h = refl
 
   pub passed-places : (there : Bool) {g : Bool} {a : TickOut} {n : ℕ} {d₀ d : List Float} {h₀ h : List ℕ} {v₀ v : List Float} {m₀ m : List ℕ} {s₀ s : List Float} {q₀ q : List ℕ}
       → a ≡ outOf (featuresOf f c tabs p ext there k rows rt sc) → n ≡ fitting g (a .refusal .number) → n ≡ 0
       → rt .prev .«data» ≡ d₀
-      → (d ≡ (if there then rowsOver d₀ rows else d₀)) × (h ≡ (if there then headerSaid k true else h₀))
+      → (d ≡ (if there then rowsOver d₀ rows else d₀)) × (h ≡ (if there then headerFrom k true else h₀))
       → (v ≡ a .held) × (m ≡ heldMarks (there || rt .«have_prev») (a .«held_valid»))
       → (s ≡ scoresFlat (scoresNext a sc)) × (q ≡ marksFlat (scoresNext a sc))
       → FeaturedGiven g there (featuresOf f c tabs p ext there k rows rt sc) n d₀ d h₀ h v₀ v m₀ m s₀ s q₀ q

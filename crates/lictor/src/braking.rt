@@ -5,6 +5,8 @@ ghost use Rattle.conformal.specs.Of.{tables};
 ghost use Rattle.layout.specs.Config.{configOf, countsFit};
 ghost use Rattle.brake.specs.Answer.{forecastAnswer, forecastSlacks, brakeAnswer, brakeOutput, holdAnswer, holdOutput};
 ghost use Rattle.lictor.specs.Answer.{ForecastGiven, SentGiven};
+ghost use Rattle.lictor.specs.Asked.{sizesAsked};
+use chunk::Header;
 
 #[no_mangle]
 pub extern "C" fn lictor_brake_feasible(
@@ -24,26 +26,21 @@ pub extern "C" fn lictor_brake_feasible(
     reach: &mut [f64; 2],
     place: &mut u64,
 ) -> u64
-    ensures { λ r. ⌜ ForecastGiven (countsFit (now (counts .entry))) (forecastAnswer binary64 (configOf (now (numbers .entry)) (now (counts .entry))) (tables (now (center .entry)) (now (scale .entry))) (now (pos .entry)) (now (vel .entry)) (now (rows .entry)) horizon dim «exec_steps» from (length (now (slack .entry)))) (forecastSlacks binary64 (configOf (now (numbers .entry)) (now (counts .entry))) (tables (now (center .entry)) (now (scale .entry))) (now (pos .entry)) (now (vel .entry)) (now (rows .entry)) horizon dim «exec_steps» from (now (slack .entry))) r (now (marks .entry)) (now (marks .exit)) (now (reach .entry)) (now (reach .exit)) (now (place .entry)) (now (place .exit)) (now (slack .entry)) (now (slack .exit)) ⌝ }
+    ensures { λ r. ⌜ ForecastGiven (countsFit (now (counts .entry))) (forecastAnswer binary64 (configOf (now (numbers .entry)) (now (counts .entry))) (tables (now (center .entry)) (now (scale .entry))) (now (pos .entry)) (now (vel .entry)) (now (rows .entry)) (sizesAsked horizon dim «exec_steps») from (length (now (slack .entry)))) (forecastSlacks binary64 (configOf (now (numbers .entry)) (now (counts .entry))) (tables (now (center .entry)) (now (scale .entry))) (now (pos .entry)) (now (vel .entry)) (now (rows .entry)) (sizesAsked horizon dim «exec_steps») from (now (slack .entry))) r (now (marks .entry)) (now (marks .exit)) (now (reach .entry)) (now (reach .exit)) (now (place .entry)) (now (place .exit)) (now (slack .entry)) (now (slack .exit)) ⌝ }
 {
     let fits = layout::config::counts_fit(counts);
     if !fits {
         return 255;
     }
     let c = layout::config::config_of(numbers, counts);
-    let a = brake::brake_feasible(
-        c,
-        center,
-        scale,
-        pos,
-        vel,
-        rows,
+    let k = Header {
+        seq: 0,
+        t_emit: 0,
         horizon,
         dim,
         exec_steps,
-        from,
-        slack,
-    );
+    };
+    let a = brake::brake_feasible(c, center, scale, pos, vel, rows, k, from, slack);
     crate::answer::put_forecast(a, marks, reach, place)
 }
 

@@ -5,6 +5,8 @@ ghost use Rattle.conformal.specs.Of.{tables};
 ghost use Rattle.layout.specs.Config.{configOf, countsFit};
 ghost use Rattle.tier0.specs.Of.{actionAnswer, actionOut, chunkAnswer, chunkOut};
 ghost use Rattle.lictor.specs.Answer.{CheckGiven};
+ghost use Rattle.lictor.specs.Asked.{sizesAsked};
+use chunk::Header;
 
 #[no_mangle]
 pub extern "C" fn lictor_check_chunk(
@@ -22,25 +24,21 @@ pub extern "C" fn lictor_check_chunk(
     marks: &mut [u64; 2],
     speed: &mut f64,
 ) -> u64
-    ensures { λ r. ⌜ CheckGiven (countsFit (now (counts .entry))) (chunkAnswer binary64 (configOf (now (numbers .entry)) (now (counts .entry))) (tables (now (center .entry)) (now (scale .entry))) (now (pos .entry)) (now (aux .entry)) (now (rows .entry)) horizon dim «exec_steps» (length (now (out .entry)))) (chunkOut binary64 (configOf (now (numbers .entry)) (now (counts .entry))) (tables (now (center .entry)) (now (scale .entry))) (now (pos .entry)) (now (aux .entry)) (now (rows .entry)) horizon dim «exec_steps» (now (out .entry))) r (now (marks .entry)) (now (marks .exit)) (now (speed .entry)) (now (speed .exit)) (now (out .entry)) (now (out .exit)) ⌝ }
+    ensures { λ r. ⌜ CheckGiven (countsFit (now (counts .entry))) (chunkAnswer binary64 (configOf (now (numbers .entry)) (now (counts .entry))) (tables (now (center .entry)) (now (scale .entry))) (now (pos .entry)) (now (aux .entry)) (now (rows .entry)) (sizesAsked horizon dim «exec_steps») (length (now (out .entry)))) (chunkOut binary64 (configOf (now (numbers .entry)) (now (counts .entry))) (tables (now (center .entry)) (now (scale .entry))) (now (pos .entry)) (now (aux .entry)) (now (rows .entry)) (sizesAsked horizon dim «exec_steps») (now (out .entry))) r (now (marks .entry)) (now (marks .exit)) (now (speed .entry)) (now (speed .exit)) (now (out .entry)) (now (out .exit)) ⌝ }
 {
     let fits = layout::config::counts_fit(counts);
     if !fits {
         return 255;
     }
     let c = layout::config::config_of(numbers, counts);
-    let a = tier0::check_chunk(
-        c,
-        center,
-        scale,
-        pos,
-        aux,
-        rows,
+    let k = Header {
+        seq: 0,
+        t_emit: 0,
         horizon,
         dim,
         exec_steps,
-        out,
-    );
+    };
+    let a = tier0::check_chunk(c, center, scale, pos, aux, rows, k, out);
     crate::answer::put_check(a, marks, speed)
 }
 

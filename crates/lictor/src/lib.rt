@@ -21,9 +21,10 @@ ghost use Rattle.layout.specs.Trail.{trailOf};
 ghost use Rattle.layout.specs.Scores.{marksFit, scoresOf};
 ghost use Rattle.layout.specs.Config.{configOf, countsFit};
 ghost use Rattle.lictor.specs.Answer.{fitting, NumberGiven, FilledGiven, MaskGiven, RecordedGiven, CountGiven, EmptinessGiven, DerivedGiven, ScoredGiven, VerdictGiven, BinGiven};
-ghost use Rattle.lictor.specs.Asked.{bare, calibrationAsked};
+ghost use Rattle.lictor.specs.Asked.{bare, headerAsked, calibrationAsked};
 ghost use Rattle.lictor.specs.Environment.{environment};
 use chunk::ChunkBuf;
+use chunk::Header;
 use conformal::Calibration;
 use conformal::GateSpec;
 use window::Window;
@@ -104,18 +105,21 @@ pub extern "C" fn lictor_fill(
     exec_steps: u16,
     rows: &[f64],
 ) -> u64
-    ensures { λ r. ⌜ FilledGiven (fillOf (bare (now (numbers .entry))) seq «t_emit» horizon dim «exec_steps» (now (rows .entry))) r (now (numbers .entry)) (now (numbers .exit)) (now (header .entry)) (now (header .exit)) ⌝ }
+    ensures { λ r. ⌜ FilledGiven (fillOf (bare (now (numbers .entry)) (headerAsked seq «t_emit» horizon dim «exec_steps»)) (headerAsked seq «t_emit» horizon dim «exec_steps») (now (rows .entry))) r (now (numbers .entry)) (now (numbers .exit)) (now (header .entry)) (now (header .exit)) ⌝ }
 {
+    let k = Header {
+        seq,
+        t_emit,
+        horizon,
+        dim,
+        exec_steps,
+    };
     let old = ChunkBuf {
         data: *numbers,
-        seq: 0,
-        t_emit: 0,
-        horizon: 0,
-        dim: 0,
-        exec_steps: 0,
+        header: k,
         filled: false,
     };
-    let a = old.fill(seq, t_emit, horizon, dim, exec_steps, rows);
+    let a = old.fill(k, rows);
     answer::put_filled(a, numbers, header)
 }
 

@@ -5,14 +5,15 @@ ghost use lib.Dec.{eqb};
 ghost use lib.Ieee.{binary64};
 ghost use Rattle.conformal.specs.Of.{tables};
 ghost use Rattle.bits.specs.Choice.{if_then_else_};
+ghost use Rattle.layout.specs.Chunk.{headerFrom};
 ghost use Rattle.layout.specs.Config.{configOf, countsFit};
 ghost use Rattle.layout.specs.Scores.{marksFit, scoresOf};
 ghost use Rattle.layout.specs.State.{stateFits, stateOf};
 ghost use Rattle.tier1.specs.Of.{newRt, featuresOf, resetOf};
 ghost use Rattle.lictor.specs.Answer.{FeaturedGiven, StateLaid, ClearedGiven};
-ghost use Rattle.lictor.specs.Asked.{headAsked, rowsOver, headerSaid};
+ghost use Rattle.lictor.specs.Asked.{headerAsked, rowsOver};
+use chunk::Header;
 use conformal::Scores;
-use tier1::Head;
 use tier1::Tier1Rt;
 
 // Puts a chunk's numbers over the first ones of a buffer that has room for them.
@@ -25,20 +26,12 @@ fn put_rows(rows: &[f64], before: &mut [f64; 512])
 }
 
 // Puts the chunk before after a tick: the new one, where one came; else it stays.
-fn put_before(came: bool, k: Head, rows: &[f64], before: &mut [f64; 512], header: &mut [u64; 6])
-    ensures { λ _. ⌜ (now (before .exit) ≡ (if came then rowsOver (now (before .entry)) (now (rows .entry)) else now (before .entry))) × (now (header .exit) ≡ (if came then headerSaid k true else now (header .entry))) ⌝ }
+fn put_before(came: bool, k: Header, rows: &[f64], before: &mut [f64; 512], header: &mut [u64; 6])
+    ensures { λ _. ⌜ (now (before .exit) ≡ (if came then rowsOver (now (before .entry)) (now (rows .entry)) else now (before .entry))) × (now (header .exit) ≡ (if came then headerFrom k true else now (header .entry))) ⌝ }
 {
     if came {
         put_rows(rows, before);
-        layout::chunks::put_header(
-            k.seq,
-            k.t_emit,
-            k.horizon,
-            k.dim,
-            k.exec_steps,
-            true,
-            header,
-        );
+        layout::chunks::put_header(k, true, header);
     }
 }
 
@@ -66,7 +59,7 @@ pub extern "C" fn lictor_features(
     scores: &mut [f64; 25],
     marks: &mut [u64; 2],
 ) -> u64
-    ensures { λ r. ⌜ FeaturedGiven (countsFit (now (counts .entry)) && stateFits (now (header .entry)) (now (kept .entry)) && marksFit (now (marks .entry))) (not (eqb there 0)) (featuresOf binary64 (configOf (now (numbers .entry)) (now (counts .entry))) (tables (now (center .entry)) (now (scale .entry))) (now (pos .entry)) (now (ext .entry)) (not (eqb there 0)) (headAsked seq «t_emit» horizon dim «exec_steps») (now (rows .entry)) (stateOf (now (before .entry)) (now (header .entry)) (now (trail .entry)) (now (samples .entry)) (now (held .entry)) (now (kept .entry))) (scoresOf (now (scores .entry)) (now (marks .entry)))) r (now (before .entry)) (now (before .exit)) (now (header .entry)) (now (header .exit)) (now (held .entry)) (now (held .exit)) (now (kept .entry)) (now (kept .exit)) (now (scores .entry)) (now (scores .exit)) (now (marks .entry)) (now (marks .exit)) ⌝ }
+    ensures { λ r. ⌜ FeaturedGiven (countsFit (now (counts .entry)) && stateFits (now (header .entry)) (now (kept .entry)) && marksFit (now (marks .entry))) (not (eqb there 0)) (featuresOf binary64 (configOf (now (numbers .entry)) (now (counts .entry))) (tables (now (center .entry)) (now (scale .entry))) (now (pos .entry)) (now (ext .entry)) (not (eqb there 0)) (headerAsked seq «t_emit» horizon dim «exec_steps») (now (rows .entry)) (stateOf (now (before .entry)) (now (header .entry)) (now (trail .entry)) (now (samples .entry)) (now (held .entry)) (now (kept .entry))) (scoresOf (now (scores .entry)) (now (marks .entry)))) r (now (before .entry)) (now (before .exit)) (now (header .entry)) (now (header .exit)) (now (held .entry)) (now (held .exit)) (now (kept .entry)) (now (kept .exit)) (now (scores .entry)) (now (scores .exit)) (now (marks .entry)) (now (marks .exit)) ⌝ }
 {
     let config_fits = layout::config::counts_fit(counts);
     let state_fits = layout::states::state_fits(header, kept);
@@ -74,7 +67,7 @@ pub extern "C" fn lictor_features(
     let c = layout::config::config_of(numbers, counts);
     let rt = layout::states::state_of(before, header, trail, samples, held, kept);
     let sc = layout::scores::scores_of(scores, marks);
-    let k = Head {
+    let k = Header {
         seq,
         t_emit,
         horizon,

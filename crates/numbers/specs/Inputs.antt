@@ -11,6 +11,7 @@ use Rattle.checked.specs.Finite.{+0}
 use Rattle.fmath.specs.Answer.{sqrtAnswer}
 use Rattle.fmath.specs.declared.Number.{Number}
 use Rattle.fmath.specs.declared.Number.the-variants as number
+use Rattle.chunk.specs.declared.Header.{Header}
 use Rattle.window.specs.Rule.{hitsIn, maskFor}
 use Rattle.window.specs.Of.{emptyWindow, pushedOf}
 use Rattle.window.specs.declared.Window.{Window}
@@ -120,7 +121,8 @@ abbrev pub rowOf : ℕ → ℕ → List ℕ
 rowOf x y =
     let row = num x ∷ num y ∷ [] in
     let origin = +0 ∷ +0 ∷ [] in
-    checkTold (chunkAnswer binary64 plane tablesOf origin [] row 1 2 1 2) ++ map bits (chunkOut binary64 plane tablesOf origin [] row 1 2 1 origin)
+    let k : Header = record { seq = 0; «t_emit» = 0; horizon = 1; dim = 2; «exec_steps» = 1 } in
+    checkTold (chunkAnswer binary64 plane tablesOf origin [] row k 2) ++ map bits (chunkOut binary64 plane tablesOf origin [] row k origin)
 
 -- ---- window (R3): pushes in the order in which they come, with one window length n
 

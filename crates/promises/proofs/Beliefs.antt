@@ -13,6 +13,7 @@ use Rattle.refusal.specs.Chain.{chain, first-refuses}
 use Rattle.fmath.specs.Answer.{someNotFinite}
 use Rattle.checked.specs.Finite.{+0}
 use Rattle.chunk.specs.Refusals.{chunkReasons}
+use Rattle.chunk.specs.declared.Header.{Header}
 use Rattle.conformal.specs.Rule.{Tables}
 use Rattle.envelope.specs.Refusals.{configJudged}
 use Rattle.envelope.specs.declared.Contact.the-variants.{None}
@@ -34,11 +35,11 @@ use Rattle.promises.specs.Beliefs.{EmptyBoxSlowsNothing, OneChannelIs4, 
 
 -- ---- an empty contact box
 
-chunk-not-raised : (c : FuseConfig) (tabs : Tables) → c .contact ≡ None → (p aux rows : List Float) (h d e room : ℕ) → raised CONTACT (tripsIn (chunkAnswer binary64 c tabs p aux rows h d e room)) ≡ false
+chunk-not-raised : (c : FuseConfig) (tabs : Tables) → c .contact ≡ None → (p aux rows : List Float) (k : Header) (room : ℕ) → raised CONTACT (tripsIn (chunkAnswer binary64 c tabs p aux rows k room)) ≡ false
 unfolding chunkAnswer chunkRuling checksOf
-chunk-not-raised c tabs is p aux rows h d e room =
-    trips-raised CONTACT (chunkRefusal binary64 c tabs p aux rows h d e room) (chunkRuling binary64 c p aux rows h .value) refl
-    (no-contact-no-trip binary64 (checksOf binary64 c) p aux rows (replicate 512 +0) h is)
+chunk-not-raised c tabs is p aux rows k room =
+    trips-raised CONTACT (chunkRefusal binary64 c tabs p aux rows k room) (chunkRuling binary64 c p aux rows (k .horizon) .value) refl
+    (no-contact-no-trip binary64 (checksOf binary64 c) p aux rows (replicate 512 +0) (k .horizon) is)
 
 action-not-raised : (c : FuseConfig) (tabs : Tables) → c .contact ≡ None → (p aux prev a : List Float) (room : ℕ) → raised CONTACT (tripsIn (actionAnswer binary64 c tabs p aux prev a room)) ≡ false
 unfolding actionAnswer actionRuling checksOf
@@ -63,22 +64,22 @@ module _ (c : FuseConfig) (tabs : Tables) (four : refusal (configJudged binary64
   is-4 : (rest : List Judged) → chain (configJudged binary64 c tabs ++ rest) ≡ 4
   is-4 rest = first-refuses (configJudged binary64 c tabs) rest (λ z. let f : chain (configJudged binary64 c tabs) ≡ 4 = four in omega (arith, f, z)) ∙ four
 
-  chunk-4 : (p aux rows : List Float) (h d e room : ℕ) → chunkAnswer binary64 c tabs p aux rows h d e room ≡ check.Refused (refusedFor 4)
+  chunk-4 : (p aux rows : List Float) (k : Header) (room : ℕ) → chunkAnswer binary64 c tabs p aux rows k room ≡ check.Refused (refusedFor 4)
   unfolding chunkAnswer chunkRefusal
-  chunk-4 p aux rows h d e room =
-      ap (λ (n : ℕ). checked n (chunkRuling binary64 c p aux rows h .value))
-      (is-4 (chunkReasons h d e (length rows) ++ lentToChunk c p aux rows h d room ((computed when not (chunkRuling binary64 c p aux rows h .sound)) ∷ [])))
+  chunk-4 p aux rows k room =
+      ap (λ (n : ℕ). checked n (chunkRuling binary64 c p aux rows (k .horizon) .value))
+      (is-4 (chunkReasons k (length rows) ++ lentToChunk c p aux rows k room ((computed when not (chunkRuling binary64 c p aux rows (k .horizon) .sound)) ∷ [])))
 
   action-4 : (p aux prev a : List Float) (room : ℕ) → actionAnswer binary64 c tabs p aux prev a room ≡ check.Refused (refusedFor 4)
   unfolding actionAnswer actionRefusal
   action-4 p aux prev a room =
       ap (λ (n : ℕ). checked n (actionRuling binary64 c p aux prev a .value)) (is-4 (lentToAction c p aux prev a room ((computed when not (actionRuling binary64 c p aux prev a .sound)) ∷ [])))
 
-  forecast-4 : (p v rows : List Float) (h d e from room : ℕ) → forecastAnswer binary64 c tabs p v rows h d e from room ≡ forecast.Refused (refusedFor 4)
+  forecast-4 : (p v rows : List Float) (k : Header) (from room : ℕ) → forecastAnswer binary64 c tabs p v rows k from room ≡ forecast.Refused (refusedFor 4)
   unfolding forecastAnswer forecastRefusal
-  forecast-4 p v rows h d e from room =
-      let t = plan binary64 c p v rows h d from in
-      ap (λ (n : ℕ). foreseen n t) (is-4 (chunkReasons h d e (length rows) ++ (lentJudged binary64 c p v rows h d from room ++ ((computed when not (eqb (placeOf t) 0)) ∷ []))))
+  forecast-4 p v rows k from room =
+      let t = plan binary64 c p v rows k from in
+      ap (λ (n : ℕ). foreseen n t) (is-4 (chunkReasons k (length rows) ++ (lentJudged binary64 c p v rows k from room ++ ((computed when not (eqb (placeOf t) 0)) ∷ []))))
 
   brake-4 : (p v : List Float) (room : ℕ) → brakeAnswer binary64 c tabs p v room ≡ sent.Refused (refusedFor 4)
   unfolding brakeAnswer brakeRefusal

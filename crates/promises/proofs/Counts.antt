@@ -12,13 +12,14 @@ use Rattle.refusal.specs.Order.{refusal}
 use Rattle.bits.specs.Choice.{if_then_else_}
 use Rattle.checked.specs.Each.{at, all, every, every-from}
 use Rattle.checked.proofs.Each.{and-left, and-right}
+use Rattle.chunk.specs.declared.Header.{Header}
 use Rattle.chunk.specs.Refusals.{heldReasons}
 use Rattle.conformal.specs.Refusals.{sizesOk}
 use Rattle.envelope.specs.Refusals.{countsOk, channelsOk}
 use Rattle.layout.specs.Places.{count, in8, in16}
 use Rattle.layout.specs.Chunk.{chunkOf}
 use Rattle.layout.specs.Trail.{trailOf}
-use Rattle.promises.specs.Counts.{TrailCounts, GateCounts, StepCounts, ChannelCounts, HeaderCounts, HeaderKept, HeaderLetGo}
+use Rattle.promises.specs.Counts.{TrailCounts, GateCounts, StepCounts, ChannelCounts, cut, HeaderCounts, HeaderKept, HeaderLetGo}
 use Rattle.layout.specs.Config.{brakeOf, gateOf, calibrationOf, contactOf, channelOf, zoneOf, zoneFits}
 
 -- ---- a test against a number that the field holds is the same of a count x and of the cut one
@@ -138,19 +139,19 @@ pub channel-counts : ChannelCounts
 unfolding zoneOf zoneFits
 channel-counts n c h = channels-of (count c 5) (count c 6) (count c 7) (count c 21) (at n 9) (at n 10) h
 
--- ---- rows 5 to 9, and 12: a held chunk of h rows of d numbers, of which e are executed
+-- ---- rows 5 to 9, and 12: a held chunk
 
-header-by : (l : List Float) (h d e : ℕ) (x y z : Bool) → (eqb h 0 || eqb d 0) ≡ x → ltb 64 h ≡ y → ltb 8 d ≡ z → refusal (heldReasons l (in16 h) (in16 d) (in16 e)) ≡ refusal (heldReasons l h d e)
-header-by l h d e true y z p q r = rw (none h 65535 (omega arith), none d 65535 (omega arith), p)
-header-by l h d e false true z p q r = rw (none h 65535 (omega arith), none d 65535 (omega arith), p, at-least h 65535 65 (omega arith), q)
-header-by l h d e false false true p q r = rw (none h 65535 (omega arith), none d 65535 (omega arith), p, at-least h 65535 65 (omega arith), q, at-least d 65535 9 (omega arith), r)
-header-by l h d e false false false p q r =
-    let few = ltb-false 64 h q in
-    let thin = ltb-false 8 d r in
-    rw (min-eq-left {n = h} {m = 65535} (omega (arith, few)), min-eq-left {n = d} {m = 65535} (omega (arith, thin)), at-least e 65535 (suc h) (omega (arith, few)))
+header-by : (l : List Float) (k : Header) (x y z : Bool) → (eqb (k .horizon) 0 || eqb (k .dim) 0) ≡ x → ltb 64 (k .horizon) ≡ y → ltb 8 (k .dim) ≡ z → refusal (heldReasons l (cut k)) ≡ refusal (heldReasons l k)
+header-by l k true y z p q r = rw (none (k .horizon) 65535 (omega arith), none (k .dim) 65535 (omega arith), p)
+header-by l k false true z p q r = rw (none (k .horizon) 65535 (omega arith), none (k .dim) 65535 (omega arith), p, at-least (k .horizon) 65535 65 (omega arith), q)
+header-by l k false false true p q r = rw (none (k .horizon) 65535 (omega arith), none (k .dim) 65535 (omega arith), p, at-least (k .horizon) 65535 65 (omega arith), q, at-least (k .dim) 65535 9 (omega arith), r)
+header-by l k false false false p q r =
+    let few = ltb-false 64 (k .horizon) q in
+    let thin = ltb-false 8 (k .dim) r in
+    rw (min-eq-left {n = k .horizon} {m = 65535} (omega (arith, few)), min-eq-left {n = k .dim} {m = 65535} (omega (arith, thin)), at-least (k .«exec_steps») 65535 (suc (k .horizon)) (omega (arith, few)))
 
 pub header-counts : HeaderCounts
-header-counts l h d e = header-by l h d e (eqb h 0 || eqb d 0) (ltb 64 h) (ltb 8 d) refl refl refl
+header-counts l k = header-by l k (eqb (k .horizon) 0 || eqb (k .dim) 0) (ltb 64 (k .horizon)) (ltb 8 (k .dim)) refl refl refl
 
 -- ---- a header that is left as it came is the one of the entry's answer, where its counts fit: after a tick without a chunk, and after a reset
 

@@ -26,6 +26,7 @@ use Rattle.window.specs.declared.Recorded.{Recorded}
 use Rattle.window.specs.Rule.{maskRefusal, net, path}
 use Rattle.window.specs.Answer.{maskOf, outOfSize, unfit, trailReasons, pushReasons, netOf, pathOf, countOf, emptinessOf}
 use Rattle.window.specs.Of.{pushOf, clearOf}
+use Rattle.chunk.specs.declared.Header.{Header}
 use Rattle.conformal.specs.Refusals as calibration
 use Rattle.conformal.specs.declared.Calibration.{Calibration}
 use Rattle.conformal.specs.declared.Scores.{Scores}
@@ -36,7 +37,6 @@ use Rattle.envelope.specs.declared.FuseConfig.{FuseConfig}
 use Rattle.tier0.specs.Rule.{Judgement}
 use Rattle.tier0.specs.Refusals as checks
 use Rattle.tier0.specs.Of.{lentToAction, lentToChunk, actionRuling, actionRefusal, actionAnswer, chunkRuling, chunkRefusal, chunkAnswer}
-use Rattle.tier1.specs.declared.Head.{Head}
 use Rattle.tier1.specs.declared.Tier1Rt.{Tier1Rt}
 use Rattle.tier1.specs.Refusals.{none, prevJudged, stateJudged}
 use Rattle.tier1.specs.Of as tier1
@@ -77,15 +77,15 @@ dist-exactly f a b n = exactly _ (number-told _ _)
 
 -- ---- chunk (R2)
 
-pub chunk-refusal-exactly : (h d e n : ℕ) → Exactly (refusal (chunkReasons h d e n)) (among (chunkReasons h d e n))
-chunk-refusal-exactly h d e n = exactly _ refl
+pub chunk-refusal-exactly : (k : Header) (n : ℕ) → Exactly (refusal (chunkReasons k n)) (among (chunkReasons k n))
+chunk-refusal-exactly k n = exactly _ refl
 
 held-number : (b : ChunkBuf) → heldRefusalOf b ≡ given (prevJudged b)
 unfolding heldRefusalOf
 held-number b = go (b .filled)
   where
     held : List Judged
-    held = heldReasons (b .«data») (b .horizon) (b .dim) (b .«exec_steps»)
+    held = heldReasons (b .«data») (b .header)
 
     go : (filled : Bool) → (if filled then refusal held else 0) ≡ given (if filled then among held else none)
     go true = refl
@@ -107,9 +107,9 @@ pub is-filled-exactly : (b : ChunkBuf) → Exactly (holdingNumber (holdingOf b))
 unfolding holdingOf
 is-filled-exactly b = exactly _ (chosen holdingNumber (heldRefusalOf b) _ _ refl refl ∙ held-number b)
 
-pub fill-exactly : (b : ChunkBuf) (s t h d e : ℕ) (l : List Float) → Exactly (fillOf b s t h d e l .number) (among (lentReasons l h d e))
+pub fill-exactly : (b : ChunkBuf) (k : Header) (l : List Float) → Exactly (fillOf b k l .number) (among (lentReasons l k))
 unfolding fillOf
-fill-exactly b s t h d e l = exactly _ (chosen (λ (r : Filled). r .number) (refusal (lentReasons l h d e)) _ _ refl refl)
+fill-exactly b k l = exactly _ (chosen (λ (r : Filled). r .number) (refusal (lentReasons l k)) _ _ refl refl)
 
 -- ---- window (R3)
 
@@ -160,15 +160,15 @@ unfolding actionAnswer actionRefusal
 check-action-exactly c tabs p aux prev a room = exactly _ (check-told _ (actionRuling binary64 c p aux prev a .value))
 
 pub check-chunk-exactly :
-    (c : FuseConfig) (tabs : Tables) (p aux rows : List Float) (h d e room : ℕ)
-    → Exactly (checkNumber (chunkAnswer binary64 c tabs p aux rows h d e room)) (among (configJudged binary64 c tabs ++ (chunkReasons h d e (length rows) ++ lentToChunk c p aux rows h d room ((computed when not (chunkRuling binary64 c p aux rows h .sound)) ∷ []))))
+    (c : FuseConfig) (tabs : Tables) (p aux rows : List Float) (k : Header) (room : ℕ)
+    → Exactly (checkNumber (chunkAnswer binary64 c tabs p aux rows k room)) (among (configJudged binary64 c tabs ++ (chunkReasons k (length rows) ++ lentToChunk c p aux rows k room ((computed when not (chunkRuling binary64 c p aux rows (k .horizon) .sound)) ∷ []))))
 unfolding chunkAnswer chunkRefusal
-check-chunk-exactly c tabs p aux rows h d e room = exactly _ (check-told _ (chunkRuling binary64 c p aux rows h .value))
+check-chunk-exactly c tabs p aux rows k room = exactly _ (check-told _ (chunkRuling binary64 c p aux rows (k .horizon) .value))
 
 -- ---- tier1 (R6)
 
 pub features-exactly :
-    (c : FuseConfig) (tabs : Tables) (p ext : List Float) (there : Bool) (k : Head) (rows : List Float) (rt : Tier1Rt) (sc : Scores)
+    (c : FuseConfig) (tabs : Tables) (p ext : List Float) (there : Bool) (k : Header) (rows : List Float) (rt : Tier1Rt) (sc : Scores)
     → Exactly (tier1.featuresOf binary64 c tabs p ext there k rows rt sc .refusal .number) (tier1.judged binary64 c tabs p ext there k rows rt sc or among ((computed when not (tier1.ticked binary64 c tabs p ext there k rows rt sc .sound)) ∷ []))
 unfolding tier1.featuresOf tier1.featuresRefusal
 features-exactly c tabs p ext there k rows rt sc = exactly _ (told _)
@@ -204,16 +204,16 @@ forecast-told t n fine fails = go (eqb n 0) (eqb n 13) refl refl
     go false true a b = let e = eqb-true n 13 b in rw (opposite (eqb (placeOf t) 0) (fails e)) (sym e)
     go false false a b = refl
 
-module _ (c : FuseConfig) (tabs : Tables) (p v rows : List Float) (h d e from room : ℕ) where
+module _ (c : FuseConfig) (tabs : Tables) (p v rows : List Float) (k : Header) (from room : ℕ) where
   abbrev forecastJudged : List Judged
-  forecastJudged = configJudged binary64 c tabs ++ (chunkReasons h d e (length rows) ++ (lentJudged binary64 c p v rows h d from room ++ (computed when not (eqb (placeOf (plan binary64 c p v rows h d from)) 0) ∷ [])))
+  forecastJudged = configJudged binary64 c tabs ++ (chunkReasons k (length rows) ++ (lentJudged binary64 c p v rows k from room ++ (computed when not (eqb (placeOf (plan binary64 c p v rows k from)) 0) ∷ [])))
 
-  pub brake-feasible-exactly : Exactly (forecastNumber (forecastAnswer binary64 c tabs p v rows h d e from room)) (among forecastJudged)
+  pub brake-feasible-exactly : Exactly (forecastNumber (forecastAnswer binary64 c tabs p v rows k from room)) (among forecastJudged)
   unfolding forecastAnswer forecastRefusal
   brake-feasible-exactly =
       let none = exactly-none (among forecastJudged) .1 in
       let last = exactly-first (among forecastJudged) computed .1 in
-      exactly _ (forecast-told (plan binary64 c p v rows h d from) (refusal forecastJudged) (λ z. none z computed) (λ z. applied _ _ _ (last z)))
+      exactly _ (forecast-told (plan binary64 c p v rows k from) (refusal forecastJudged) (λ z. none z computed) (λ z. applied _ _ _ (last z)))
 
 sent-told : (n : ℕ) → sentNumber (sentAt n) ≡ n
 unfolding sentNumber

@@ -306,7 +306,7 @@ one-slack-within l a r s x y = unique
 pub one-check-action : OneWithLent check-action.Post (λ x. x .1 .1 .1 .1 .1 .1 .1 .0 .now)
 one-check-action l a r s x y = both
 
-pub one-check-chunk : OneWithLent check-chunk.Post (λ x. x .1 .1 .1 .1 .1 .1 .1 .1 .1 .0 .now)
+pub one-check-chunk : OneWithLent check-chunk.Post (λ x. x .1 .1 .1 .1 .1 .1 .1 .0 .now)
 one-check-chunk l a r s x y = both
 
 -- ---- tier1 (R6)
@@ -344,7 +344,7 @@ one-stopping-stop-distance l a r s x y = unique
 
 -- ---- brake (R7)
 
-pub one-brake-feasible : OneWithLent brake-feasible.Post (λ x. x .1 .1 .1 .1 .1 .1 .1 .1 .1 .1 .0 .now)
+pub one-brake-feasible : OneWithLent brake-feasible.Post (λ x. x .1 .1 .1 .1 .1 .1 .1 .1 .0 .now)
 one-brake-feasible l a r s x y = both
 
 pub one-brake-action : OneWithLent brake-action.Post (λ x. x .1 .1 .1 .1 .1 .0 .now)
@@ -424,7 +424,7 @@ one-header-fits l a r s x y = unique
 pub one-chunk-of : One chunk-of.Post (λ r x. r)
 one-chunk-of l a r s x y = unique
 
-pub one-put-header : One put-header.Post (λ r x. x .1 .1 .1 .1 .1 .1 .0 .now)
+pub one-put-header : One put-header.Post (λ r x. x .1 .1 .0 .now)
 one-put-header l a r s x y = unique
 
 pub one-put-chunk : BothLent put-chunk.Post (λ x. x .1 .0 .now) (λ x. x .1 .1 .0 .now)

@@ -17,6 +17,7 @@ use Rattle.window.specs.declared.Trail.{Trail}
 use Rattle.window.specs.declared.Recorded.{Recorded}
 use Rattle.window.specs.Answer.{trailReasons, pushReasons}
 use Rattle.window.specs.Of.{pushOf, clearOf}
+use Rattle.chunk.specs.declared.Header.{Header}
 use Rattle.conformal.specs.declared.Calibration.{Calibration}
 use Rattle.conformal.specs.declared.Scores.{Scores}
 use Rattle.conformal.specs.Answer.{judged, scored, standardsOf, standardised, aggregated}
@@ -25,7 +26,6 @@ use Rattle.envelope.specs.declared.FuseConfig.{FuseConfig}
 use Rattle.tier0.specs.Rule.{Judgement}
 use Rattle.tier0.specs.Refusals as checks
 use Rattle.tier0.specs.Of.{actionRuling, actionRefusal, actionAnswer, actionOut, chunkRuling, chunkRefusal, chunkAnswer, chunkOut}
-use Rattle.tier1.specs.declared.Head.{Head}
 use Rattle.tier1.specs.declared.Tier1Rt.{Tier1Rt}
 use Rattle.tier1.specs.Refusals.{stateJudged}
 use Rattle.tier1.specs.Of.{Tick, featuredAt, ticked, featuresRefusal, featuresOf, clearedAt, resetOf}
@@ -41,9 +41,9 @@ chosen-kept : {A B : Type 0} (told : A → ℕ) (part : A → B) (x : Bool) (new
 chosen-kept told part true new old z is = absurd (is z)
 chosen-kept told part false new old z is = refl
 
-fill-kept : (b : ChunkBuf) (seq t h d e : ℕ) (l : List Float) → Refuses (fillOf b seq t h d e l .number) → fillOf b seq t h d e l .buf ≡ b
+fill-kept : (b : ChunkBuf) (k : Header) (l : List Float) → Refuses (fillOf b k l .number) → fillOf b k l .buf ≡ b
 unfolding fillOf
-fill-kept b seq t h d e l = chosen-kept (λ (x : Filled). x .number) (λ (x : Filled). x .buf) (eqb (refusal (lentReasons l h d e)) 0) _ _ refl
+fill-kept b k l = chosen-kept (λ (x : Filled). x .number) (λ (x : Filled). x .buf) (eqb (refusal (lentReasons l k)) 0) _ _ refl
 
 chunk-clear-kept : (b : ChunkBuf) → Refuses (chunkClearOf b .number) → chunkClearOf b .buf ≡ b
 unfolding chunkClearOf
@@ -75,9 +75,9 @@ unfolding checkNumber
 checked-kept zero j k l is = absurd (is refl)
 checked-kept (suc n) j k l is = refl
 
-chunk-kept : (c : FuseConfig) (tabs : Tables) (p aux rows : List Float) (h d e : ℕ) (l : List Float) → Refuses (checkNumber (chunkAnswer binary64 c tabs p aux rows h d e (length l))) → chunkOut binary64 c tabs p aux rows h d e l ≡ l
+chunk-kept : (c : FuseConfig) (tabs : Tables) (p aux rows : List Float) (k : Header) (l : List Float) → Refuses (checkNumber (chunkAnswer binary64 c tabs p aux rows k (length l))) → chunkOut binary64 c tabs p aux rows k l ≡ l
 unfolding chunkAnswer chunkOut
-chunk-kept c tabs p aux rows h d e l = checked-kept (chunkRefusal binary64 c tabs p aux rows h d e (length l)) (chunkRuling binary64 c p aux rows h .value) _ l
+chunk-kept c tabs p aux rows k l = checked-kept (chunkRefusal binary64 c tabs p aux rows k (length l)) (chunkRuling binary64 c p aux rows (k .horizon) .value) _ l
 
 action-kept : (c : FuseConfig) (tabs : Tables) (p aux prev a l : List Float) → Refuses (checkNumber (actionAnswer binary64 c tabs p aux prev a (length l))) → actionOut binary64 c tabs p aux prev a l ≡ l
 unfolding actionAnswer actionOut
@@ -87,7 +87,7 @@ featured-kept : (n : ℕ) (x : Tick) (rt : Tier1Rt) (sc : Scores) → Refuses (f
 featured-kept zero x rt sc is = absurd (is refl)
 featured-kept (suc n) x rt sc is = (refl, refl)
 
-features-kept : (c : FuseConfig) (tabs : Tables) (p ext : List Float) (there : Bool) (k : Head) (rows : List Float) (rt : Tier1Rt) (sc : Scores) → Refuses (featuresOf binary64 c tabs p ext there k rows rt sc .refusal .number)
+features-kept : (c : FuseConfig) (tabs : Tables) (p ext : List Float) (there : Bool) (k : Header) (rows : List Float) (rt : Tier1Rt) (sc : Scores) → Refuses (featuresOf binary64 c tabs p ext there k rows rt sc .refusal .number)
     → (featuresOf binary64 c tabs p ext there k rows rt sc .rt ≡ rt) × (featuresOf binary64 c tabs p ext there k rows rt sc .scores ≡ sc)
 unfolding featuresOf
 features-kept c tabs p ext there k rows rt sc = featured-kept (featuresRefusal binary64 c tabs p ext there k rows rt sc) (ticked binary64 c tabs p ext there k rows rt sc .value) rt sc
@@ -131,10 +131,10 @@ slacks-kept n t l = go (eqb n 0 || eqb n 13)
     go true is not-13 = absurd (not-13 (comes-to t is))
     go false is not-13 = refl
 
-forecast-kept : (c : FuseConfig) (tabs : Tables) (p v rows : List Float) (h d e from : ℕ) (l : List Float) → Refuses (forecastNumber (forecastAnswer binary64 c tabs p v rows h d e from (length l)))
-    → (forecastNumber (forecastAnswer binary64 c tabs p v rows h d e from (length l)) ≡ 13 → ⊥) → forecastSlacks binary64 c tabs p v rows h d e from l ≡ l
+forecast-kept : (c : FuseConfig) (tabs : Tables) (p v rows : List Float) (k : Header) (from : ℕ) (l : List Float) → Refuses (forecastNumber (forecastAnswer binary64 c tabs p v rows k from (length l)))
+    → (forecastNumber (forecastAnswer binary64 c tabs p v rows k from (length l)) ≡ 13 → ⊥) → forecastSlacks binary64 c tabs p v rows k from l ≡ l
 unfolding forecastAnswer forecastSlacks
-forecast-kept c tabs p v rows h d e from l = slacks-kept (forecastRefusal binary64 c tabs p v rows h d e from (length l)) (plan binary64 c p v rows h d from) l
+forecast-kept c tabs p v rows k from l = slacks-kept (forecastRefusal binary64 c tabs p v rows k from (length l)) (plan binary64 c p v rows k from) l
 
 pub refusal-changes-nothing : RefusalChangesNothing
 refusal-changes-nothing = record {

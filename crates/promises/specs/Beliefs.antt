@@ -6,6 +6,7 @@ use mathlib.Core.List.{List}
 use lib.Ieee.{Float, lt, binary64}
 use Rattle.refusal.specs.Order.{refusal, refusedFor}
 use Rattle.checked.specs.Finite.{+0}
+use Rattle.chunk.specs.declared.Header.{Header}
 use Rattle.conformal.specs.Rule.{Tables}
 use Rattle.envelope.specs.Refusals.{sizesOk, numbersOk, stepsOk, configJudged}
 use Rattle.envelope.specs.declared.Contact.the-variants.{None, Zone}
@@ -22,9 +23,9 @@ use Rattle.brake.specs.declared.Sent.the-variants as sent
 
 -- "An empty contact box means slow everywhere": with no contact configured CONTACT is never raised, and a call answers and writes what it does with CONTACT unarmed
 pub record EmptyBoxSlowsNothing : Type 0 where
-  pub chunk-not-raised : (c : FuseConfig) (tabs : Tables) → c .contact ≡ None → (p aux rows : List Float) (h d e room : ℕ) → raised CONTACT (tripsIn (chunkAnswer binary64 c tabs p aux rows h d e room)) ≡ false
-  pub chunk-answer : (c : FuseConfig) (tabs : Tables) → c .contact ≡ None → (p aux rows : List Float) (h d e room : ℕ) → chunkAnswer binary64 (contactUnarmed c) tabs p aux rows h d e room ≡ chunkAnswer binary64 c tabs p aux rows h d e room
-  pub chunk-rows : (c : FuseConfig) (tabs : Tables) → c .contact ≡ None → (p aux rows : List Float) (h d e : ℕ) (l : List Float) → chunkOut binary64 (contactUnarmed c) tabs p aux rows h d e l ≡ chunkOut binary64 c tabs p aux rows h d e l
+  pub chunk-not-raised : (c : FuseConfig) (tabs : Tables) → c .contact ≡ None → (p aux rows : List Float) (k : Header) (room : ℕ) → raised CONTACT (tripsIn (chunkAnswer binary64 c tabs p aux rows k room)) ≡ false
+  pub chunk-answer : (c : FuseConfig) (tabs : Tables) → c .contact ≡ None → (p aux rows : List Float) (k : Header) (room : ℕ) → chunkAnswer binary64 (contactUnarmed c) tabs p aux rows k room ≡ chunkAnswer binary64 c tabs p aux rows k room
+  pub chunk-rows : (c : FuseConfig) (tabs : Tables) → c .contact ≡ None → (p aux rows : List Float) (k : Header) (l : List Float) → chunkOut binary64 (contactUnarmed c) tabs p aux rows k l ≡ chunkOut binary64 c tabs p aux rows k l
   pub action-not-raised : (c : FuseConfig) (tabs : Tables) → c .contact ≡ None → (p aux prev a : List Float) (room : ℕ) → raised CONTACT (tripsIn (actionAnswer binary64 c tabs p aux prev a room)) ≡ false
   pub action-answer : (c : FuseConfig) (tabs : Tables) → c .contact ≡ None → (p aux prev a : List Float) (room : ℕ) → actionAnswer binary64 (contactUnarmed c) tabs p aux prev a room ≡ actionAnswer binary64 c tabs p aux prev a room
   pub action-row : (c : FuseConfig) (tabs : Tables) → c .contact ≡ None → (p aux prev a l : List Float) → actionOut binary64 (contactUnarmed c) tabs p aux prev a l ≡ actionOut binary64 c tabs p aux prev a l
@@ -32,9 +33,9 @@ pub record EmptyBoxSlowsNothing : Type 0 where
 -- "Two arms may share camera channels": where 1, 2 and 3 do not apply, one channel for both coordinates of a zone is refused with 4 by the configuration's own judging, the checks, the forecast, brake and hold
 pub record OneChannelIs4 (c : FuseConfig) (tabs : Tables) : Type 0 where
   pub configuration-is-4 : refusal (configJudged binary64 c tabs) ≡ 4
-  pub chunk-is-4 : (p aux rows : List Float) (h d e room : ℕ) → chunkAnswer binary64 c tabs p aux rows h d e room ≡ check.Refused (refusedFor 4)
+  pub chunk-is-4 : (p aux rows : List Float) (k : Header) (room : ℕ) → chunkAnswer binary64 c tabs p aux rows k room ≡ check.Refused (refusedFor 4)
   pub action-is-4 : (p aux prev a : List Float) (room : ℕ) → actionAnswer binary64 c tabs p aux prev a room ≡ check.Refused (refusedFor 4)
-  pub forecast-is-4 : (p v rows : List Float) (h d e from room : ℕ) → forecastAnswer binary64 c tabs p v rows h d e from room ≡ forecast.Refused (refusedFor 4)
+  pub forecast-is-4 : (p v rows : List Float) (k : Header) (from room : ℕ) → forecastAnswer binary64 c tabs p v rows k from room ≡ forecast.Refused (refusedFor 4)
   pub brake-is-4 : (p v : List Float) (room : ℕ) → brakeAnswer binary64 c tabs p v room ≡ sent.Refused (refusedFor 4)
   pub hold-is-4 : (p : List Float) (room : ℕ) → holdAnswer binary64 c tabs p room ≡ sent.Refused (refusedFor 4)
 
@@ -43,7 +44,7 @@ OneChannelIsRefused = (c : FuseConfig) (tabs : Tables) (radius speed : Float) (i
 
 -- "Touching a limit trips it": where no limit is strictly exceeded nothing is raised, however many are touched
 pub record TouchingTripsNothing : Type 0 where
-  pub chunk-raises-nothing : (c : FuseConfig) (tabs : Tables) (p aux rows : List Float) (h d e room : ℕ) → ChunkWithin binary64 c p aux rows h → tripsIn (chunkAnswer binary64 c tabs p aux rows h d e room) ≡ 0
+  pub chunk-raises-nothing : (c : FuseConfig) (tabs : Tables) (p aux rows : List Float) (k : Header) (room : ℕ) → ChunkWithin binary64 c p aux rows (k .horizon) → tripsIn (chunkAnswer binary64 c tabs p aux rows k room) ≡ 0
   pub action-raises-nothing : (c : FuseConfig) (tabs : Tables) (p aux prev a : List Float) (room : ℕ) → ActionWithin binary64 c p aux prev a → tripsIn (actionAnswer binary64 c tabs p aux prev a room) ≡ 0
 
 -- "The stopping forecast inspects where the arm stands now": an accepted one is feasible exactly when no slack after k substeps is negative, with k at least 1

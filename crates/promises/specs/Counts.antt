@@ -8,6 +8,7 @@ use lib.Dec.{leb, ltb, eqb}
 use lib.Ieee.{Float}
 use Rattle.refusal.specs.Order.{refusal}
 use Rattle.checked.specs.Each.{at, all, every}
+use Rattle.chunk.specs.declared.Header.{Header}
 use Rattle.chunk.specs.Refusals.{heldReasons}
 use Rattle.chunk.specs.Of.{clearedOf}
 use Rattle.window.specs.Rule.{flag}
@@ -35,9 +36,12 @@ StepCounts = (n : List Float) (c : List ℕ) → countsOk (brakeOf n c) ≡ ever
 abbrev pub ChannelCounts : Type 0
 ChannelCounts = (n : List Float) (c : List ℕ) → (eqb (count c 5) 0 || zoneFits c) ≡ true → channelsOk (zoneOf n c) (count c 21) ≡ channelsOk (contactOf (count c 5) (at n 9) (at n 10) (count c 6) (count c 7)) (count c 21)
 
--- a held chunk of h rows of d numbers, of which e are executed
+-- a held chunk: its sizes, each cut to its field
+abbrev pub cut : Header → Header
+cut k = record { seq = k .seq; «t_emit» = k .«t_emit»; horizon = in16 (k .horizon); dim = in16 (k .dim); «exec_steps» = in16 (k .«exec_steps») }
+
 abbrev pub HeaderCounts : Type 0
-HeaderCounts = (l : List Float) (h d e : ℕ) → refusal (heldReasons l (in16 h) (in16 d) (in16 e)) ≡ refusal (heldReasons l h d e)
+HeaderCounts = (l : List Float) (k : Header) → refusal (heldReasons l (cut k)) ≡ refusal (heldReasons l k)
 
 -- a header that is left as it came is that of the entry's answer, where its counts fit
 abbrev pub HeaderKept : Type 0

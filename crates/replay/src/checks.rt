@@ -4,9 +4,9 @@ use crate::config::unread;
 use crate::record::Numbers;
 use crate::record::Words;
 use crate::record::exact;
+use crate::record::header;
 use crate::record::part;
-use chunk::held_rows;
-use layout::places::to_u16;
+use crate::record::rows_of;
 use sample::agrees;
 use tier0::Tier0Out;
 
@@ -42,10 +42,9 @@ pub(crate) fn check_chunk_agrees(w: &Words, x: &Numbers) -> bool {
     let t = unread();
     let pos = part(x, 58, w[57]);
     let aux = part(x, 67, w[66]);
-    let h = to_u16(w[76]);
-    let d = to_u16(w[0]);
-    let rows = held_rows(part(x, 77, 32), h, d, true);
+    let k = header(0, w[76], w[0]);
+    let rows = rows_of(x, 77, k);
     let mut out = [0.0; 32];
-    let a = tier0::check_chunk(c, &t, &t, pos, aux, rows, h, d, 0, &mut out);
+    let a = tier0::check_chunk(c, &t, &t, pos, aux, rows, k, &mut out);
     is_check(a, w[109], w[110], x[111]) & agrees(part(x, 112, 32), &out)
 }

@@ -4,15 +4,13 @@ use crate::config::unread;
 use crate::record::Numbers;
 use crate::record::Words;
 use crate::record::exact;
+use crate::record::header;
 use crate::record::part;
+use crate::record::rows_of;
 use crate::record::within;
 use chunk::ChunkBuf;
-use chunk::held_rows;
 use conformal::Scores;
-use layout::places::to_u16;
-use layout::places::to_u32;
 use sample::agrees;
-use tier1::Head;
 use tier1::Tier1Rt;
 use window::Trail;
 
@@ -36,16 +34,8 @@ fn kept(w: &Words, x: &Numbers) -> ChunkBuf {
     if w[250] == 0 {
         return none;
     }
-    let h = to_u16(w[252]);
-    let d = to_u16(w[253]);
-    let filled = none.fill(
-        0,
-        to_u32(w[251]),
-        h,
-        d,
-        0,
-        held_rows(part(x, 254, 32), h, d, true),
-    );
+    let k = header(w[251], w[252], w[253]);
+    let filled = none.fill(k, rows_of(x, 254, k));
     filled.buf
 }
 
@@ -80,14 +70,8 @@ pub(crate) fn features_agree(w: &Words, x: &Numbers) -> bool {
     let rt = state(w, x);
     let pos = part(x, 287, w[286]);
     let ext = part(x, 296, w[295]);
-    let head = Head {
-        seq: 0,
-        t_emit: to_u32(w[304]),
-        horizon: to_u16(w[305]),
-        dim: to_u16(w[0]),
-        exec_steps: 0,
-    };
-    let rows = held_rows(part(x, 306, 32), head.horizon, head.dim, true);
+    let k = header(w[304], w[305], w[0]);
+    let rows = rows_of(x, 306, k);
     let none = Scores {
         f: [0.0; 12],
         z: [0.0; 12],
@@ -95,6 +79,6 @@ pub(crate) fn features_agree(w: &Words, x: &Numbers) -> bool {
         valid: 0,
         fired: 0,
     };
-    let a = tier1::features(c, &t, &t, rt, pos, ext, true, head, rows, none);
+    let a = tier1::features(c, &t, &t, rt, pos, ext, true, k, rows, none);
     (a.refusal.number == 0) & is_featured(a.scores, a.rt, w, x)
 }

@@ -1,5 +1,8 @@
 // A record of the sample: its words, by their places in tests/oracle-sample/README.md, and the numbers that they stand for.
 ghost use Prim.Native.Nat.{_≤_};
+use chunk::Header;
+use layout::places::to_u16;
+use layout::places::to_u32;
 
 // A word that is no part of the record is 0.
 pub(crate) type Words = [u64; 358];
@@ -38,6 +41,22 @@ pub(crate) fn part(x: &Numbers, at: u16, n: u64) -> &[f64] {
     let from = within(at as u64, 358);
     let end = from + within(n, 358 - from);
     &all[from..end]
+}
+
+// What a record says of a chunk besides its rows: when it was emitted, and its sizes; no row of it is executed.
+pub(crate) fn header(t_emit: u64, horizon: u64, dim: u64) -> Header {
+    Header {
+        seq: 0,
+        t_emit: to_u32(t_emit),
+        horizon: to_u16(horizon),
+        dim: to_u16(dim),
+        exec_steps: 0,
+    }
+}
+
+// The rows of a chunk, from word at on.
+pub(crate) fn rows_of(x: &Numbers, at: u16, k: Header) -> &[f64] {
+    chunk::held_rows(part(x, at, 32), k.horizon, k.dim, true)
 }
 
 // A count of an answer as a number. One of more than 32 bits is none, and agrees with nothing.

@@ -4,11 +4,11 @@ use crate::config::unread;
 use crate::record::Numbers;
 use crate::record::Words;
 use crate::record::exact;
+use crate::record::header;
 use crate::record::part;
+use crate::record::rows_of;
 use brake::BrakeOut;
 use brake::Sent;
-use chunk::held_rows;
-use layout::places::to_u16;
 use sample::agrees;
 
 // Whether an answer has the verdict, margin, stop distance and count of entries from word 110 on.
@@ -37,12 +37,11 @@ pub(crate) fn forecast_agrees(w: &Words, x: &Numbers) -> bool {
     let t = unread();
     let pos = part(x, 58, w[57]);
     let vel = part(x, 67, w[66]);
-    let h = to_u16(w[76]);
-    let d = to_u16(w[0]);
-    let rows = held_rows(part(x, 77, 32), h, d, true);
+    let k = header(0, w[76], w[0]);
+    let rows = rows_of(x, 77, k);
     let from = w[109] as usize;
     let mut slack = [0.0; 32];
-    let a = brake::brake_feasible(c, &t, &t, pos, vel, rows, h, d, 0, from, &mut slack);
+    let a = brake::brake_feasible(c, &t, &t, pos, vel, rows, k, from, &mut slack);
     is_forecast(a, w, x) & agrees(part(x, 114, 32), &slack)
 }
 

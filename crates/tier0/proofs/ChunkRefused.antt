@@ -22,6 +22,7 @@ use Rattle.checked.proofs.Each.{neither}
 use Rattle.checked.proofs.Copy.{all-put}
 use Rattle.chunk.specs.Refusals.{chunkReasons}
 use Rattle.chunk.proofs.Judged.{Accepted, sizes-accepted, accepted-fits}
+use Rattle.chunk.specs.declared.Header.{Header}
 use Rattle.conformal.specs.Rule.{Tables}
 use Rattle.envelope.specs.Refusals.{configJudged}
 use Rattle.envelope.specs.declared.FuseConfig.{FuseConfig}
@@ -54,7 +55,13 @@ sized-checks f c p rows h room e w = rw e (w .narrow, w .pos, w .some, w .few, w
 
 -- ---- the whole answer
 
-module _ (f : Format) (c : FuseConfig) (t : Tables) (p aux rows : List Float) (h d e : ℕ) where
+module _ (f : Format) (c : FuseConfig) (t : Tables) (p aux rows : List Float) (k : Header) where
+  abbrev h : ℕ
+  h = k .horizon
+
+  abbrev d : ℕ
+  d = k .dim
+
   abbrev broad : Bool
   broad = not (eqb d (c .dim))
 
@@ -65,19 +72,19 @@ module _ (f : Format) (c : FuseConfig) (t : Tables) (p aux rows : List Float) (h
   unfit = someLentNotFinite (p ∷ aux ∷ rows ∷ [])
 
   abbrev sizes : List Judged
-  sizes = chunkReasons h d e (length rows)
+  sizes = chunkReasons k (length rows)
 
   abbrev lent : ℕ → List Judged
-  lent room = lentToChunk c p aux rows h d room []
+  lent room = lentToChunk c p aux rows k room []
 
   -- what is judged before anything is computed
   abbrev before : ℕ → List Judged
   before room = configJudged f c t ++ (sizes ++ lent room)
 
-  pub before-is : (room : ℕ) {k s q i r : ℕ} → k ≡ refusal (configJudged f c t) → s ≡ refusal sizes → q ≡ refusal (lent room) → i ≡ orLater s q → r ≡ orLater k i → r ≡ refusal (before room)
-  before-is room ek es eq ei er = joined (configJudged f c t) (sizes ++ lent room) ek (joined sizes (lent room) es eq ei) er
+  pub before-is : (room : ℕ) {n s q i r : ℕ} → n ≡ refusal (configJudged f c t) → s ≡ refusal sizes → q ≡ refusal (lent room) → i ≡ orLater s q → r ≡ orLater n i → r ≡ refusal (before room)
+  before-is room en es eq ei er = joined (configJudged f c t) (sizes ++ lent room) en (joined sizes (lent room) es eq ei) er
 
-  known-sizes : (room : ℕ) → c .dim ≤ 8 → Accepted h d e (length rows) → d ≡ c .dim → brief room ≡ false → Sized c p rows h room
+  known-sizes : (room : ℕ) → c .dim ≤ 8 → Accepted k (length rows) → d ≡ c .dim → brief room ≡ false → Sized c p rows h room
   unfolding chunkTooShort
   known-sizes room narrow w ed g =
       let all-of : length rows ≡ h * c .dim = rw (← ed) (w .all-there) in
@@ -99,14 +106,14 @@ module _ (f : Format) (c : FuseConfig) (t : Tables) (p aux rows : List Float) (h
       let passed = both-pass sizes (lent room) (config .1) in
       let unfit-last = (notFinite when unfit) ∷ [] in
       let wide = passes-at width (broad) ((short when brief room) ∷ unfit-last) (passed .1) in
-      known-sizes room (dim-most f c t (accepted f c t (config .0))) (sizes-accepted h d e (length rows) (passed .0)) (eqb-true d (c .dim) (not-false (eqb d (c .dim)) (wide .0))) (passes-at short (brief room) unfit-last (wide .1) .0)
+      known-sizes room (dim-most f c t (accepted f c t (config .0))) (sizes-accepted k (length rows) (passed .0)) (eqb-true d (c .dim) (not-false (eqb d (c .dim)) (wide .0))) (passes-at short (brief room) unfit-last (wide .1) .0)
 
   abbrev ruling : Checked Judgement
   ruling = chunkRuling f c p aux rows h
 
   module _ (l : List Float) where
     abbrev number : ℕ
-    number = chunkRefusal f c t p aux rows h d e (length l)
+    number = chunkRefusal f c t p aux rows k (length l)
 
     abbrev written : List Float
     written = over (at (ruling .value .after .rows)) l (h * c .dim)
@@ -116,13 +123,13 @@ module _ (f : Format) (c : FuseConfig) (t : Tables) (p aux rows : List Float) (h
     number-is = refl
 
     whole : {r : Tier0Out} {m : List Float} → Answered Refused (passedFor (ruling .value)) l written number r m
-        → (r ≡ chunkAnswer f c t p aux rows h d e (length l)) × (m ≡ chunkOut f c t p aux rows h d e l)
+        → (r ≡ chunkAnswer f c t p aux rows k (length l)) × (m ≡ chunkOut f c t p aux rows k l)
     unfolding chunkAnswer chunkOut
     whole w = (w .gives, w .leaves)
 
-    pub lent-refused : (k : ℕ) → k ≡ refusal (before (length l)) → (k ≡ 0 → ⊥) → {r : Refusal} → r ≡ refusedFor k
-        → (Refused r ≡ chunkAnswer f c t p aux rows h d e (length l)) × (l ≡ chunkOut f c t p aux rows h d e l)
-    lent-refused k g y i = whole (by-lent Refused (passedFor (ruling .value)) l written (before (length l)) (ruling .sound) number-is g y i)
+    pub lent-refused : (n : ℕ) → n ≡ refusal (before (length l)) → (n ≡ 0 → ⊥) → {r : Refusal} → r ≡ refusedFor n
+        → (Refused r ≡ chunkAnswer f c t p aux rows k (length l)) × (l ≡ chunkOut f c t p aux rows k l)
+    lent-refused n g y i = whole (by-lent Refused (passedFor (ruling .value)) l written (before (length l)) (ruling .sound) number-is g y i)
 
     module _ (g : refusal (before (length l)) ≡ 0) {s : Checks} {v : JudgedChunk} {m z : List Float} (es : s ≡ checksOf f c) (em : m ≡ replicate 512 +0)
         (ev : (v ≡ judgedChunkFrom (checkChunk f s p aux rows m h)) × (z ≡ checkChunk f s p aux rows m h .value .after .rows)) where
@@ -137,11 +144,11 @@ module _ (f : Format) (c : FuseConfig) (t : Tables) (p aux rows : List Float) (h
       sound-is : v .sound ≡ ruling .sound
       sound-is = ap (λ (x : JudgedChunk). x .sound) ruled
 
-      pub not-sound : v .sound ≡ false → {r : Refusal} → r ≡ refusedFor 13 → (Refused r ≡ chunkAnswer f c t p aux rows h d e (length l)) × (l ≡ chunkOut f c t p aux rows h d e l)
+      pub not-sound : v .sound ≡ false → {r : Refusal} → r ≡ refusedFor 13 → (Refused r ≡ chunkAnswer f c t p aux rows k (length l)) × (l ≡ chunkOut f c t p aux rows k l)
       not-sound y i = whole (by-computed Refused (passedFor (ruling .value)) l written (before (length l)) (ruling .sound) number-is g sound-is y i)
 
-      pub passes : v .sound ≡ true → {o : List Float} {k : ℕ} → o ≡ over (at z) l (min (h * c .dim) (min k (length l))) → 512 ≤ k
-          → (Passed (v .trips) (v .mask) (v .peak) ≡ chunkAnswer f c t p aux rows h d e (length l)) × (o ≡ chunkOut f c t p aux rows h d e l)
+      pub passes : v .sound ≡ true → {o : List Float} {n : ℕ} → o ≡ over (at z) l (min (h * c .dim) (min n (length l))) → 512 ≤ n
+          → (Passed (v .trips) (v .mask) (v .peak) ≡ chunkAnswer f c t p aux rows k (length l)) × (o ≡ chunkOut f c t p aux rows k l)
       passes y i b =
           let w = accepted-sizes (length l) g in
           let whole-rows = all-put l z (le-trans (w .small) b) (w .out) i in

@@ -15,6 +15,7 @@ use Rattle.envelope.specs.declared.ClampMode.{ClampMode}
 use Rattle.envelope.specs.declared.ClampMode.the-variants.{Off, Project}
 use Rattle.envelope.specs.declared.Contact.the-variants.{None}
 use Rattle.envelope.specs.declared.FuseConfig.{FuseConfig}
+use Rattle.chunk.specs.declared.Header.{Header}
 use Rattle.conformal.specs.Rule.{Tables}
 use Rattle.envelope.specs.Refusals.{sizesOk, numbersFrom, stepsOk}
 use Rattle.tier0.specs.declared.Checks.{Checks}
@@ -154,20 +155,23 @@ module _ (f : Format) (c : FuseConfig) (t : Tables) (none : c .contact ≡ None)
   unfolding checksOf
   still-none = none
 
-  module _ (p aux rows : List Float) (h d e : ℕ) where
+  module _ (p aux rows : List Float) (k : Header) where
+    abbrev h : ℕ
+    h = k .horizon
+
     chunk-ruled : chunkRuling f (contactUnarmed c) p aux rows h ≡ chunkRuling f c p aux rows h
     unfolding chunkRuling
     chunk-ruled = rw quiet-checks (same-chunk f (checksOf f c) p aux still-none rows (replicate 512 +0) h)
 
-    chunk-refused : (room : ℕ) → chunkRefusal f (contactUnarmed c) t p aux rows h d e room ≡ chunkRefusal f c t p aux rows h d e room
+    chunk-refused : (room : ℕ) → chunkRefusal f (contactUnarmed c) t p aux rows k room ≡ chunkRefusal f c t p aux rows k room
     unfolding chunkRefusal sizesOk numbersFrom stepsOk
     chunk-refused room = rw chunk-ruled
 
-    pub no-contact-chunk-answer : (room : ℕ) → chunkAnswer f (contactUnarmed c) t p aux rows h d e room ≡ chunkAnswer f c t p aux rows h d e room
+    pub no-contact-chunk-answer : (room : ℕ) → chunkAnswer f (contactUnarmed c) t p aux rows k room ≡ chunkAnswer f c t p aux rows k room
     unfolding chunkAnswer
     no-contact-chunk-answer room = rw (chunk-refused room, chunk-ruled)
 
-    pub no-contact-chunk-rows : (l : List Float) → chunkOut f (contactUnarmed c) t p aux rows h d e l ≡ chunkOut f c t p aux rows h d e l
+    pub no-contact-chunk-rows : (l : List Float) → chunkOut f (contactUnarmed c) t p aux rows k l ≡ chunkOut f c t p aux rows k l
     unfolding chunkOut
     no-contact-chunk-rows l = rw (chunk-refused (length l), chunk-ruled)
 
@@ -192,14 +196,14 @@ module _ (f : Format) (c : FuseConfig) (t : Tables) (none : c .contact ≡ None)
 
 pub promised : Promised
 promised = record {
-  chunk-may-touch = λ f c t p aux rows h d e room. record {
-    workspace-touched = chunk-workspace-touched f c t p aux rows h d e room;
-    speed-touched = chunk-speed-touched f c t p aux rows h d e room;
-    contact-touched = chunk-contact-touched f c t p aux rows h d e room;
-    accel-touched = chunk-accel-touched f c t p aux rows h d e room;
-    jerk-touched = chunk-jerk-touched f c t p aux rows h d e room;
-    reach-touched = chunk-reach-touched f c t p aux rows h d e room;
-    all-touched = chunk-touched f c t p aux rows h d e room;
+  chunk-may-touch = λ f c t p aux rows k room. record {
+    workspace-touched = chunk-workspace-touched f c t p aux rows k room;
+    speed-touched = chunk-speed-touched f c t p aux rows k room;
+    contact-touched = chunk-contact-touched f c t p aux rows k room;
+    accel-touched = chunk-accel-touched f c t p aux rows k room;
+    jerk-touched = chunk-jerk-touched f c t p aux rows k room;
+    reach-touched = chunk-reach-touched f c t p aux rows k room;
+    all-touched = chunk-touched f c t p aux rows k room;
   };
   action-may-touch = λ f c t p aux prev a room. record {
     workspace-touched = action-workspace-touched f c t p aux prev a room;

@@ -13,6 +13,7 @@ use Rattle.checked.specs.Checked.{Checked, pure}
 use Rattle.fmath.specs.Norm.{dist}
 use Rattle.workspace.specs.Of.{wallsOf}
 use Rattle.workspace.specs.Rule.{outside, beyond}
+use Rattle.chunk.specs.declared.Header.{Header}
 use Rattle.conformal.specs.Rule.{Tables}
 use Rattle.envelope.specs.declared.FuseConfig.{FuseConfig}
 use Rattle.tier0.specs.declared.Checks.{Checks}
@@ -64,16 +65,19 @@ trips-none (suc n) j h = refl
 
 -- ---- a chunk
 
-module _ (f : Format) (c : FuseConfig) (t : Tables) (p aux rows : List Float) (h d e room : ℕ) where
+module _ (f : Format) (c : FuseConfig) (t : Tables) (p aux rows : List Float) (k : Header) (room : ℕ) where
+  abbrev h : ℕ
+  h = k .horizon
+
   abbrev s : Checks
   s = checksOf f c
 
   abbrev trips : ℕ
-  trips = tripsIn (chunkAnswer f c t p aux rows h d e room)
+  trips = tripsIn (chunkAnswer f c t p aux rows k room)
 
   from-rule : (w : ℕ) → raised w 0 ≡ false → raised w (chunkTrips f s p aux rows (replicate 512 +0) h) ≡ false → raised w trips ≡ false
   unfolding chunkAnswer chunkRuling
-  from-rule w none = trips-raised w (chunkRefusal f c t p aux rows h d e room) (chunkRuling f c p aux rows h .value) none
+  from-rule w none = trips-raised w (chunkRefusal f c t p aux rows k room) (chunkRuling f c p aux rows h .value) none
 
   not-out : ChunkInBox f c p aux rows h → someOutOfBox f s rows h .value ≡ false
   unfolding someOutOfBox someOf
@@ -129,7 +133,7 @@ module _ (f : Format) (c : FuseConfig) (t : Tables) (p aux rows : List Float) (h
 
   pub chunk-touched : ChunkWithin f c p aux rows h → trips ≡ 0
   unfolding chunkAnswer chunkRuling
-  chunk-touched w = trips-none (chunkRefusal f c t p aux rows h d e room) (chunkRuling f c p aux rows h .value) (none-tripped w)
+  chunk-touched w = trips-none (chunkRefusal f c t p aux rows k room) (chunkRuling f c p aux rows h .value) (none-tripped w)
 
 -- ---- an action
 

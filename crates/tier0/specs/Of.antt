@@ -11,6 +11,7 @@ use Rattle.checked.specs.Finite.{+0}
 use Rattle.checked.specs.Checked.{Checked}
 use Rattle.checked.specs.Of.{testFrom}
 use Rattle.chunk.specs.Refusals.{chunkReasons}
+use Rattle.chunk.specs.declared.Header.{Header}
 use Rattle.conformal.specs.Rule.{Tables}
 use Rattle.envelope.specs.Derive.{derived}
 use Rattle.envelope.specs.Refusals.{configJudged}
@@ -123,28 +124,28 @@ module _ (f : Format) (c : FuseConfig) (t : Tables) (p aux prev a : List Float) 
 
 -- ---- check_chunk
 
-module _ (c : FuseConfig) (p aux rows : List Float) (h d : ℕ) where
+module _ (c : FuseConfig) (p aux rows : List Float) (k : Header) where
   -- 10, 11 and 12, where the output has so much room
   abbrev pub lentToChunk : ℕ → List Judged → List Judged
   lentToChunk room l =
-      (width when not (eqb d (c .dim)))
-      ∷ (short when chunkTooShort (c .«pos_dim») (length p) (h * d) room)
+      (width when not (eqb (k .dim) (c .dim)))
+      ∷ (short when chunkTooShort (c .«pos_dim») (length p) (k .horizon * k .dim) room)
       ∷ (notFinite when someLentNotFinite (p ∷ aux ∷ rows ∷ [])) ∷ l
 
 module _ (f : Format) (c : FuseConfig) (p aux rows : List Float) (h : ℕ) where
   unfoldable pub chunkRuling : Checked Judgement
   chunkRuling = checkChunk f (checksOf f c) p aux rows (replicate 512 +0) h
 
-module _ (f : Format) (c : FuseConfig) (t : Tables) (p aux rows : List Float) (h d e : ℕ) where
+module _ (f : Format) (c : FuseConfig) (t : Tables) (p aux rows : List Float) (k : Header) where
   abbrev ruled : Checked Judgement
-  ruled = chunkRuling f c p aux rows h
+  ruled = chunkRuling f c p aux rows (k .horizon)
 
   -- the number of the refusal, 0 where there is none
   unfoldable pub chunkRefusal : ℕ → ℕ
-  chunkRefusal room = refusal (configJudged f c t ++ (chunkReasons h d e (length rows) ++ lentToChunk c p aux rows h d room ((computed when not (ruled .sound)) ∷ [])))
+  chunkRefusal room = refusal (configJudged f c t ++ (chunkReasons k (length rows) ++ lentToChunk c p aux rows k room ((computed when not (ruled .sound)) ∷ [])))
 
   unfoldable pub chunkAnswer : ℕ → Tier0Out
   chunkAnswer room = answerAt (chunkRefusal room) (ruled .value)
 
   unfoldable pub chunkOut : List Float → List Float
-  chunkOut l = outAt (chunkRefusal (length l)) (ruled .value) (h * c .dim) l
+  chunkOut l = outAt (chunkRefusal (length l)) (ruled .value) (k .horizon * c .dim) l

@@ -15,6 +15,7 @@ use Rattle.checked.specs.Checked.{Checked, each, pure}
 use Rattle.fmath.specs.Norm.{norm, dist}
 use Rattle.workspace.specs.Of.{wallsOf}
 use Rattle.workspace.specs.Rule.{Walls, beyond}
+use Rattle.chunk.specs.declared.Header.{Header}
 use Rattle.conformal.specs.Rule.{Tables}
 use Rattle.envelope.specs.declared.Contact.the-variants.{None, Zone}
 use Rattle.envelope.specs.Promises.{armedBy}
@@ -184,14 +185,14 @@ UnarmedChunk = (f : Format) (s : Checks) → s .armed ≡ 0 → (p aux rows l : 
 -- ---- all of it
 
 -- a limit that is not exceeded is not raised by `check_chunk`, and where none is exceeded nothing is
-pub record ChunkTouched (f : Format) (c : FuseConfig) (t : Tables) (p aux rows : List Float) (h d e room : ℕ) : Type 0 where
-  pub workspace-touched : ChunkInBox f c p aux rows h → raised WORKSPACE (tripsIn (chunkAnswer f c t p aux rows h d e room)) ≡ false
-  pub speed-touched : ChunkSlowEnough f c p aux rows h → raised SPEED (tripsIn (chunkAnswer f c t p aux rows h d e room)) ≡ false
-  pub contact-touched : ChunkSlowInZone f c p aux rows h → raised CONTACT (tripsIn (chunkAnswer f c t p aux rows h d e room)) ≡ false
-  pub accel-touched : ChunkBendsLittle f c p aux rows h → raised ACCEL (tripsIn (chunkAnswer f c t p aux rows h d e room)) ≡ false
-  pub jerk-touched : ChunkJoltsLittle f c p aux rows h → raised JERK (tripsIn (chunkAnswer f c t p aux rows h d e room)) ≡ false
-  pub reach-touched : ChunkInReach f c p aux rows → raised REACH (tripsIn (chunkAnswer f c t p aux rows h d e room)) ≡ false
-  pub all-touched : ChunkWithin f c p aux rows h → tripsIn (chunkAnswer f c t p aux rows h d e room) ≡ 0
+pub record ChunkTouched (f : Format) (c : FuseConfig) (t : Tables) (p aux rows : List Float) (k : Header) (room : ℕ) : Type 0 where
+  pub workspace-touched : ChunkInBox f c p aux rows (k .horizon) → raised WORKSPACE (tripsIn (chunkAnswer f c t p aux rows k room)) ≡ false
+  pub speed-touched : ChunkSlowEnough f c p aux rows (k .horizon) → raised SPEED (tripsIn (chunkAnswer f c t p aux rows k room)) ≡ false
+  pub contact-touched : ChunkSlowInZone f c p aux rows (k .horizon) → raised CONTACT (tripsIn (chunkAnswer f c t p aux rows k room)) ≡ false
+  pub accel-touched : ChunkBendsLittle f c p aux rows (k .horizon) → raised ACCEL (tripsIn (chunkAnswer f c t p aux rows k room)) ≡ false
+  pub jerk-touched : ChunkJoltsLittle f c p aux rows (k .horizon) → raised JERK (tripsIn (chunkAnswer f c t p aux rows k room)) ≡ false
+  pub reach-touched : ChunkInReach f c p aux rows → raised REACH (tripsIn (chunkAnswer f c t p aux rows k room)) ≡ false
+  pub all-touched : ChunkWithin f c p aux rows (k .horizon) → tripsIn (chunkAnswer f c t p aux rows k room) ≡ 0
 
 -- a limit that is not exceeded is not raised by `check_action`, and where none is exceeded nothing is
 pub record ActionTouched (f : Format) (c : FuseConfig) (t : Tables) (p aux prev a : List Float) (room : ℕ) : Type 0 where
@@ -203,13 +204,13 @@ pub record ActionTouched (f : Format) (c : FuseConfig) (t : Tables) (p aux prev 
 
 -- with no contact configured, a call answers and writes what it does with CONTACT unarmed
 pub record AsUnarmed (f : Format) (c : FuseConfig) (t : Tables) : Type 0 where
-  pub same-chunk-answer : (p aux rows : List Float) (h d e room : ℕ) → chunkAnswer f (contactUnarmed c) t p aux rows h d e room ≡ chunkAnswer f c t p aux rows h d e room
-  pub same-chunk-rows : (p aux rows : List Float) (h d e : ℕ) (l : List Float) → chunkOut f (contactUnarmed c) t p aux rows h d e l ≡ chunkOut f c t p aux rows h d e l
+  pub same-chunk-answer : (p aux rows : List Float) (k : Header) (room : ℕ) → chunkAnswer f (contactUnarmed c) t p aux rows k room ≡ chunkAnswer f c t p aux rows k room
+  pub same-chunk-rows : (p aux rows : List Float) (k : Header) (l : List Float) → chunkOut f (contactUnarmed c) t p aux rows k l ≡ chunkOut f c t p aux rows k l
   pub same-action-answer : (p aux prev a : List Float) (room : ℕ) → actionAnswer f (contactUnarmed c) t p aux prev a room ≡ actionAnswer f c t p aux prev a room
   pub same-action-row : (p aux prev a l : List Float) → actionOut f (contactUnarmed c) t p aux prev a l ≡ actionOut f c t p aux prev a l
 
 pub record Promised : Type 0 where
-  pub chunk-may-touch : (f : Format) (c : FuseConfig) (t : Tables) (p aux rows : List Float) (h d e room : ℕ) → ChunkTouched f c t p aux rows h d e room
+  pub chunk-may-touch : (f : Format) (c : FuseConfig) (t : Tables) (p aux rows : List Float) (k : Header) (room : ℕ) → ChunkTouched f c t p aux rows k room
   pub action-may-touch : (f : Format) (c : FuseConfig) (t : Tables) (p aux prev a : List Float) (room : ℕ) → ActionTouched f c t p aux prev a room
   pub no-contact-as-unarmed : (f : Format) (c : FuseConfig) (t : Tables) → c .contact ≡ None → AsUnarmed f c t
   pub chunk-raised : (f : Format) (s : Checks) (p aux rows l : List Float) (h : ℕ) → ChunkRaised f s p aux rows l h

@@ -22,6 +22,7 @@ use crate::trips::too_large;
 use crate::trips::trip_bits;
 use crate::zone::slow_zone;
 use checked::Test;
+use chunk::Header;
 use envelope::ClampMode;
 use envelope::Contact;
 use envelope::Derived;
@@ -270,30 +271,18 @@ pub fn check_chunk(
     pos: &[f64],
     aux: &[f64],
     rows: &[f64],
-    horizon: u16,
-    dim: u16,
-    exec_steps: u16,
+    header: Header,
     out: &mut [f64],
 ) -> Tier0Out
-    ensures { λ r. ⌜ (r ≡ chunkAnswer binary64 c (tables (now (center .entry)) (now (scale .entry))) (now (pos .entry)) (now (aux .entry)) (now (rows .entry)) horizon dim «exec_steps» (length (now (out .entry)))) × (now (out .exit) ≡ chunkOut binary64 c (tables (now (center .entry)) (now (scale .entry))) (now (pos .entry)) (now (aux .entry)) (now (rows .entry)) horizon dim «exec_steps» (now (out .entry))) ⌝ }
+    ensures { λ r. ⌜ (r ≡ chunkAnswer binary64 c (tables (now (center .entry)) (now (scale .entry))) (now (pos .entry)) (now (aux .entry)) (now (rows .entry)) header (length (now (out .entry)))) × (now (out .exit) ≡ chunkOut binary64 c (tables (now (center .entry)) (now (scale .entry))) (now (pos .entry)) (now (aux .entry)) (now (rows .entry)) header (now (out .entry))) ⌝ }
 {
     let compiled = envelope::compile(c, center, scale);
-    let number = chunk_refusal(
-        c,
-        compiled.number,
-        pos,
-        aux,
-        rows,
-        horizon,
-        dim,
-        exec_steps,
-        out.len(),
-    );
+    let number = chunk_refusal(c, compiled.number, pos, aux, rows, header, out.len());
     if number != 0 {
         return Tier0Out::Refused(Refusal::of(number));
     }
     let s = checks_of(c, compiled.derived);
-    let h = horizon as usize;
+    let h = header.horizon as usize;
     let mut all = [0.0; 512];
     let v = judge_chunk(s, pos, aux, rows, h, &mut all);
     if !v.sound {

@@ -10,6 +10,7 @@ ghost use Rattle.conformal.specs.Rule.{Tables};
 ghost use Rattle.envelope.specs.Refusals.{configJudged};
 ghost use Rattle.tier0.specs.Refusals.{tooShort, chunkTooShort};
 ghost use Rattle.tier0.specs.Of.{lentToAction, lentToChunk};
+use chunk::Header;
 use envelope::FuseConfig;
 use refusal::Refusal;
 
@@ -62,14 +63,13 @@ fn rows_refusal(
     pos: &[f64],
     aux: &[f64],
     rows: &[f64],
-    horizon: u16,
-    dim: u16,
+    header: Header,
     room: usize,
 ) -> u8
-    ensures { λ r. ⌜ r ≡ refusal (lentToChunk c (now (pos .entry)) (now (aux .entry)) (now (rows .entry)) horizon dim room []) ⌝ }
+    ensures { λ r. ⌜ r ≡ refusal (lentToChunk c (now (pos .entry)) (now (aux .entry)) (now (rows .entry)) header room []) ⌝ }
 {
-    let h = horizon as usize;
-    let d = dim as usize;
+    let h = header.horizon as usize;
+    let d = header.dim as usize;
     let short = chunk_too_short(c.pos_dim, pos.len(), h * d, room);
     let unfit = fmath::some_not_finite(pos, aux, rows);
     let numbers = Refusal::when(Refusal::NOT_FINITE, unfit, 0);
@@ -84,14 +84,12 @@ pub(crate) fn chunk_refusal(
     pos: &[f64],
     aux: &[f64],
     rows: &[f64],
-    horizon: u16,
-    dim: u16,
-    exec_steps: u16,
+    header: Header,
     room: usize,
 ) -> u8
-    ensures { λ r. ⌜ ((t : Tables) → number ≡ refusal (configJudged binary64 c t) → r ≡ refusal (configJudged binary64 c t ++ (chunkReasons horizon dim «exec_steps» (length (now (rows .entry))) ++ lentToChunk c (now (pos .entry)) (now (aux .entry)) (now (rows .entry)) horizon dim room []))) ⌝ }
+    ensures { λ r. ⌜ ((t : Tables) → number ≡ refusal (configJudged binary64 c t) → r ≡ refusal (configJudged binary64 c t ++ (chunkReasons header (length (now (rows .entry))) ++ lentToChunk c (now (pos .entry)) (now (aux .entry)) (now (rows .entry)) header room []))) ⌝ }
 {
-    let sizes = chunk::chunk_refusal(horizon, dim, exec_steps, rows.len());
-    let lent = rows_refusal(c, pos, aux, rows, horizon, dim, room);
+    let sizes = chunk::chunk_refusal(header, rows.len());
+    let lent = rows_refusal(c, pos, aux, rows, header, room);
     Refusal::or_later(number, Refusal::or_later(sizes, lent))
 }

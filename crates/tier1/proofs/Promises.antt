@@ -12,13 +12,13 @@ use Rattle.refusal.specs.Order.{refusedFor}
 use Rattle.checked.specs.Each.{table}
 use Rattle.checked.proofs.Each.{table-at}
 use Rattle.bits.specs.Bits.{bit, bitsWhere}
+use Rattle.chunk.specs.declared.Header.{Header}
 use Rattle.conformal.specs.Feat.{TCE, ACC, ACM-NEG, NJR, REACH, SPEED-PEAK, PATH-INEFF, EXT0}
 use Rattle.conformal.specs.declared.Scores.{Scores}
 use Rattle.bits.proofs.Bits.{bit-where, no-bit-past}
 use Rattle.envelope.specs.Derive.{kept}
 use Rattle.window.specs.declared.Trail.{Trail}
 use Rattle.envelope.specs.declared.FuseConfig.{FuseConfig}
-use Rattle.tier1.specs.declared.Head.{Head}
 use Rattle.tier1.specs.declared.Tier1Rt.{Tier1Rt}
 use Rattle.tier1.specs.Rule.{PE-WINDOW, boxDims, boundaryAt, boundaryBits, moving, validAt, valueAt, twelve}
 use Rattle.tier1.proofs.Ticks.{chunk-keeps-trail}
@@ -33,7 +33,7 @@ module _ (fm : Format) (x : Given) (rt : Tier1Rt) (sc : Scores) where
   ext = x .externals
 
   abbrev found : Tick
-  found = ticked fm c (x .tables) (x .position) ext (x .came) (x .head) (x .rows) rt sc .value
+  found = ticked fm c (x .tables) (x .position) ext (x .came) (x .header) (x .rows) rt sc .value
 
   -- a call that passes gives the rule's state, and its features in the scores
   passed-is : number fm x rt sc ≡ 0 → answer fm x rt sc ≡ record { refusal = refusedFor 0; rt = found .rt; scores = scoresWith (found .found) sc }
@@ -50,7 +50,7 @@ module _ (fm : Format) (x : Given) (rt : Tier1Rt) (sc : Scores) where
 
   same-trail : found .rt .trail ≡ rt .trail
   unfolding ticked tick
-  same-trail = chunk-keeps-trail fm (manifestOf fm c) (x .position) (x .head) (x .rows) rt (x .came)
+  same-trail = chunk-keeps-trail fm (manifestOf fm c) (x .position) (x .header) (x .rows) rt (x .came)
 
   trail-kept : answer fm x rt sc .rt .trail ≡ rt .trail
   unfolding featuresOf
@@ -113,7 +113,7 @@ module _ (fm : Format) (x : Given) (rt : Tier1Rt) (sc : Scores) where
 
 module _ (fm : Format) (x : Given) (rt : Tier1Rt) (sc : Scores) (there : x .came ≡ true) (e : number fm x rt sc ≡ 0) where
   abbrev holds : ℕ → Bool
-  holds = boundaryAt (common fm x rt sc) (x .head .horizon) (boxDims (manifestOf fm (x .config)) (x .position))
+  holds = boundaryAt (common fm x rt sc) (x .header .horizon) (boxDims (manifestOf fm (x .config)) (x .position))
 
   chunk-bit : (j : ℕ) → j < 6 → bit (answer fm x rt sc .scores .valid) j ≡ holds j
   unfolding validAt ticked tick afterChunk boundaryBits
@@ -135,14 +135,14 @@ module _ (fm : Format) (x : Given) (rt : Tier1Rt) (sc : Scores) (there : x .came
 
 state-kept : (fm : Format) (x : Given) (rt : Tier1Rt) (sc : Scores) → x .came ≡ false → answer fm x rt sc .rt ≡ rt
 unfolding featuresOf ticked tick afterChunk
-state-kept fm x rt sc e = rw e (go (featuresRefusal fm (x .config) (x .tables) (x .position) (x .externals) false (x .head) (x .rows) rt sc))
+state-kept fm x rt sc e = rw e (go (featuresRefusal fm (x .config) (x .tables) (x .position) (x .externals) false (x .header) (x .rows) rt sc))
   where
-    go : (n : ℕ) → featuredAt n (tick fm (manifestOf fm (x .config)) (x .position) (x .externals) false (x .head) (x .rows) rt .value) rt sc .rt ≡ rt
+    go : (n : ℕ) → featuredAt n (tick fm (manifestOf fm (x .config)) (x .position) (x .externals) false (x .header) (x .rows) rt .value) rt sc .rt ≡ rt
     go zero = refl
     go (suc n) = refl
 
 -- the features are those of the state, whatever else is lent
-from-state : (fm : Format) (x : Given) (k : Head) (rows : List Float) (rt : Tier1Rt) (sc : Scores) → number fm (quiet x k rows) rt sc ≡ 0
+from-state : (fm : Format) (x : Given) (k : Header) (rows : List Float) (rt : Tier1Rt) (sc : Scores) → number fm (quiet x k rows) rt sc ≡ 0
     → answer fm (quiet x k rows) rt sc .scores ≡ scoresWith (twelve fm (manifestOf fm (x .config)) (rt .trail) (rt .held) (rt .«held_valid») (x .externals) .value) sc
 unfolding ticked tick afterChunk
 from-state fm x k rows rt sc e = rw (passed-is fm (quiet x k rows) rt sc e)

@@ -17,6 +17,7 @@ use Rattle.checked.proofs.Each.{neither}
 use Rattle.chunk.specs.Refusals.{chunkReasons, lentReasons, heldReasons}
 use Rattle.chunk.specs.Of.{heldRefusalOf}
 use Rattle.chunk.specs.declared.ChunkBuf.{ChunkBuf}
+use Rattle.chunk.specs.declared.Header.{Header}
 use Rattle.chunk.proofs.Judged as sizes
 use Rattle.window.specs.Answer.{outOfSize, unfit, trailReasons}
 use Rattle.conformal.specs.Rule.{Tables}
@@ -25,20 +26,19 @@ use Rattle.conformal.specs.declared.Scores.{Scores}
 use Rattle.envelope.specs.Refusals.{configJudged}
 use Rattle.envelope.specs.declared.FuseConfig.{FuseConfig}
 use Rattle.envelope.proofs.Accepted as config
-use Rattle.tier1.specs.declared.Head.{Head}
 use Rattle.tier1.specs.declared.Tier1Rt.{Tier1Rt}
 use Rattle.tier1.specs.Refusals.{none, newJudged, prevJudged, stateJudged, someNotFiniteIn, lentJudged}
 use Rattle.tier1.specs.Of.{judged}
 
 -- ---- a new chunk
 
-module _ (there : Bool) (k : Head) (n dim : ℕ) where
+module _ (there : Bool) (k : Header) (n dim : ℕ) where
   pub none-new : there ≡ false → 0 ≡ given (newJudged there k n dim)
   none-new e = rw e
 
-  pub new-is : there ≡ true → {s w r : ℕ} → s ≡ refusal (chunkReasons (k .horizon) (k .dim) (k .«exec_steps») n) → w ≡ (if not (eqb (k .dim) dim) then 10 else 0) → r ≡ earlier s w → r ≡ given (newJudged there k n dim)
+  pub new-is : there ≡ true → {s w r : ℕ} → s ≡ refusal (chunkReasons k n) → w ≡ (if not (eqb (k .dim) dim) then 10 else 0) → r ≡ earlier s w → r ≡ given (newJudged there k n dim)
   new-is e es ew er =
-      rw e (er ∙ rw (es, ew) (sym (given-or (among (chunkReasons (k .horizon) (k .dim) (k .«exec_steps») n)) (among ((width when not (eqb (k .dim) dim)) ∷ [])))))
+      rw e (er ∙ rw (es, ew) (sym (given-or (among (chunkReasons k n)) (among ((width when not (eqb (k .dim) dim)) ∷ [])))))
 
 -- ---- the state
 
@@ -46,7 +46,7 @@ prev-number : (b : ChunkBuf) → heldRefusalOf b ≡ given (prevJudged b)
 unfolding heldRefusalOf
 prev-number b = go (b .filled)
   where
-    go : (t : Bool) → (if t then refusal (heldReasons (b .«data») (b .horizon) (b .dim) (b .«exec_steps»)) else 0) ≡ given (if t then among (heldReasons (b .«data») (b .horizon) (b .dim) (b .«exec_steps»)) else none)
+    go : (t : Bool) → (if t then refusal (heldReasons (b .«data») (b .header)) else 0) ≡ given (if t then among (heldReasons (b .«data») (b .header)) else none)
     go true = refl
     go false = refl
 
@@ -65,7 +65,7 @@ pub lent-is : (p ext : List Float) (there : Bool) (rows : List Float) (sc : Scor
 unfolding someNotFiniteIn
 lent-is p ext there rows sc ek el em en = rw (ek, el, em, en)
 
-module _ (fm : Format) (c : FuseConfig) (tabs : Tables) (p ext : List Float) (there : Bool) (k : Head) (rows : List Float) (rt : Tier1Rt) (sc : Scores) where
+module _ (fm : Format) (c : FuseConfig) (tabs : Tables) (p ext : List Float) (there : Bool) (k : Header) (rows : List Float) (rt : Tier1Rt) (sc : Scores) where
   abbrev all-judged : Reason → Bool
   all-judged = judged fm c tabs p ext there k rows rt sc
 
@@ -81,7 +81,7 @@ module _ (fm : Format) (c : FuseConfig) (tabs : Tables) (p ext : List Float) (th
   pub no-leftover : all-judged leftover ≡ false
   no-leftover = go there (rt .prev .filled)
     where
-      go : (t u : Bool) → ((if t then among (chunkReasons (k .horizon) (k .dim) (k .«exec_steps») (length rows)) or among ((width when not (eqb (k .dim) (c .dim))) ∷ []) else none) leftover || ((if u then among (heldReasons (rt .prev .«data») (rt .prev .horizon) (rt .prev .dim) (rt .prev .«exec_steps»)) else none) leftover || false || false)) ≡ false
+      go : (t u : Bool) → ((if t then among (chunkReasons k (length rows)) or among ((width when not (eqb (k .dim) (c .dim))) ∷ []) else none) leftover || ((if u then among (heldReasons (rt .prev .«data») (rt .prev .header)) else none) leftover || false || false)) ≡ false
       go true true = refl
       go true false = refl
       go false true = refl
@@ -102,16 +102,15 @@ no-10 true e = absurd (omega arith)
 no-10 false e = refl
 
 -- the chunk before lies in its buffer
-prev-fits : (b : ChunkBuf) → given (prevJudged b) ≡ 0 → b .filled ≡ true → (b .horizon ≤ 64) × (b .horizon * b .dim ≤ 512)
+prev-fits : (b : ChunkBuf) → given (prevJudged b) ≡ 0 → b .filled ≡ true → (b .header .horizon ≤ 64) × (b .header .horizon * b .header .dim ≤ 512)
 prev-fits b e t =
-    let n = b .horizon * b .dim in
-    let z : refusal (heldReasons (b .«data») (b .horizon) (b .dim) (b .«exec_steps»)) ≡ 0 = rw t at e in
-    let s : refusal (chunkReasons (b .horizon) (b .dim) (b .«exec_steps») n) ≡ 0
-    = zero-or-not _ (λ f. sizes.refused-by-sizes (b .horizon) (b .dim) (b .«exec_steps») n _ (allFinite (b .«data») n) refl f ∙ z) in
-    let w = sizes.sizes-accepted (b .horizon) (b .dim) (b .«exec_steps») n s in
+    let n = b .header .horizon * b .header .dim in
+    let z : refusal (heldReasons (b .«data») (b .header)) ≡ 0 = rw t at e in
+    let s : refusal (chunkReasons (b .header) n) ≡ 0 = zero-or-not _ (λ f. sizes.refused-by-sizes (b .header) n _ (allFinite (b .«data») n) refl f ∙ z) in
+    let w = sizes.sizes-accepted (b .header) n s in
     (w .not-long, sizes.accepted-fits w)
 
-module _ (fm : Format) (c : FuseConfig) (tabs : Tables) (p ext : List Float) (there : Bool) (k : Head) (rows : List Float) (rt : Tier1Rt) (sc : Scores) {r : ℕ} (er : r ≡ given (judged fm c tabs p ext there k rows rt sc)) (ez : r ≡ 0) where
+module _ (fm : Format) (c : FuseConfig) (tabs : Tables) (p ext : List Float) (there : Bool) (k : Header) (rows : List Float) (rt : Tier1Rt) (sc : Scores) {r : ℕ} (er : r ≡ given (judged fm c tabs p ext there k rows rt sc)) (ez : r ≡ 0) where
   parts : (refusal (configJudged fm c tabs) ≡ 0) × ((given (newJudged there k (length rows) (c .dim)) ≡ 0) × ((given (stateJudged rt) ≡ 0) × (given (lentJudged p ext there rows sc) ≡ 0)))
   parts =
       let u = neither-applies (among (configJudged fm c tabs)) (newJudged there k (length rows) (c .dim) or (stateJudged rt or lentJudged p ext there rows sc)) (sym er ∙ ez) in
@@ -131,13 +130,13 @@ module _ (fm : Format) (c : FuseConfig) (tabs : Tables) (p ext : List Float) (th
       not-false (allFinite rows (length rows)) (rw t at g)
 
   -- a new chunk could be filled in, and is as wide as dim
-  pub new-fits : there ≡ true → (refusal (lentReasons rows (k .horizon) (k .dim) (k .«exec_steps»)) ≡ 0) × (k .dim ≡ c .dim)
+  pub new-fits : there ≡ true → (refusal (lentReasons rows k) ≡ 0) × (k .dim ≡ c .dim)
   new-fits t =
-      let g : given (among (chunkReasons (k .horizon) (k .dim) (k .«exec_steps») (length rows)) or among ((width when not (eqb (k .dim) (c .dim))) ∷ [])) ≡ 0 = rw t at (parts .1 .0) in
-      let w = neither-applies (among (chunkReasons (k .horizon) (k .dim) (k .«exec_steps») (length rows))) (among ((width when not (eqb (k .dim) (c .dim))) ∷ [])) g in
-      (sym (sizes.accepted (k .horizon) (k .dim) (k .«exec_steps») (length rows) _ (allFinite rows (length rows)) refl (w .0) (rows-finite t)), eqb-true (k .dim) (c .dim) (not-false (eqb (k .dim) (c .dim)) (no-10 (not (eqb (k .dim) (c .dim))) (w .1))))
+      let g : given (among (chunkReasons k (length rows)) or among ((width when not (eqb (k .dim) (c .dim))) ∷ [])) ≡ 0 = rw t at (parts .1 .0) in
+      let w = neither-applies (among (chunkReasons k (length rows))) (among ((width when not (eqb (k .dim) (c .dim))) ∷ [])) g in
+      (sym (sizes.accepted k (length rows) _ (allFinite rows (length rows)) refl (w .0) (rows-finite t)), eqb-true (k .dim) (c .dim) (not-false (eqb (k .dim) (c .dim)) (no-10 (not (eqb (k .dim) (c .dim))) (w .1))))
 
-  pub before-fits : rt .prev .filled ≡ true → (rt .prev .horizon ≤ 64) × (rt .prev .horizon * rt .prev .dim ≤ 512)
+  pub before-fits : rt .prev .filled ≡ true → (rt .prev .header .horizon ≤ 64) × (rt .prev .header .horizon * rt .prev .header .dim ≤ 512)
   before-fits =
       let u = neither-applies (among (trailReasons (rt .trail))) (prevJudged (rt .prev) or among ((notFinite when not (allFinite (rt .held) 6)) ∷ [])) (parts .1 .1 .0) in
       let v = neither-applies (prevJudged (rt .prev)) (among ((notFinite when not (allFinite (rt .held) 6)) ∷ [])) (u .1) in

@@ -14,6 +14,7 @@ use Rattle.refusal.proofs.Joint.{neither-applies, refused-first, only-computed}
 use Rattle.chunk.specs.Refusals.{lentReasons}
 use Rattle.chunk.specs.Of.{heldOf, fillOf}
 use Rattle.chunk.specs.declared.ChunkBuf.{ChunkBuf}
+use Rattle.chunk.specs.declared.Header.{Header}
 use Rattle.chunk.specs.declared.Filled.{Filled}
 use Rattle.chunk.proofs.Judged.{lent-accepted, accepted-fits}
 use Rattle.conformal.specs.Rule.{Tables}
@@ -23,7 +24,6 @@ use Rattle.envelope.specs.declared.Derived.{Derived}
 use Rattle.envelope.specs.declared.FuseConfig.{FuseConfig}
 use Rattle.tier1.specs.declared.Manifest.{Manifest}
 use Rattle.tier1.specs.declared.Kept.{Kept}
-use Rattle.tier1.specs.declared.Head.{Head}
 use Rattle.tier1.specs.declared.SixFeatures.{SixFeatures}
 use Rattle.tier1.specs.declared.AllFeatures.{AllFeatures}
 use Rattle.tier1.specs.declared.Tier1Rt.{Tier1Rt}
@@ -38,11 +38,11 @@ use Rattle.tier1.proofs.Ready.{no-leftover, new-fits}
 -- ---- the state after a chunk
 
 -- an accepted chunk is copied in
-filled-is : (b : ChunkBuf) (s t h d e : ℕ) (l : List Float) → refusal (lentReasons l h d e) ≡ 0 → {r : Filled} → r ≡ fillOf b s t h d e l → r .buf ≡ heldOf b s t h d e l
+filled-is : (b : ChunkBuf) (k : Header) (l : List Float) → refusal (lentReasons l k) ≡ 0 → {r : Filled} → r ≡ fillOf b k l → r .buf ≡ heldOf b k l
 unfolding fillOf
-filled-is b s t h d e l z er = rw (er, eq-eqb (refusal (lentReasons l h d e)) 0 z)
+filled-is b k l z er = rw (er, eq-eqb (refusal (lentReasons l k)) 0 z)
 
-module _ (fm : Format) (m : Manifest) (p : List Float) (k : Head) (rows : List Float) (rt : Tier1Rt) (there : Bool) where
+module _ (fm : Format) (m : Manifest) (p : List Float) (k : Header) (rows : List Float) (rt : Tier1Rt) (there : Bool) where
   pub no-chunk : there ≡ false → _≡_ {A = SixFeatures} (record { held = rt .held; valid = rt .«held_valid»; sound = true }) (heldFrom (afterChunk fm m p there k rows rt))
   unfolding afterChunk
   no-chunk e = rw e
@@ -65,7 +65,7 @@ module _ (fm : Format) (m : Manifest) (p : List Float) (k : Head) (rows : List F
   -- a chunk replaces the one before
   pub chunk-replaces : afterChunk fm m p there k rows rt .value
       ≡ record {
-        prev = if there then heldOf (rt .prev) (k .seq) (k .«t_emit») (k .horizon) (k .dim) (k .«exec_steps») rows else rt .prev;
+        prev = if there then heldOf (rt .prev) k rows else rt .prev;
         «have_prev» = there || rt .«have_prev»;
         trail = rt .trail;
         held = afterChunk fm m p there k rows rt .value .held;
@@ -76,7 +76,7 @@ module _ (fm : Format) (m : Manifest) (p : List Float) (k : Head) (rows : List F
     where
       go : (t : Bool) → afterChunk fm m p t k rows rt .value
           ≡ record {
-            prev = if t then heldOf (rt .prev) (k .seq) (k .«t_emit») (k .horizon) (k .dim) (k .«exec_steps») rows else rt .prev;
+            prev = if t then heldOf (rt .prev) k rows else rt .prev;
             «have_prev» = t || rt .«have_prev»;
             trail = rt .trail;
             held = afterChunk fm m p t k rows rt .value .held;
@@ -86,9 +86,9 @@ module _ (fm : Format) (m : Manifest) (p : List Float) (k : Head) (rows : List F
       go false = refl
 
   -- what the features of a chunk ask for
-  pub chunk-fits : m .dim ≤ 8 → (refusal (lentReasons rows (k .horizon) (k .dim) (k .«exec_steps»)) ≡ 0) × (k .dim ≡ m .dim) → (m .dim ≤ 8) × ((0 < k .horizon) × ((k .horizon ≤ 64) × (k .horizon * m .dim ≤ length rows)))
+  pub chunk-fits : m .dim ≤ 8 → (refusal (lentReasons rows k) ≡ 0) × (k .dim ≡ m .dim) → (m .dim ≤ 8) × ((0 < k .horizon) × ((k .horizon ≤ 64) × (k .horizon * m .dim ≤ length rows)))
   chunk-fits n w =
-      let a = lent-accepted rows (k .horizon) (k .dim) (k .«exec_steps») (w .0) .0 in
+      let a = lent-accepted rows k (w .0) .0 in
       let e : length rows ≡ k .horizon * m .dim = rw (w .1) at (a .all-there) in
       (n, (a .some-rows, (a .not-long, omega arith)))
 
@@ -117,7 +117,7 @@ at-number : (n : ℕ) → (n ≡ 0 → ⊥) → (x : Tick) (rt : Tier1Rt) (sc : 
 at-number zero f x rt sc = absurd (f refl)
 at-number (suc n) f x rt sc = refl
 
-module _ (fm : Format) (c : FuseConfig) (tabs : Tables) (p ext : List Float) (there : Bool) (k : Head) (rows : List Float) (rt : Tier1Rt) (sc : Scores) where
+module _ (fm : Format) (c : FuseConfig) (tabs : Tables) (p ext : List Float) (there : Bool) (k : Header) (rows : List Float) (rt : Tier1Rt) (sc : Scores) where
   abbrev answer : Featured
   answer = featuresOf fm c tabs p ext there k rows rt sc
 
@@ -155,7 +155,7 @@ module _ (fm : Format) (c : FuseConfig) (tabs : Tables) (p ext : List Float) (th
 
   -- the chunk that is kept
   abbrev keptChunk : ChunkBuf
-  keptChunk = if there then heldOf (rt .prev) (k .seq) (k .«t_emit») (k .horizon) (k .dim) (k .«exec_steps») rows else rt .prev
+  keptChunk = if there then heldOf (rt .prev) k rows else rt .prev
 
   whole-at : (n : ℕ) → n ≡ 0 → featuredAt n (ticked fm c tabs p ext there k rows rt sc .value) rt sc ≡ wholeAnswer keptChunk there rt sc (outOf (featuredAt n (ticked fm c tabs p ext there k rows rt sc .value) rt sc))
   unfolding ticked tick
@@ -175,24 +175,24 @@ module _ (fm : Format) (c : FuseConfig) (tabs : Tables) (p ext : List Float) (th
   passed-whole e = whole-at (featuresRefusal fm c tabs p ext there k rows rt sc) (sym number-is ∙ e)
 
   -- an accepted chunk has room in the buffer
-  accepted-chunk : answer .refusal .number ≡ 0 → there ≡ true → refusal (lentReasons rows (k .horizon) (k .dim) (k .«exec_steps»)) ≡ 0
+  accepted-chunk : answer .refusal .number ≡ 0 → there ≡ true → refusal (lentReasons rows k) ≡ 0
   unfolding featuresRefusal
   accepted-chunk e t =
       let z = neither-applies (judged fm c tabs p ext there k rows rt sc) (among ((computed when not (ticked fm c tabs p ext there k rows rt sc .sound)) ∷ [])) (sym number-is ∙ e) .0 in
       new-fits fm c tabs p ext there k rows rt sc refl z t .0
 
   pub rows-fit : answer .refusal .number ≡ 0 → there ≡ true → length rows ≤ 512
-  rows-fit e t = accepted-fits (lent-accepted rows (k .horizon) (k .dim) (k .«exec_steps») (accepted-chunk e t) .0)
+  rows-fit e t = accepted-fits (lent-accepted rows k (accepted-chunk e t) .0)
 
-  prev-is : answer .refusal .number ≡ 0 → (if there then fillOf (rt .prev) (k .seq) (k .«t_emit») (k .horizon) (k .dim) (k .«exec_steps») rows .buf else rt .prev) ≡ keptChunk
+  prev-is : answer .refusal .number ≡ 0 → (if there then fillOf (rt .prev) k rows .buf else rt .prev) ≡ keptChunk
   prev-is e = go there (accepted-chunk e)
     where
-      go : (t : Bool) → (t ≡ true → refusal (lentReasons rows (k .horizon) (k .dim) (k .«exec_steps»)) ≡ 0)
-          → (if t then fillOf (rt .prev) (k .seq) (k .«t_emit») (k .horizon) (k .dim) (k .«exec_steps») rows .buf else rt .prev) ≡ (if t then heldOf (rt .prev) (k .seq) (k .«t_emit») (k .horizon) (k .dim) (k .«exec_steps») rows else rt .prev)
-      go true f = filled-is (rt .prev) (k .seq) (k .«t_emit») (k .horizon) (k .dim) (k .«exec_steps») rows (f refl) refl
+      go : (t : Bool) → (t ≡ true → refusal (lentReasons rows k) ≡ 0)
+          → (if t then fillOf (rt .prev) k rows .buf else rt .prev) ≡ (if t then heldOf (rt .prev) k rows else rt .prev)
+      go true f = filled-is (rt .prev) k rows (f refl) refl
       go false f = refl
 
-  pub passed-from : {a : TickOut} {b : ChunkBuf} {r : Featured} → a ≡ outOf answer → a .refusal .number ≡ 0 → b ≡ (if there then fillOf (rt .prev) (k .seq) (k .«t_emit») (k .horizon) (k .dim) (k .«exec_steps») rows .buf else rt .prev)
+  pub passed-from : {a : TickOut} {b : ChunkBuf} {r : Featured} → a ≡ outOf answer → a .refusal .number ≡ 0 → b ≡ (if there then fillOf (rt .prev) k rows .buf else rt .prev)
       → r ≡ wholeAnswer b there rt sc a
       → r ≡ answer
   passed-from {a} {b} ea ez eb er =

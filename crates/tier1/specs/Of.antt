@@ -12,6 +12,7 @@ use Rattle.checked.specs.Finite.{+0}
 use Rattle.checked.specs.Checked.{Checked, _>>=_, pure}
 use Rattle.chunk.specs.Of as chunk
 use Rattle.chunk.specs.declared.ChunkBuf.{ChunkBuf}
+use Rattle.chunk.specs.declared.Header.{Header}
 use Rattle.window.specs.Of as window
 use Rattle.bits.specs.Bits.{bitsWhere}
 use Rattle.conformal.specs.Rule.{Tables}
@@ -25,7 +26,6 @@ use Rattle.tier1.specs.declared.Kept.{Kept}
 use Rattle.tier1.specs.declared.Pair.{Pair}
 use Rattle.tier1.specs.declared.SixFeatures.{SixFeatures}
 use Rattle.tier1.specs.declared.AllFeatures.{AllFeatures}
-use Rattle.tier1.specs.declared.Head.{Head}
 use Rattle.tier1.specs.declared.Tier1Rt.{Tier1Rt}
 use Rattle.tier1.specs.declared.TickOut.{TickOut}
 use Rattle.tier1.specs.declared.Featured.{Featured}
@@ -51,9 +51,9 @@ manifestOf f c = manifestFrom c (derived f c)
 abbrev pub keptOf : Tier1Rt → Kept
 keptOf rt = record {
   there = rt .«have_prev» && rt .prev .filled;
-  «t_emit» = rt .prev .«t_emit»;
-  horizon = rt .prev .horizon;
-  dim = rt .prev .dim;
+  «t_emit» = rt .prev .header .«t_emit»;
+  horizon = rt .prev .header .horizon;
+  dim = rt .prev .header .dim;
 }
 
 -- ---- what a private function answers: the rule's value, and whether all that was computed is finite
@@ -108,12 +108,12 @@ clearedRt rt = record {
 }
 
 -- a new chunk replaces all held features, invalid ones too, and the chunk before
-unfoldable pub afterChunk : Format → Manifest → List Float → Bool → Head → List Float → Tier1Rt → Checked Tier1Rt
+unfoldable pub afterChunk : Format → Manifest → List Float → Bool → Header → List Float → Tier1Rt → Checked Tier1Rt
 afterChunk f m p there k rows rt =
     if there
     then (do
       held ← boundary f m (keptOf rt) (rt .prev .«data») p (k .«t_emit») (k .horizon) rows
-      pure (record { prev = chunk.heldOf (rt .prev) (k .seq) (k .«t_emit») (k .horizon) (k .dim) (k .«exec_steps») rows; «have_prev» = true; trail = rt .trail; held = held; «held_valid» = boundaryBits m (keptOf rt) p (k .«t_emit») (k .horizon) }))
+      pure (record { prev = chunk.heldOf (rt .prev) k rows; «have_prev» = true; trail = rt .trail; held = held; «held_valid» = boundaryBits m (keptOf rt) p (k .«t_emit») (k .horizon) }))
     else pure rt
 
 -- ---- the features of a tick
@@ -123,7 +123,7 @@ pub record Tick : Type 0 where
   pub rt : Tier1Rt
   pub found : Twelve
 
-unfoldable pub tick : Format → Manifest → List Float → List Float → Bool → Head → List Float → Tier1Rt → Checked Tick
+unfoldable pub tick : Format → Manifest → List Float → List Float → Bool → Header → List Float → Tier1Rt → Checked Tick
 tick f m p ext there k rows rt = do
   new ← afterChunk f m p there k rows rt
   found ← twelve f m (new .trail) (new .held) (new .«held_valid») ext
@@ -138,7 +138,7 @@ abbrev pub featuredAt : ℕ → Tick → Tier1Rt → Scores → Featured
 featuredAt zero x rt sc = record { refusal = refusedFor 0; rt = x .rt; scores = scoresWith (x .found) sc }
 featuredAt (suc n) x rt sc = record { refusal = refusedFor (suc n); rt = rt; scores = sc }
 
-module _ (f : Format) (c : FuseConfig) (t : Tables) (p ext : List Float) (there : Bool) (k : Head) (rows : List Float) (rt : Tier1Rt) (sc : Scores) where
+module _ (f : Format) (c : FuseConfig) (t : Tables) (p ext : List Float) (there : Bool) (k : Header) (rows : List Float) (rt : Tier1Rt) (sc : Scores) where
   -- 1 to 12
   abbrev pub judged : Reason → Bool
   judged = among (configJudged f c t) or (newJudged there k (length rows) (c .dim) or (stateJudged rt or lentJudged p ext there rows sc))

@@ -11,11 +11,11 @@ use Rattle.refusal.specs.Order.{refusedFor}
 use Rattle.checked.specs.Each.{at}
 use Rattle.checked.specs.Finite.{+0}
 use Rattle.bits.specs.Bits.{bit}
+use Rattle.chunk.specs.declared.Header.{Header}
 use Rattle.conformal.specs.Feat.{TCE, ACC, ACM-NEG, NJR, REACH, SPEED-PEAK, PATH-INEFF, EXT0}
 use Rattle.conformal.specs.Rule.{Tables}
 use Rattle.conformal.specs.declared.Scores.{Scores}
 use Rattle.envelope.specs.declared.FuseConfig.{FuseConfig}
-use Rattle.tier1.specs.declared.Head.{Head}
 use Rattle.tier1.specs.declared.Tier1Rt.{Tier1Rt}
 use Rattle.tier1.specs.declared.Featured.{Featured}
 use Rattle.tier1.specs.Rule.{PE-WINDOW, boxDims, overlap, boundary, validAt}
@@ -28,16 +28,16 @@ pub record Given : Type 0 where
   pub position : List Float
   pub externals : List Float
   pub came : Bool
-  pub head : Head
+  pub header : Header
   pub rows : List Float
 
 module _ (f : Format) (x : Given) (rt : Tier1Rt) (sc : Scores) where
   abbrev pub answer : Featured
-  answer = featuresOf f (x .config) (x .tables) (x .position) (x .externals) (x .came) (x .head) (x .rows) rt sc
+  answer = featuresOf f (x .config) (x .tables) (x .position) (x .externals) (x .came) (x .header) (x .rows) rt sc
 
   -- the number of the answer, 0 where the call passes
   abbrev pub number : ℕ
-  number = featuresRefusal f (x .config) (x .tables) (x .position) (x .externals) (x .came) (x .head) (x .rows) rt sc
+  number = featuresRefusal f (x .config) (x .tables) (x .position) (x .externals) (x .came) (x .header) (x .rows) rt sc
 
   -- the valid bits
   abbrev pub validBit : ℕ → Bool
@@ -45,7 +45,7 @@ module _ (f : Format) (x : Given) (rt : Tier1Rt) (sc : Scores) where
 
   -- the rows that the new chunk and the one before share
   abbrev pub common : ℕ
-  common = overlap (keptOf rt) (x .head .«t_emit») (x .head .horizon) (manifestOf f (x .config) .dim)
+  common = overlap (keptOf rt) (x .header .«t_emit») (x .header .horizon) (manifestOf f (x .config) .dim)
 
   -- whatever is answered
   pub record Always : Type 0 where
@@ -71,26 +71,26 @@ module _ (f : Format) (x : Given) (rt : Tier1Rt) (sc : Scores) where
   pub record Held : Type 0 where
     pub tce-exactly : validBit TCE ≡ leb 2 common
     pub acc-exactly : validBit ACC ≡ leb 2 common
-    pub acm-neg-exactly : validBit ACM-NEG ≡ leb 2 (x .head .horizon)
-    pub njr-exactly : validBit NJR ≡ leb 4 (x .head .horizon)
+    pub acm-neg-exactly : validBit ACM-NEG ≡ leb 2 (x .header .horizon)
+    pub njr-exactly : validBit NJR ≡ leb 4 (x .header .horizon)
     pub reach-exactly : validBit REACH ≡ ltb 0 (boxDims (manifestOf f (x .config)) (x .position))
     pub speed-peak-always : validBit SPEED-PEAK ≡ true
-    pub held-replaced : answer .rt .held ≡ boundary f (manifestOf f (x .config)) (keptOf rt) (rt .prev .«data») (x .position) (x .head .«t_emit») (x .head .horizon) (x .rows) .value
+    pub held-replaced : answer .rt .held ≡ boundary f (manifestOf f (x .config)) (keptOf rt) (rt .prev .«data») (x .position) (x .header .«t_emit») (x .header .horizon) (x .rows) .value
 
 -- the same configuration, position and externals, and no chunk
-abbrev pub quiet : Given → Head → List Float → Given
+abbrev pub quiet : Given → Header → List Float → Given
 quiet x k rows = record {
   config = x .config;
   tables = x .tables;
   position = x .position;
   externals = x .externals;
   came = false;
-  head = k;
+  header = k;
   rows = rows;
 }
 
 -- two calls without a chunk that pass give the same features, whatever else is lent
-pub record SameAgain (f : Format) (x : Given) (k l : Head) (rows others : List Float) (rt : Tier1Rt) (sc tc : Scores) : Type 0 where
+pub record SameAgain (f : Format) (x : Given) (k l : Header) (rows others : List Float) (rt : Tier1Rt) (sc tc : Scores) : Type 0 where
   pub same-features : answer f (quiet x l others) rt tc .scores .f ≡ answer f (quiet x k rows) rt sc .scores .f
   pub same-valid : answer f (quiet x l others) rt tc .scores .valid ≡ answer f (quiet x k rows) rt sc .scores .valid
 
@@ -100,5 +100,5 @@ pub record Promised : Type 0 where
   pub held : (f : Format) (x : Given) (rt : Tier1Rt) (sc : Scores) → x .came ≡ true → number f x rt sc ≡ 0 → Held f x rt sc
   -- without a chunk the state stays, so held features change only on a chunk
   pub state-kept : (f : Format) (x : Given) (rt : Tier1Rt) (sc : Scores) → x .came ≡ false → answer f x rt sc .rt ≡ rt
-  pub same-again : (f : Format) (x : Given) (k l : Head) (rows others : List Float) (rt : Tier1Rt) (sc tc : Scores)
+  pub same-again : (f : Format) (x : Given) (k l : Header) (rows others : List Float) (rt : Tier1Rt) (sc tc : Scores)
       → number f (quiet x k rows) rt sc ≡ 0 → number f (quiet x l others) rt tc ≡ 0 → SameAgain f x k l rows others rt sc tc

@@ -10,10 +10,10 @@ use Rattle.fmath.specs.Answer.{someNotFinite}
 use Rattle.checked.specs.Finite.{allFinite}
 use Rattle.chunk.specs.Refusals.{chunkReasons, heldReasons}
 use Rattle.chunk.specs.declared.ChunkBuf.{ChunkBuf}
+use Rattle.chunk.specs.declared.Header.{Header}
 use Rattle.window.specs.Answer.{trailReasons}
 use Rattle.conformal.specs.Refusals.{scoresOk}
 use Rattle.conformal.specs.declared.Scores.{Scores}
-use Rattle.tier1.specs.declared.Head.{Head}
 use Rattle.tier1.specs.declared.Tier1Rt.{Tier1Rt}
 
 -- nothing is judged
@@ -21,15 +21,15 @@ abbrev pub none : Reason → Bool
 none k = false
 
 -- 5 to 10: a new chunk of n numbers, where there is one
-abbrev pub newJudged : Bool → Head → ℕ → ℕ → Reason → Bool
+abbrev pub newJudged : Bool → Header → ℕ → ℕ → Reason → Bool
 newJudged there k n dim =
     if there
-    then among (chunkReasons (k .horizon) (k .dim) (k .«exec_steps») n) or among ((width when not (eqb (k .dim) dim)) ∷ [])
+    then among (chunkReasons k n) or among ((width when not (eqb (k .dim) dim)) ∷ [])
     else none
 
 -- 5 to 9 and 12: the chunk before, where the buffer holds one
 abbrev pub prevJudged : ChunkBuf → Reason → Bool
-prevJudged b = if b .filled then among (heldReasons (b .«data») (b .horizon) (b .dim) (b .«exec_steps»)) else none
+prevJudged b = if b .filled then among (heldReasons (b .«data») (b .header)) else none
 
 -- the state: 1 and 12 for the trail, the chunk before, 12 for the held features
 abbrev pub stateJudged : Tier1Rt → Reason → Bool

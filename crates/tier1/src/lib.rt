@@ -14,6 +14,7 @@ use crate::refusals::features_refusal;
 use crate::refusals::state_refusal;
 use crate::tick::twelve;
 use chunk::ChunkBuf;
+use chunk::Header;
 use conformal::Scores;
 use envelope::Derived;
 use envelope::FuseConfig;
@@ -32,15 +33,6 @@ pub struct Tier1Rt {
     pub trail: Trail,
     pub held: [f64; 6],
     pub held_valid: u32,
-}
-
-// What is said of a new chunk besides its rows.
-pub struct Head {
-    pub seq: u32,
-    pub t_emit: u32,
-    pub horizon: u16,
-    pub dim: u16,
-    pub exec_steps: u16,
 }
 
 // What the features read of a configuration, and of what is derived from it.
@@ -123,11 +115,12 @@ fn kept_of(rt: Tier1Rt) -> Kept
     ensures { λ r. ⌜ r ≡ keptOf rt ⌝ }
 {
     let prev = rt.prev;
+    let header = prev.header;
     Kept {
         there: rt.have_prev & prev.filled,
-        t_emit: prev.t_emit,
-        horizon: prev.horizon as usize,
-        dim: prev.dim as usize,
+        t_emit: header.t_emit,
+        horizon: header.horizon as usize,
+        dim: header.dim as usize,
     }
 }
 
@@ -202,10 +195,10 @@ fn held_after(
     rt: Tier1Rt,
     pos: &[f64],
     there: bool,
-    k: Head,
+    k: Header,
     rows: &[f64],
 ) -> SixFeatures
-    requires { ⌜ (m .dim ≤ 8) × (there ≡ true → (refusal (lentReasons (now rows) (k .horizon) (k .dim) (k .«exec_steps»)) ≡ 0) × (k .dim ≡ m .dim)) × (rt .prev .filled ≡ true → (rt .prev .horizon ≤ 64) × (rt .prev .horizon * rt .prev .dim ≤ 512)) ⌝ }
+    requires { ⌜ (m .dim ≤ 8) × (there ≡ true → (refusal (lentReasons (now rows) k) ≡ 0) × (k .dim ≡ m .dim)) × (rt .prev .filled ≡ true → (rt .prev .header .horizon ≤ 64) × (rt .prev .header .horizon * rt .prev .header .dim ≤ 512)) ⌝ }
     ensures { λ r. ⌜ r ≡ heldFrom (afterChunk binary64 m (now (pos .entry)) there k (now (rows .entry)) rt) ⌝ }
 {
     if !there {
@@ -230,7 +223,7 @@ pub fn one_tick(
     pos: &[f64],
     ext: &[f64],
     there: bool,
-    k: Head,
+    k: Header,
     rows: &[f64],
     sc: Scores,
 ) -> TickOut
@@ -261,13 +254,13 @@ pub fn one_tick(
 }
 
 // The chunk before after a tick: the new one, where there is one.
-fn prev_after(prev: ChunkBuf, there: bool, k: Head, rows: &[f64]) -> ChunkBuf
-    ensures { λ r. ⌜ r ≡ (if there then fillOf prev (k .seq) (k .«t_emit») (k .horizon) (k .dim) (k .«exec_steps») (now (rows .entry)) .buf else prev) ⌝ }
+fn prev_after(prev: ChunkBuf, there: bool, k: Header, rows: &[f64]) -> ChunkBuf
+    ensures { λ r. ⌜ r ≡ (if there then fillOf prev k (now (rows .entry)) .buf else prev) ⌝ }
 {
     if !there {
         return prev;
     }
-    let filled = prev.fill(k.seq, k.t_emit, k.horizon, k.dim, k.exec_steps, rows);
+    let filled = prev.fill(k, rows);
     filled.buf
 }
 
@@ -311,7 +304,7 @@ pub fn features(
     pos: &[f64],
     ext: &[f64],
     there: bool,
-    k: Head,
+    k: Header,
     rows: &[f64],
     sc: Scores,
 ) -> Featured

@@ -6,20 +6,20 @@ ghost use Rattle.conformal.specs.Rule.{Tables};
 ghost use Rattle.envelope.specs.Refusals.{configJudged};
 ghost use Rattle.tier1.specs.Of.{judged};
 ghost use Rattle.tier1.specs.Refusals.{newJudged, stateJudged, someNotFiniteIn};
-use crate::Head;
 use crate::Tier1Rt;
+use chunk::Header;
 use conformal::Scores;
 use envelope::FuseConfig;
 use refusal::Refusal;
 
 // The number for a new chunk's sizes and its width.
-fn new_refusal(there: bool, k: Head, len: usize, dim: usize) -> u8
+fn new_refusal(there: bool, k: Header, len: usize, dim: usize) -> u8
     ensures { λ r. ⌜ r ≡ given (newJudged there k len dim) ⌝ }
 {
     if !there {
         return 0;
     }
-    let sizes = chunk::chunk_refusal(k.horizon, k.dim, k.exec_steps, len);
+    let sizes = chunk::chunk_refusal(k, len);
     let d = k.dim as usize;
     let width = Refusal::when(Refusal::WIDTH, d != dim, 0);
     Refusal::earlier(sizes, width)
@@ -59,7 +59,7 @@ pub(crate) fn features_refusal(
     pos: &[f64],
     ext: &[f64],
     there: bool,
-    k: Head,
+    k: Header,
     rows: &[f64],
     sc: Scores,
 ) -> u8

@@ -21,7 +21,7 @@ of-requires : tie.Need-of-requires
 of-requires c κs = search needs
 
 returns : tie.Need-returns
-returns c = let g = c .before .before .before .before .before .before .before .before .args in let w = refused binary64 (g .c) (tables (now (g .center)) (now (g .scale))) (now (g .pos)) (now (g .vel)) (now (g .rows)) (g .horizon) (g .dim) (g .exec-steps) (g .from) (now (g .slack)) (c .before .before .forecast-refusal .ensures _ (compiled-number (c .before .before .before .compile .ensures))) (c .before .if1 .taken) (c .of .ensures) in (w .gives, w .leaves)
+returns c = let g = c .before .before .before .before .before .before .before .before .args in let w = refused binary64 (g .c) (tables (now (g .center)) (now (g .scale))) (now (g .pos)) (now (g .vel)) (now (g .rows)) (g .header) (g .from) (now (g .slack)) (c .before .before .forecast-refusal .ensures _ (compiled-number (c .before .before .before .compile .ensures))) (c .before .if1 .taken) (c .of .ensures) in (w .gives, w .leaves)
 
 workspace-of-requires : tie.Need-workspace-of-requires
 workspace-of-requires c κs = search needs
@@ -31,7 +31,7 @@ forecast-requires c κs =
     let r = c .before .before .before in
     let g = r .before .before .before .before .before .before .args in
     let e = sym (r .forecast-refusal .ensures _ (compiled-number (r .before .compile .ensures))) ∙ c .before .before .if1 .left in (
-      planned binary64 (g .c) (tables (now (g .center)) (now (g .scale))) (now (g .pos)) (now (g .vel)) (now (g .rows)) (g .horizon) (g .dim) (g .exec-steps) (g .from) (length (now (g .slack))) e,
+      planned binary64 (g .c) (tables (now (g .center)) (now (g .scale))) (now (g .pos)) (now (g .vel)) (now (g .rows)) (g .header) (g .from) (length (now (g .slack))) e,
       c .before .workspace-of .ensures ∙ ap workspaceFrom (compiled-derived (r .before .compile .ensures)),
     )
 
@@ -41,7 +41,7 @@ same-length c = search needs
 returns-2 : tie.Need-returns-2
 returns-2 c =
     let g = c .before .before .before .before .before .before .before .before .before .before .before .before .args in
-    let w = foreseen binary64 (g .c) (tables (now (g .center)) (now (g .scale))) (now (g .pos)) (now (g .vel)) (now (g .rows)) (g .horizon) (g .dim) (g .exec-steps) (g .from) (now (g .slack)) (sym (c .before .before .before .before .before .before .forecast-refusal .ensures _ (compiled-number (c .before .before .before .before .before .before .before .compile .ensures))) ∙ c .before .before .before .before .before .if1 .left) (c .before .before .forecast .ensures .0) (c .before .before .forecast .ensures .1) in
+    let w = foreseen binary64 (g .c) (tables (now (g .center)) (now (g .scale))) (now (g .pos)) (now (g .vel)) (now (g .rows)) (g .header) (g .from) (now (g .slack)) (sym (c .before .before .before .before .before .before .forecast-refusal .ensures _ (compiled-number (c .before .before .before .before .before .before .before .compile .ensures))) ∙ c .before .before .before .before .before .if1 .left) (c .before .before .forecast .ensures .0) (c .before .before .forecast .ensures .1) in
     (w .gives, w .leaves)
 
 pub brake-feasible-spec : {M : Type 1} → statement M

@@ -26,12 +26,12 @@ enum-known-kind c = search needs
 second-order-requires : tie.Need-second-order-requires
 second-order-requires c κs =
     let s = c .before .before .before .before .before .before .before .before .before .before .before .before in
-    rw (c .before .before .before .before .before .before .before .course-of .ensures) (second-order-room (s .args .c) (length (now (s .args .rows))) (s .args .horizon) (s .args .dim) (s .args .from) (length (now (s .args .slack))) (s .pre .0) _ _ _ (c .before .before .kind .given .1))
+    rw (c .before .before .before .before .before .before .before .course-of .ensures) (second-order-room (s .args .c) (length (now (s .args .rows))) (s .args .header) (s .args .from) (length (now (s .args .slack))) (s .pre .0) _ _ _ (c .before .before .kind .given .1))
 
 closed-requires : tie.Need-closed-requires
 closed-requires c κs =
     let s = c .before .before .before .before .before .before .before .before .before .before in
-    rw (c .before .before .before .before .before .course-of .ensures) (closed-room (s .args .c) (length (now (s .args .rows))) (s .args .horizon) (s .args .dim) (s .args .from) (length (now (s .args .slack))) (s .pre .0) (c .before .match .keys2))
+    rw (c .before .before .before .before .before .course-of .ensures) (closed-room (s .args .c) (length (now (s .args .rows))) (s .args .header) (s .args .from) (length (now (s .args .slack))) (s .pre .0) (c .before .match .keys2))
 
 same-length : tie.Need-same-length
 same-length c = search needs
@@ -39,7 +39,7 @@ same-length c = search needs
 returns : tie.Need-returns
 returns c =
     let s = c .before .before .before .before .before .before .before .before .before .before .before .before .before .before .before in
-    let e = second-order-is binary64 (s .args .c) (now (s .args .pos)) (now (s .args .vel)) (now (s .args .rows)) (s .args .horizon) (s .args .dim) (s .args .from) (s .pre .1) (c .before .before .before .before .before .before .before .before .before .before .course-of .ensures) (c .before .before .before .before .before .before .before .before .before .start-of .ensures) _ _ _ (c .before .before .before .before .before .kind .given .1) in
+    let e = second-order-is binary64 (s .args .c) (now (s .args .pos)) (now (s .args .vel)) (now (s .args .rows)) (s .args .header) (s .args .from) (s .pre .1) (c .before .before .before .before .before .before .before .before .before .before .course-of .ensures) (c .before .before .before .before .before .before .before .before .before .start-of .ensures) _ _ _ (c .before .before .before .before .before .kind .given .1) in
     (c .before .before .second-order .ensures .0 ∙ ap outcome e, c .before .before .second-order .ensures .1 ∙ ap (λ (t : Forecast). writtenOf t (now (s .args .slack))) e)
 
 same-length-2 : tie.Need-same-length-2
@@ -48,7 +48,7 @@ same-length-2 c = search needs
 returns-2 : tie.Need-returns-2
 returns-2 c =
     let s = c .before .before .before .before .before .before .before .before .before .before .before .before .before in
-    let e = closed-is binary64 (s .args .c) (now (s .args .pos)) (now (s .args .vel)) (now (s .args .rows)) (s .args .horizon) (s .args .dim) (s .args .from) (s .pre .1) (c .before .before .before .before .before .before .before .before .course-of .ensures) (c .before .before .before .before .before .before .before .start-of .ensures) (c .before .before .before .before .before .before .arm-of .ensures) (c .before .before .before .before .match .keys2) in
+    let e = closed-is binary64 (s .args .c) (now (s .args .pos)) (now (s .args .vel)) (now (s .args .rows)) (s .args .header) (s .args .from) (s .pre .1) (c .before .before .before .before .before .before .before .before .course-of .ensures) (c .before .before .before .before .before .before .before .start-of .ensures) (c .before .before .before .before .before .before .arm-of .ensures) (c .before .before .before .before .match .keys2) in
     (c .before .before .closed .ensures .0 ∙ ap outcome e, c .before .before .closed .ensures .1 ∙ ap (λ (t : Forecast). writtenOf t (now (s .args .slack))) e)
 
 pub forecast-spec : {M : Type 1} → statement M

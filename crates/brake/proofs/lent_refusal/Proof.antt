@@ -22,14 +22,17 @@ when-requires c κs = search needs
 when-requires-2 : tie.Need-when-requires-2
 when-requires-2 c κs = search needs
 
+cast-when : tie.Need-cast-when
+cast-when c = search needs
+
 when-requires-3 : tie.Need-when-requires-3
 when-requires-3 c κs = search needs
 
 returns : tie.Need-returns
 returns c =
-    let g = c .before .before .before .before .before .before .before .before .before .before .args in
-    let brief = brief-is binary64 (g .c) (now (g .pos)) (now (g .vel)) (now (g .rows)) (g .horizon) (g .dim) (g .from) (g .room) (c .before .before .before .before .before .too-short .ensures) (c .before .before .before .before .before .before .entries .ensures) in
-    c .when3 .ensures ∙ rw (c .before .before .when2 .ensures, c .before .before .before .when .ensures, c .before .before .before .before .some-not-finite .ensures, brief)
+    let g = c .before .before .before .before .before .before .before .before .before .before .before .args in
+    let brief = brief-is binary64 (g .c) (now (g .pos)) (now (g .vel)) (now (g .rows)) (g .header) (g .from) (g .room) (c .before .before .before .before .before .before .too-short .ensures) (c .before .before .before .before .before .before .before .entries .ensures) in
+    c .when3 .ensures ∙ rw (c .before .before .before .when2 .ensures, c .before .before .before .before .when .ensures, c .before .before .before .before .before .some-not-finite .ensures, brief)
 
 pub lent-refusal-spec : {M : Type 1} → statement M
 lent-refusal-spec =
@@ -40,5 +43,6 @@ lent-refusal-spec =
     some-not-finite-requires
     when-requires
     when-requires-2
+    cast-when
     when-requires-3
     returns)

@@ -13,7 +13,7 @@ chunk-refusal-requires c κs = search needs
 returns : tie.Need-returns
 returns c =
     let s = c .before .before .before .args in
-    refused-by-sizes (s .horizon) (s .dim) (s .exec-steps) (length (s .rows .now)) _ (allFinite (s .rows .now) (length (s .rows .now))) (c .before .chunk-refusal .ensures) (c .if1 .taken)
+    refused-by-sizes (s .header) (length (s .rows .now)) _ (allFinite (s .rows .now) (length (s .rows .now))) (c .before .chunk-refusal .ensures) (c .if1 .taken)
 
 all-finite-requires : tie.Need-all-finite-requires
 all-finite-requires c κs = search needs
@@ -21,12 +21,12 @@ all-finite-requires c κs = search needs
 returns-2 : tie.Need-returns-2
 returns-2 c =
     let s = c .before .before .before .before .before .args in
-    accepted (s .horizon) (s .dim) (s .exec-steps) (length (s .rows .now)) _ _ (c .before .before .before .chunk-refusal .ensures) (c .before .before .if1 .left) (sym (c .before .all-finite .ensures) ∙ c .if2 .taken)
+    accepted (s .header) (length (s .rows .now)) _ _ (c .before .before .before .chunk-refusal .ensures) (c .before .before .if1 .left) (sym (c .before .all-finite .ensures) ∙ c .if2 .taken)
 
 returns-3 : tie.Need-returns-3
 returns-3 c =
     let s = c .before .before .before .before .before .args in
-    refused-by-numbers (s .horizon) (s .dim) (s .exec-steps) (length (s .rows .now)) _ _ (c .before .before .before .chunk-refusal .ensures) (c .before .before .if1 .left) (sym (c .before .all-finite .ensures) ∙ c .if2 .left)
+    refused-by-numbers (s .header) (length (s .rows .now)) _ _ (c .before .before .before .chunk-refusal .ensures) (c .before .before .if1 .left) (sym (c .before .all-finite .ensures) ∙ c .if2 .left)
 
 pub lent-refusal-spec : {M : Type 1} → statement M
 lent-refusal-spec =

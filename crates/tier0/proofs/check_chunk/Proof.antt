@@ -23,29 +23,32 @@ of-requires : tie.Need-of-requires
 of-requires c κs = search needs
 
 returns : tie.Need-returns
-returns c = let g = c .before .before .before .before .before .before .before .before .args in lent-refused binary64 (g .c) (tables (now (g .center)) (now (g .scale))) (now (g .pos)) (now (g .aux)) (now (g .rows)) (g .horizon) (g .dim) (g .exec-steps) (now (g .out)) _ (c .before .before .chunk-refusal .ensures _ (compiled-number (c .before .before .before .compile .ensures))) (c .before .if1 .taken) (c .of .ensures)
+returns c = let g = c .before .before .before .before .before .before .before .before .args in lent-refused binary64 (g .c) (tables (now (g .center)) (now (g .scale))) (now (g .pos)) (now (g .aux)) (now (g .rows)) (g .header) (now (g .out)) _ (c .before .before .chunk-refusal .ensures _ (compiled-number (c .before .before .before .compile .ensures))) (c .before .if1 .taken) (c .of .ensures)
 
 checks-of-requires : tie.Need-checks-of-requires
 checks-of-requires c κs = search needs
+
+cast-h : tie.Need-cast-h
+cast-h c = search needs
 
 slice-aggregate-judge-chunk : tie.Need-slice-aggregate-judge-chunk
 slice-aggregate-judge-chunk c = search needs
 
 judge-chunk-requires : tie.Need-judge-chunk-requires
-judge-chunk-requires c κs = let g = c .before .before .before .before .before .before .before .before .before .args in sized-checks binary64 (g .c) (now (g .pos)) (now (g .rows)) (g .horizon) _ (checks-are binary64 (g .c) (c .before .checks-of .ensures) (compiled-derived (c .before .before .before .before .compile .ensures))) (accepted-sizes binary64 (g .c) (tables (now (g .center)) (now (g .scale))) (now (g .pos)) (now (g .aux)) (now (g .rows)) (g .horizon) (g .dim) (g .exec-steps) _ (sym (c .before .before .before .chunk-refusal .ensures _ (compiled-number (c .before .before .before .before .compile .ensures))) ∙ c .before .before .if1 .left))
+judge-chunk-requires c κs = let g = c .before .before .before .before .before .before .before .before .before .before .args in sized-checks binary64 (g .c) (now (g .pos)) (now (g .rows)) (g .header .horizon) _ (checks-are binary64 (g .c) (c .before .before .checks-of .ensures) (compiled-derived (c .before .before .before .before .before .compile .ensures))) (accepted-sizes binary64 (g .c) (tables (now (g .center)) (now (g .scale))) (now (g .pos)) (now (g .aux)) (now (g .rows)) (g .header) _ (sym (c .before .before .before .before .chunk-refusal .ensures _ (compiled-number (c .before .before .before .before .before .compile .ensures))) ∙ c .before .before .before .if1 .left))
 
 of-requires-2 : tie.Need-of-requires-2
 of-requires-2 c κs = search needs
 
 returns-2 : tie.Need-returns-2
 unfolding ofBits
-returns-2 c = let g = c .before .before .before .before .before .before .before .before .before .before .before .before .before .before .args in not-sound binary64 (g .c) (tables (now (g .center)) (now (g .scale))) (now (g .pos)) (now (g .aux)) (now (g .rows)) (g .horizon) (g .dim) (g .exec-steps) (now (g .out)) (sym (c .before .before .before .before .before .before .before .before .chunk-refusal .ensures _ (compiled-number (c .before .before .before .before .before .before .before .before .before .compile .ensures))) ∙ c .before .before .before .before .before .before .before .if1 .left) (checks-are binary64 (g .c) (c .before .before .before .before .before .before .checks-of .ensures) (compiled-derived (c .before .before .before .before .before .before .before .before .before .compile .ensures))) refl (c .before .before .before .before .judge-chunk .ensures) (not-true _ (c .before .if2 .taken)) (c .of2 .ensures)
+returns-2 c = let g = c .before .before .before .before .before .before .before .before .before .before .before .before .before .before .before .args in not-sound binary64 (g .c) (tables (now (g .center)) (now (g .scale))) (now (g .pos)) (now (g .aux)) (now (g .rows)) (g .header) (now (g .out)) (sym (c .before .before .before .before .before .before .before .before .before .chunk-refusal .ensures _ (compiled-number (c .before .before .before .before .before .before .before .before .before .before .compile .ensures))) ∙ c .before .before .before .before .before .before .before .before .if1 .left) (checks-are binary64 (g .c) (c .before .before .before .before .before .before .before .checks-of .ensures) (compiled-derived (c .before .before .before .before .before .before .before .before .before .before .compile .ensures))) refl (c .before .before .before .before .judge-chunk .ensures) (not-true _ (c .before .if2 .taken)) (c .of2 .ensures)
 
 slice-aggregate-put : tie.Need-slice-aggregate-put
 slice-aggregate-put c = search needs
 
 mul-put : tie.Need-mul-put
-mul-put c = let g = c .before .before .before .before .before .before .before .before .before .before .before .before .before .before .before .args in let w = accepted-sizes binary64 (g .c) (tables (now (g .center)) (now (g .scale))) (now (g .pos)) (now (g .aux)) (now (g .rows)) (g .horizon) (g .dim) (g .exec-steps) _ (sym (c .before .before .before .before .before .before .before .before .before .chunk-refusal .ensures _ (compiled-number (c .before .before .before .before .before .before .before .before .before .before .compile .ensures))) ∙ c .before .before .before .before .before .before .before .before .if1 .left) in let k = w .small in omega arith
+mul-put c = let g = c .before .before .before .before .before .before .before .before .before .before .before .before .before .before .before .before .args in let w = accepted-sizes binary64 (g .c) (tables (now (g .center)) (now (g .scale))) (now (g .pos)) (now (g .aux)) (now (g .rows)) (g .header) _ (sym (c .before .before .before .before .before .before .before .before .before .before .chunk-refusal .ensures _ (compiled-number (c .before .before .before .before .before .before .before .before .before .before .before .compile .ensures))) ∙ c .before .before .before .before .before .before .before .before .before .if1 .left) in let k = w .small in omega arith
 
 put-requires : tie.Need-put-requires
 put-requires c κs = search needs
@@ -58,7 +61,7 @@ same-length c = search needs
 
 returns-3 : tie.Need-returns-3
 unfolding ofBits
-returns-3 c = let g = c .before .before .before .before .before .before .before .before .before .before .before .before .before .before .before .before .before .before .before .before .args in let w = passes binary64 (g .c) (tables (now (g .center)) (now (g .scale))) (now (g .pos)) (now (g .aux)) (now (g .rows)) (g .horizon) (g .dim) (g .exec-steps) (now (g .out)) (sym (c .before .before .before .before .before .before .before .before .before .before .before .before .before .before .chunk-refusal .ensures _ (compiled-number (c .before .before .before .before .before .before .before .before .before .before .before .before .before .before .before .compile .ensures))) ∙ c .before .before .before .before .before .before .before .before .before .before .before .before .before .if1 .left) (checks-are binary64 (g .c) (c .before .before .before .before .before .before .before .before .before .before .before .before .checks-of .ensures) (compiled-derived (c .before .before .before .before .before .before .before .before .before .before .before .before .before .before .before .compile .ensures))) refl (c .before .before .before .before .before .before .before .before .before .before .judge-chunk .ensures) (not-false _ (c .before .before .before .before .before .before .before .if2 .left)) (c .before .before .before .put .ensures) (le-of-eq (slice-aggregate-put (c .before .before .before .before .before .before))) in (c .found .ensures ∙ w .0, w .1)
+returns-3 c = let g = c .before .before .before .before .before .before .before .before .before .before .before .before .before .before .before .before .before .before .before .before .before .args in let w = passes binary64 (g .c) (tables (now (g .center)) (now (g .scale))) (now (g .pos)) (now (g .aux)) (now (g .rows)) (g .header) (now (g .out)) (sym (c .before .before .before .before .before .before .before .before .before .before .before .before .before .before .before .chunk-refusal .ensures _ (compiled-number (c .before .before .before .before .before .before .before .before .before .before .before .before .before .before .before .before .compile .ensures))) ∙ c .before .before .before .before .before .before .before .before .before .before .before .before .before .before .if1 .left) (checks-are binary64 (g .c) (c .before .before .before .before .before .before .before .before .before .before .before .before .before .checks-of .ensures) (compiled-derived (c .before .before .before .before .before .before .before .before .before .before .before .before .before .before .before .before .compile .ensures))) refl (c .before .before .before .before .before .before .before .before .before .before .judge-chunk .ensures) (not-false _ (c .before .before .before .before .before .before .before .if2 .left)) (c .before .before .before .put .ensures) (le-of-eq (slice-aggregate-put (c .before .before .before .before .before .before))) in (c .found .ensures ∙ w .0, w .1)
 
 pub check-chunk-spec : {M : Type 1} → statement M
 check-chunk-spec =
@@ -69,6 +72,7 @@ check-chunk-spec =
     of-requires
     returns
     checks-of-requires
+    cast-h
     slice-aggregate-judge-chunk
     judge-chunk-requires
     of-requires-2

@@ -14,22 +14,23 @@ use Rattle.bits.specs.Choice.{if_then_else_}
 use Rattle.checked.proofs.Copy.{all-pasted}
 use Rattle.chunk.specs.declared.ChunkBuf.{ChunkBuf}
 use Rattle.chunk.specs.declared.Filled.{Filled}
+use Rattle.chunk.specs.declared.Header.{Header}
 use Rattle.chunk.specs.Of.{fillOf, heldOf}
 use Rattle.chunk.specs.Refusals.{lentReasons}
 use Rattle.chunk.proofs.Judged.{lent-accepted, accepted-fits}
 use Rattle.chunk.proofs.ChunkBuf.fill.Statement.{statement}
 use Rattle.chunk.proofs.ChunkBuf.fill.Tie as tie
 
-module _ (b : ChunkBuf) (s t h d e n : ℕ) (l : List Float) (is : n ≡ refusal (lentReasons l h d e)) where
-  by-number : fillOf b s t h d e l ≡ (if eqb n 0 then record { number = 0; buf = heldOf b s t h d e l } else record { number = n; buf = b })
+module _ (b : ChunkBuf) (k : Header) (n : ℕ) (l : List Float) (is : n ≡ refusal (lentReasons l k)) where
+  by-number : fillOf b k l ≡ (if eqb n 0 then record { number = 0; buf = heldOf b k l } else record { number = n; buf = b })
   unfolding fillOf
-  by-number = ap (λ (k : ℕ). if_then_else_ {A = Filled} (eqb k 0) (record { number = 0; buf = heldOf b s t h d e l }) (record { number = k; buf = b })) (sym is)
+  by-number = ap (λ (m : ℕ). if_then_else_ {A = Filled} (eqb m 0) (record { number = 0; buf = heldOf b k l }) (record { number = m; buf = b })) (sym is)
 
-  refused : (n ≡ 0 → ⊥) → _≡_ {A = Filled} (record { number = n; buf = b }) (fillOf b s t h d e l)
+  refused : (n ≡ 0 → ⊥) → _≡_ {A = Filled} (record { number = n; buf = b }) (fillOf b k l)
   refused some = sym (by-number ∙ rw (ne-eqb n 0 some))
 
   filled : (rows : List Float) → n ≡ 0 → rows ≡ paste (b .«data») 0 l (length l)
-      → _≡_ {A = Filled} (record { number = 0; buf = record { «data» = rows; seq = s; «t_emit» = t; horizon = h; dim = d; «exec_steps» = e; filled = true } }) (fillOf b s t h d e l)
+      → _≡_ {A = Filled} (record { number = 0; buf = record { «data» = rows; header = k; filled = true } }) (fillOf b k l)
   filled rows z over = rw over (sym (by-number ∙ rw (eq-eqb n 0 z)))
 
 lent-refusal-requires : tie.Need-lent-refusal-requires
@@ -38,7 +39,7 @@ lent-refusal-requires c κs = search needs
 returns : tie.Need-returns
 returns c =
     let a = c .before .before .before .args in
-    refused (a .self) (a .seq) (a .t-emit) (a .h) (a .d) (a .exec) _ (a .src .now) (c .before .lent-refusal .ensures) (c .if1 .taken)
+    refused (a .self) (a .header) _ (a .src .now) (c .before .lent-refusal .ensures) (c .if1 .taken)
 
 slice-aggregate-put : tie.Need-slice-aggregate-put
 slice-aggregate-put c = search needs
@@ -52,8 +53,8 @@ returns-2 c =
     let is = c .before .before .before .before .before .lent-refusal .ensures in
     let zero = c .before .before .before .before .if1 .left in
     let long : length (a .self .«data») ≡ 512 = search needs in
-    let fits = accepted-fits (lent-accepted (a .src .now) (a .h) (a .d) (a .exec) (sym is ∙ zero) .0) in
-    filled (a .self) (a .seq) (a .t-emit) (a .h) (a .d) (a .exec) _ (a .src .now) is _ zero (all-pasted (a .self .«data») (a .src .now) (rw long fits) (c .before .put .ensures))
+    let fits = accepted-fits (lent-accepted (a .src .now) (a .header) (sym is ∙ zero) .0) in
+    filled (a .self) (a .header) _ (a .src .now) is _ zero (all-pasted (a .self .«data») (a .src .now) (rw long fits) (c .before .put .ensures))
 
 pub fill-spec : {M : Type 1} → statement M
 fill-spec = tie.close (tie.spec lent-refusal-requires returns slice-aggregate-put put-requires returns-2)

@@ -23,8 +23,8 @@ cast-n-2 c = search needs
 
 mul-n : tie.Need-mul-n
 mul-n c =
-    let b = c .before .before .before .before .before .args .self in
-    record { fits = lt-of-le-of-lt (le-of-lt (place-small {k = b .horizon} {d = b .dim} (search needs) (search needs))) (search needs) }
+    let b = c .before .before .before .before .before .before .args .self in
+    record { fits = lt-of-le-of-lt (le-of-lt (place-small {k = b .header .horizon} {d = b .header .dim} (search needs) (search needs))) (search needs) }
 
 chunk-refusal-requires : tie.Need-chunk-refusal-requires
 chunk-refusal-requires c κs = search needs
@@ -32,9 +32,9 @@ chunk-refusal-requires c κs = search needs
 returns-2 : tie.Need-returns-2
 unfolding heldRefusalOf
 returns-2 c =
-    let b = c .before .before .before .before .before .before .before .args .self in
-    rw (not-false (b .filled) (c .before .before .before .before .before .if1 .left))
-    (refused-by-sizes (b .horizon) (b .dim) (b .«exec_steps») (b .horizon * b .dim) _ (allFinite (b .«data») (b .horizon * b .dim)) (c .before .chunk-refusal .ensures) (c .if2 .taken))
+    let b = c .before .before .before .before .before .before .before .before .args .self in
+    rw (not-false (b .filled) (c .before .before .before .before .before .before .if1 .left))
+    (refused-by-sizes (b .header) (b .header .horizon * b .header .dim) _ (allFinite (b .«data») (b .header .horizon * b .header .dim)) (c .before .chunk-refusal .ensures) (c .if2 .taken))
 
 slice-aggregate-all-finite : tie.Need-slice-aggregate-all-finite
 slice-aggregate-all-finite c = search needs
@@ -45,16 +45,16 @@ all-finite-requires c κs = search needs
 returns-3 : tie.Need-returns-3
 unfolding heldRefusalOf
 returns-3 c =
-    let b = c .before .before .before .before .before .before .before .before .before .before .args .self in
-    rw (not-false (b .filled) (c .before .before .before .before .before .before .before .before .if1 .left))
-    (accepted (b .horizon) (b .dim) (b .«exec_steps») (b .horizon * b .dim) _ _ (c .before .before .before .before .chunk-refusal .ensures) (c .before .before .before .if2 .left) (sym (c .before .all-finite .ensures) ∙ c .if3 .taken))
+    let b = c .before .before .before .before .before .before .before .before .before .before .before .args .self in
+    rw (not-false (b .filled) (c .before .before .before .before .before .before .before .before .before .if1 .left))
+    (accepted (b .header) (b .header .horizon * b .header .dim) _ _ (c .before .before .before .before .chunk-refusal .ensures) (c .before .before .before .if2 .left) (sym (c .before .all-finite .ensures) ∙ c .if3 .taken))
 
 returns-4 : tie.Need-returns-4
 unfolding heldRefusalOf
 returns-4 c =
-    let b = c .before .before .before .before .before .before .before .before .before .before .args .self in
-    rw (not-false (b .filled) (c .before .before .before .before .before .before .before .before .if1 .left))
-    (refused-by-numbers (b .horizon) (b .dim) (b .«exec_steps») (b .horizon * b .dim) _ _ (c .before .before .before .before .chunk-refusal .ensures) (c .before .before .before .if2 .left) (sym (c .before .all-finite .ensures) ∙ c .if3 .left))
+    let b = c .before .before .before .before .before .before .before .before .before .before .before .args .self in
+    rw (not-false (b .filled) (c .before .before .before .before .before .before .before .before .before .if1 .left))
+    (refused-by-numbers (b .header) (b .header .horizon * b .header .dim) _ _ (c .before .before .before .before .chunk-refusal .ensures) (c .before .before .before .if2 .left) (sym (c .before .all-finite .ensures) ∙ c .if3 .left))
 
 pub held-refusal-spec : {M : Type 1} → statement M
 held-refusal-spec =

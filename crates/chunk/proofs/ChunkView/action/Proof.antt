@@ -74,7 +74,7 @@ module _ {M : Type 1} (𝓤 : URA M) (H : Heap 𝓤) (A : Atoms 𝓤) (W : Given
   v = sliceVal (d .«data» .ptr) (length (d .«data» .now))
 
   abbrev found : List Float
-  found = rowOf (now (d .«data»)) (d .horizon) (d .dim) n
+  found = rowOf (now (d .«data»)) (d .header .horizon) (d .header .dim) n
 
   abbrev at : Vals action.signature (κ, tt)
   at = (mach ∷ [], (vint w64 n ∷ [], tt))
@@ -93,17 +93,17 @@ module _ {M : Type 1} (𝓤 : URA M) (H : Heap 𝓤) (A : Atoms 𝓤) (W : Given
   L = T′.the-laws (namedLft 1 0 tt (κ, tt))
 
   abbrev vd : Values (D .parts)
-  vd = (d .seq, (d .«t_emit», (d .horizon, (d .dim, (d .«exec_steps», (d .«data», tt))))))
+  vd = (d .header, (d .«data», tt))
 
   -- what the callee is passed
   abbrev Args : Type 0
   Args = RefT (List Float) × (ℕ × (ℕ × (ℕ × Unit {0})))
 
   abbrev args : Args
-  args = (d .«data», (d .horizon, (d .dim, (n, tt))))
+  args = (d .«data», (d .header .horizon, (d .header .dim, (n, tt))))
 
   abbrev passed : Vals row.signature (κ, tt)
-  passed = (v ∷ [], (vint w16 (d .horizon) ∷ [], (vint w16 (d .dim) ∷ [], (vint w64 n ∷ [], tt))))
+  passed = (v ∷ [], (vint w16 (d .header .horizon) ∷ [], (vint w16 (d .header .dim) ∷ [], (vint w64 n ∷ [], tt))))
 
   abbrev to : RowOf 𝓤 H A mem run .Ghost
   to = (((κ, tt), (q, tt), tt, args, passed), tt)
@@ -112,13 +112,13 @@ module _ {M : Type 1} (𝓤 : URA M) (H : Heap 𝓤) (A : Atoms 𝓤) (W : Given
   asked = qed W ((‵ (flft κ q) ⊛ ‵ ftrue) ∷ ‵ (owns (ShrSlice (named 0) κ f64 ∷ u16 ∷ u16 ∷ usize ∷ []) args passed) ∷ []) ∵ join ! $ frame ! $ done !
 
   -- what the struct owns gives what the callee asks, and is kept
-  apart : d .horizon < 2 ^ 16 → d .dim < 2 ^ 16 → ent 𝓤 (onEntry 𝓤 H A action.signature (κ, tt) (q, tt) (d, (n, tt)) at) (sep 𝓤 (RowOf 𝓤 H A mem run .pre to) (sem 𝓤 H A Own))
+  apart : d .header .horizon < 2 ^ 16 → d .header .dim < 2 ^ 16 → ent 𝓤 (onEntry 𝓤 H A action.signature (κ, tt) (q, tt) (d, (n, tt)) at) (sep 𝓤 (RowOf 𝓤 H A mem run .pre to) (sem 𝓤 H A Own))
   apart h-fits d-fits =
       qed W ((‵ (flft κ q) ⊛ ‵ ftrue) ∷ ‵ (owns (B (κ, tt) ∷ usize ∷ []) (d, (n, tt)) at) ∷ []) ∵
       move ! (1 ∷ []) $ fsplit ! $ move ! (1 ∷ []) $ drop ! $ use1 W (‵ Own ⊛ ‵ Own) (LL.copy D (T′.the-copy (namedLft 1 0 tt (κ, tt))) 𝓤 H A W .twice d (mach ∷ [])) $ split ! $
-      use1 W (given (mach ∷ [] ≡ mach ∷ []) (‵ (all-own (D .parts) L vd))) (own-open 𝓤 H A W D L vd mach) $ learn ! (λ _. use1 W (‵ (ownAt (D .parts) L 5 (d .«data»)) ⊛ ‵ (rest (D .parts) L 5 vd)) (own-out 𝓤 H A W (D .parts) L 5 vd) $ split ! $
+      use1 W (given (mach ∷ [] ≡ mach ∷ []) (‵ (all-own (D .parts) L vd))) (own-open 𝓤 H A W D L vd mach) $ learn ! (λ _. use1 W (‵ (ownAt (D .parts) L 1 (d .«data»)) ⊛ ‵ (rest (D .parts) L 1 vd)) (own-out 𝓤 H A W (D .parts) L 1 vd) $ split ! $
       -- [what data owns; what the others own; what the struct owns; the token]
-      move ! (1 ∷ []) $ drop ! $ nothing ! $ owned ! usize (Is usize) (uint-makes 𝓤 H A W w64) n _ (refl, ok) $ fjoin ! $ owned ! u16 (Is u16) (uint-makes 𝓤 H A W w16) (d .dim) _ (refl, d-fits) $ fjoin ! $ owned ! u16 (Is u16) (uint-makes 𝓤 H A W w16) (d .horizon) _ (refl, h-fits) $ fjoin ! $ move ! (1 ∷ 0 ∷ []) $ fjoin ! $
+      move ! (1 ∷ []) $ drop ! $ nothing ! $ owned ! usize (Is usize) (uint-makes 𝓤 H A W w64) n _ (refl, ok) $ fjoin ! $ owned ! u16 (Is u16) (uint-makes 𝓤 H A W w16) (d .header .dim) _ (refl, d-fits) $ fjoin ! $ owned ! u16 (Is u16) (uint-makes 𝓤 H A W w16) (d .header .horizon) _ (refl, h-fits) $ fjoin ! $ move ! (1 ∷ 0 ∷ []) $ fjoin ! $
       move ! (2 ∷ 0 ∷ []) $ use2 W (raw (RowOf 𝓤 H A mem run .pre to)) asked $ frame ! $ done !)
 
   -- of the callee's `ensured`, the clause alone: it has no `&mut`, so what is said of last values is dropped
@@ -141,10 +141,10 @@ module _ {M : Type 1} (𝓤 : URA M) (H : Heap 𝓤) (A : Atoms 𝓤) (W : Given
         qed W (raw (onEntry 𝓤 H A action.signature (κ, tt) (q, tt) (d, (n, tt)) at) ∷ []) ∵ enter ! C Λ code.function (mach ∷ vint w64 n ∷ []) _ $
         alloc1 ! (λ l₀. alloc1 ! (λ l₁. alloc1 ! (λ l₂. alloc1 ! (λ l₃. alloc1 ! (λ l₄. alloc1 ! (λ l₅. alloc0 ! $ params1 ! $ pass1 ! (init ! 8 refl wt) $ pass1 ! (init ! 6 refl (tt, record { fits = ok })) $ pass0 ! $
         -- [room for _5; …; _4; …; _3; …; _2; …; _1; …; room for _0; …; the entry]
-        assigns ! (of-opd ! (load ! (from ! (fld ! refl (stop !))) (look-in ! 8 (sub ! 5 refl (whole !))))) (from ! (stop !)) (init ! 4 refl (tt, wt .1 .1 .1 .1 .1 .1 .0)) $
-        assigns ! (of-opd ! (load ! (from ! (fld ! refl (stop !))) (look-in ! 8 (sub ! 2 refl (whole !))))) (from ! (stop !)) (init ! 2 refl (tt, wt .1 .1 .1 .0)) $
-        assigns ! (of-opd ! (load ! (from ! (fld ! refl (stop !))) (look-in ! 8 (sub ! 3 refl (whole !))))) (from ! (stop !)) (init ! 0 refl (tt, wt .1 .1 .1 .1 .0)) $
-        move ! (12 ∷ []) $ use1 W (raw (RowOf 𝓤 H A mem run .pre to) ⊛ ‵ Own) (apart (wt .1 .1 .1 .0 .fits) (wt .1 .1 .1 .1 .0 .fits)) $ split ! $
+        assigns ! (of-opd ! (load ! (from ! (fld ! refl (stop !))) (look-in ! 8 (sub ! 1 refl (whole !))))) (from ! (stop !)) (init ! 4 refl (tt, wt .1 .1 .0)) $
+        assigns ! (of-opd ! (load ! (from ! (fld ! refl (fld ! refl (stop !)))) (look-in ! 8 (sub ! 2 refl (sub ! 0 refl (whole !)))))) (from ! (stop !)) (init ! 2 refl (tt, wt .1 .0 .1 .1 .0)) $
+        assigns ! (of-opd ! (load ! (from ! (fld ! refl (fld ! refl (stop !)))) (look-in ! 8 (sub ! 3 refl (sub ! 0 refl (whole !)))))) (from ! (stop !)) (init ! 0 refl (tt, wt .1 .0 .1 .1 .1 .0)) $
+        move ! (12 ∷ []) $ use1 W (raw (RowOf 𝓤 H A mem run .pre to) ⊛ ‵ Own) (apart (wt .1 .0 .1 .1 .0 .fits) (wt .1 .0 .1 .1 .1 .0 .fits)) $ split ! $
         calls-at ! fm (RowOf 𝓤 H A mem run) known to (and-then ! (load ! (from ! (stop !)) (look ! 6 refl)) (and-then ! (load ! (from ! (stop !)) (look ! 4 refl)) (and-then ! (load ! (from ! (stop !)) (look ! 2 refl)) (and-then ! (load ! (from ! (stop !)) (look ! 8 refl)) (no-more !))))) (λ u.
         use1 W (later (some (λ (r : RefT (List Float)). ((‵ (flft κ q) ⊛ ‵ ftrue) ⊛ ‵ (Res r u)) ⊛ raw (ensured 𝓤 H A row.ended (row.clauses 𝓤 H A mem run) (κ, tt) args tt r)))) (id⊢ 𝓤 _) $ await ! tt $ pick ! (λ r.
         split ! $ move ! (1 ∷ []) $ use1 W (raw (fact 𝓤 (now r ≡ found))) (said r) $ heard ! (now r ≡ found) (λ e. split ! $ move ! (1 ∷ []) $

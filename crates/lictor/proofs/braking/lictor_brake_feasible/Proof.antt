@@ -3,6 +3,7 @@ use borrow.Author.Tests.{not-true, not-false}
 use denote.Ref.{now}
 use Rattle.conformal.specs.Of.{tables}
 use Rattle.lictor.proofs.Alike.{forecast-misfit, forecast-fits, forecast-alike}
+use Rattle.lictor.specs.Asked.{sizesAsked}
 use borrow.Author.Needs.{needs}
 use Rattle.lictor.proofs.braking.lictor_brake_feasible.Statement.{statement}
 use Rattle.lictor.proofs.braking.lictor_brake_feasible.Tie as tie
@@ -29,7 +30,7 @@ returns-2 : tie.Need-returns-2
 returns-2 c =
     let s = c .before .before .before .before .before .before .before .before .before .before .before .before .before .before .before .args in
     forecast-fits (not-false _ (c .before .before .before .before .before .before .before .before .before .if1 .left)) (c .before .before .before .before .before .before .before .before .before .before .counts-fit .ensures)
-    (forecast-alike (tables (now (s .center)) (now (s .scale))) (now (s .pos)) (now (s .vel)) (now (s .rows)) (s .horizon) (s .dim) (s .exec-steps) (s .from) (now (s .slack)) (c .before .before .before .before .before .before .brake-feasible .ensures) (c .before .before .before .before .before .before .before .before .config-of .ensures))
+    (forecast-alike (tables (now (s .center)) (now (s .scale))) (now (s .pos)) (now (s .vel)) (now (s .rows)) (sizesAsked (s .horizon) (s .dim) (s .exec-steps)) (s .from) (now (s .slack)) (c .before .before .before .before .before .before .brake-feasible .ensures) (c .before .before .before .before .before .before .before .before .config-of .ensures))
     (c .put-forecast .ensures)
 
 pub lictor-brake-feasible-spec : {M : Type 1} → statement M

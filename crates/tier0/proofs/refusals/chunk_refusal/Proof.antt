@@ -21,7 +21,7 @@ or-later-requires-2 c κs = search needs
 returns : tie.Need-returns
 returns c t e =
     let g = c .before .before .before .before .before .before .before .args in
-    before-is binary64 (g .c) t (now (g .pos)) (now (g .aux)) (now (g .rows)) (g .horizon) (g .dim) (g .exec-steps) (g .room) e (c .before .before .before .chunk-refusal .ensures) (c .before .before .rows-refusal .ensures) (c .before .or-later .ensures) (c .or-later2 .ensures)
+    before-is binary64 (g .c) t (now (g .pos)) (now (g .aux)) (now (g .rows)) (g .header) (g .room) e (c .before .before .before .chunk-refusal .ensures) (c .before .before .rows-refusal .ensures) (c .before .or-later .ensures) (c .or-later2 .ensures)
 
 pub chunk-refusal-spec : {M : Type 1} → statement M
 chunk-refusal-spec =

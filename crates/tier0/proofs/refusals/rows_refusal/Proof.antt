@@ -6,8 +6,14 @@ use borrow.Author.Needs.{needs}
 use Rattle.tier0.proofs.refusals.rows_refusal.Statement.{statement}
 use Rattle.tier0.proofs.refusals.rows_refusal.Tie as tie
 
+cast-h : tie.Need-cast-h
+cast-h c = search needs
+
+cast-d : tie.Need-cast-d
+cast-d c = search needs
+
 mul-chunk-too-short : tie.Need-mul-chunk-too-short
-mul-chunk-too-short c = let s = c .before .before .before .args in let h = place-small {k = s .horizon} {d = s .dim} (omega arith) (omega arith) in omega arith
+mul-chunk-too-short c = let s = c .before .before .before .before .before .args in let h = place-small {k = s .header .horizon} {d = s .header .dim} (omega arith) (omega arith) in omega arith
 
 chunk-too-short-requires : tie.Need-chunk-too-short-requires
 chunk-too-short-requires c κs = search needs
@@ -31,6 +37,8 @@ pub rows-refusal-spec : {M : Type 1} → statement M
 rows-refusal-spec =
     tie.close
     (tie.spec
+    cast-h
+    cast-d
     mul-chunk-too-short
     chunk-too-short-requires
     some-not-finite-requires
