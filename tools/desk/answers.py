@@ -1,5 +1,6 @@
 """The lines of the card program, and what they mean: to whoever has the line alone (explain), and with the card at hand (ask)."""
 import math
+import re
 import struct
 from collections import namedtuple
 
@@ -22,7 +23,8 @@ REFUSALS = {
     13: 'a computed number is not finite',
     14: 'the input ends inside this record',
 }
-# a line of the program: the refusal's number, 0 where accepted; the slacks; the least of them and the stop distance, None where refused
+LINE = re.compile('[0-9]+ (?P<number>[0-9]+) (?P<count>[0-9]+) (?:- -|(?P<margin>[0-9a-f]{16}) (?P<stop>[0-9a-f]{16}))')
+# what a line says: the refusal's number, 0 where accepted; the slacks; the least of them and the stop distance, None where refused
 Answer = namedtuple('Answer', 'number count margin stop')
 
 
@@ -37,12 +39,21 @@ def digits(x):
 
 
 def answer_of(line):
-    """The answer that a line shows, or ValueError."""
-    _, refusal, count, margin, stop = line.split()
-    if int(refusal):
-        REFUSALS[int(refusal)]
-        return Answer(int(refusal), int(count), None, None)
-    return Answer(0, int(count), number(margin), number(stop))
+    """The answer that a line shows (R9.3), or ValueError."""
+    found = LINE.fullmatch(line.strip())
+    if not found or (int(found['number']) == 0) != bool(found['margin']) or int(found['number']) not in (0, *REFUSALS):
+        raise ValueError(line)
+    if found['margin']:
+        return Answer(0, int(found['count']), number(found['margin']), number(found['stop']))
+    return Answer(int(found['number']), int(found['count']), None, None)
+
+
+def told(line):
+    """The answer of a line that the program gave, or Trouble."""
+    try:
+        return answer_of(line)
+    except ValueError:
+        raise Trouble(f'tools/card: the program forecast gave a line that is none: {text.shown(line)}')
 
 
 def refused(answer):
@@ -73,7 +84,7 @@ def explained(line):
     """The meaning of a line that was piped in, or Trouble."""
     try:
         return meaning(line)
-    except (ValueError, KeyError):
+    except ValueError:
         if '=' in line or line.startswith('#'):
             raise Trouble('tools/card: standard input is a text card, not the lines of the program: use tools/card ask FILE')
         raise Trouble(f'tools/card: not a line of the program: {text.shown(line)}')

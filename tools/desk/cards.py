@@ -7,19 +7,24 @@ from desk.fields import COUNTS, NAMES, NUMBERS
 from desk.trouble import Trouble
 
 RECORD = struct.Struct('<11d4H')
+# far more than a text card has
+LONGEST = 1 << 20
 
 
 def opened(path):
     """The bytes of a file, or Trouble."""
     try:
         with open(path, 'rb') as file:
-            return file.read()
+            found = file.read(LONGEST + 1)
     except FileNotFoundError:
         raise Trouble(f'{path}: there is no such file')
     except IsADirectoryError:
         raise Trouble(f'{path}: this is a folder: name the card files in it, as {path.rstrip("/")}/*.card')
     except OSError as error:
         raise Trouble(f'{path}: cannot be read: {error.strerror}')
+    if len(found) > LONGEST:
+        raise Trouble(f'{path}: this is too long for a text card')
+    return found
 
 
 def lines_of(path):

@@ -44,7 +44,7 @@ def say(path, card, answer, exactly):
 def ask(paths, exactly):
     read = cards.read_all(paths)
     lines = programs.lines('forecast', b''.join(map(cards.packed, read)), len(read))
-    found = [answers.answer_of(line) for line in lines]
+    found = [answers.told(line) for line in lines]
     for path, card, answer in zip(paths, read, found):
         say(path, card, answer, exactly)
     if len(found) > 1:
@@ -77,11 +77,23 @@ def draw(path, options):
     return status([course.answer])
 
 
-def explain():
+def given():
+    """The lines of standard input."""
     if sys.stdin is None:
         raise Trouble('tools/card: standard input is closed: explain reads the lines of the program from it')
+    while True:
+        try:
+            line = sys.stdin.buffer.readline()
+        except OSError as error:
+            raise Trouble(f'tools/card: standard input cannot be read: {error.strerror}')
+        if not line:
+            return
+        yield line
+
+
+def explain():
     number = 0
-    for number, raw in enumerate(sys.stdin.buffer, 1):
+    for number, raw in enumerate(given(), 1):
         try:
             line = raw.decode('ascii').rstrip()
         except UnicodeDecodeError:
@@ -89,7 +101,7 @@ def explain():
         meaning = answers.explained(line)
         print(f'{line}\n    {meaning}')
         if line.split()[1] == '14':
-            print('tools/card: a text card is to be packed before the program reads it: tools/card ask FILE does that', file=sys.stderr)
+            complain('tools/card: a text card is to be packed before the program reads it: tools/card ask FILE does that')
     if not number:
         raise Trouble('tools/card: no line came: whatever stands before explain gave none')
     return 0
@@ -136,6 +148,22 @@ def command(usage, words):
     return pack(rest) if name == 'pack' else explain() if name == 'explain' else attempt(rest)
 
 
+def complain(words):
+    """Says something on standard error, where there is one."""
+    if sys.stderr is not None:
+        print(words, file=sys.stderr)
+
+
+def answered(usage, words):
+    """Runs the command, and says what ended it."""
+    try:
+        return command(usage, words)
+    except Trouble as trouble:
+        sys.stdout.flush()
+        complain('\n'.join(trouble.lines))
+        return 2
+
+
 def let_go():
     """Writes nothing more to standard output, so that the end of the run does not try again."""
     os.dup2(os.open(os.devnull, os.O_WRONLY), 1)
@@ -144,17 +172,13 @@ def let_go():
 def main(usage, words):
     usage = f'{usage.strip()}\n\n{fields.table()}\n\n{fields.UNITS}'
     if sys.stdout is None:
-        print('tools/card: standard output is closed: there is nowhere to write the answer', file=sys.stderr)
+        complain('tools/card: standard output is closed: there is nowhere to write the answer')
         return 2
     sys.stdout.reconfigure(errors='backslashreplace')
     try:
-        found = command(usage, words)
+        found = answered(usage, words)
         sys.stdout.flush()
         return found
-    except Trouble as trouble:
-        sys.stdout.flush()
-        print('\n'.join(trouble.lines), file=sys.stderr)
-        return 2
     except BrokenPipeError:
         # whoever read the answer has seen enough: end as other tools do, by the signal
         let_go()
@@ -164,5 +188,5 @@ def main(usage, words):
         return 130
     except OSError as error:
         let_go()
-        print(f'tools/card: the answer cannot be written: {error.strerror}', file=sys.stderr)
+        complain(f'tools/card: the answer cannot be written: {error.strerror}')
         return 2

@@ -13,7 +13,7 @@ Course = namedtuple('Course', 'card answer slacks committed')
 
 def course(card, record):
     """A card's slacks as the library gives them, held to the forecast's own line."""
-    answer = answers.answer_of(programs.lines('forecast', record, 1)[0])
+    answer = answers.told(programs.lines('forecast', record, 1)[0])
     _, number, count, *bits = programs.lines('slacks', record, 1)[0].split(' ')
     slacks = [answers.number(b) for b in bits]
     agree = (int(number), int(count)) == (answer.number, answer.count) and len(slacks) == answer.count
@@ -58,7 +58,7 @@ def columns(c):
     if count > WIDTH:
         share = -(-count // WIDTH)
         return 1, [range(first, min(first + share, count + 1)) for first in range(1, count + 1, share)]
-    return max(1, min(8, WIDTH // count)), [range(k, k + 1) for k in range(1, count + 1)]
+    return min(16, WIDTH // count), [range(k, k + 1) for k in range(1, count + 1)]
 
 
 def height(fraction, above, below, top, bottom):
@@ -81,7 +81,7 @@ def spans(c, wide, groups, bar):
     line = ''
     for name in ('committed', 'braking'):
         length = wide * sum(part(c, group[0]) == name for group in groups)
-        label = name if length >= len(name) + 2 else name[:1] if length >= 2 else ''
+        label = name if length > len(name) else ''
         line += (bar + label.center(length - 1, ' '))[:length] if length else ''
     return line + bar
 
@@ -106,9 +106,9 @@ def picture(c, plain):
         lines.append(f'{labels.get(row, ""):>{LABEL - 1}} {sign["bar"]}{"".join(rows[row]).rstrip()}')
     pad = ' ' * LABEL
     lines.append(pad + spans(c, wide, groups, sign['bar']))
-    first, last = '1', f'{len(c.slacks):,}'
-    lines.append(pad + ' ' * (wide // 2 + 1) + first + last.rjust(wide * (len(groups) - 1) - len(first) + 1) if len(groups) > 1 else pad + ' ' * (wide // 2 + 1) + first)
+    lines.append(pad + ' ' * (wide // 2 + 1) + '1' + f'{len(c.slacks):,}'.rjust(wide * (len(groups) - 1)) * (len(groups) > 1))
     share = '' if len(c.slacks) <= WIDTH else f'; a column is the least of {len(groups[0]):,}'
     lines.append(f'{pad} substep, each {text.readable(c.card["dt"])} s{share}')
-    lines.append(f'{pad} {sign["committed"]} committed  {sign["braking"]} braking  {sign["least"]} {least_words(c)}')
+    lines.append(f'{pad} {sign["committed"]} committed  {sign["braking"]} braking')
+    lines.append(f'{pad} {sign["least"]} {least_words(c)}')
     return lines

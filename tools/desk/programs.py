@@ -11,10 +11,13 @@ def run(name, records):
     """What a program writes for records, as text; Trouble where it is not there or breaks off."""
     if not os.path.exists(os.path.join(ROOT, 'target', 'bin', name)):
         raise Trouble(f'tools/card: the program {name} is not built: run make cards')
-    done = subprocess.run([os.path.join(ROOT, 'tools', 'program'), name], input=records, capture_output=True)
+    try:
+        done = subprocess.run([os.path.join(ROOT, 'tools', 'program'), name], input=records, capture_output=True)
+    except OSError as error:
+        raise Trouble(f'tools/card: the program {name} cannot be started: {error.strerror}')
     if done.returncode:
-        said = done.stderr.decode('utf-8', 'replace').strip().replace('\n', '; ')
-        raise Trouble(f'tools/card: the program {name} broke off with status {done.returncode}: {said or "it said nothing"}')
+        said = done.stderr.decode('utf-8', 'replace').strip().replace('\n', '; ') or 'it said nothing'
+        raise Trouble(f'tools/card: the program {name} {"did not run" if done.returncode == 2 else "broke off"}: {said}')
     return done.stdout.decode('ascii', 'replace')
 
 
