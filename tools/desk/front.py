@@ -101,7 +101,7 @@ def explain():
         meaning = answers.explained(line)
         print(f'{line}\n    {meaning}')
         if line.split()[1] == '14':
-            complain('tools/card: a text card is to be packed before the program reads it: tools/card ask FILE does that')
+            complain('tools/card: the last record is cut off; if it was a text card that the program was given, use tools/card ask FILE')
     if not number:
         raise Trouble('tools/card: no line came: whatever stands before explain gave none')
     return 0

@@ -2,11 +2,14 @@
 
 The slacks are those that the proved program `slacks` writes; here they are only placed.
 """
+import re
 from collections import namedtuple
 
 from desk import answers, fields, programs, text
 from desk.trouble import Trouble
 
+# a line of the program slacks
+LINE = re.compile('1 (?P<number>[0-9]+) (?P<count>[0-9]+)(?P<slacks>(?: [0-9a-f]{16})*)')
 # the card and its answer; the slacks; how many of them are of committed rows, the others being of the brake
 Course = namedtuple('Course', 'card answer slacks committed')
 
@@ -14,9 +17,9 @@ Course = namedtuple('Course', 'card answer slacks committed')
 def course(card, record):
     """A card's slacks as the library gives them, held to the forecast's own line."""
     answer = answers.told(programs.lines('forecast', record, 1)[0])
-    _, number, count, *bits = programs.lines('slacks', record, 1)[0].split(' ')
-    slacks = [answers.number(b) for b in bits]
-    agree = (int(number), int(count)) == (answer.number, answer.count) and len(slacks) == answer.count
+    found = LINE.fullmatch(programs.lines('slacks', record, 1)[0])
+    slacks = [answers.number(bits) for bits in found['slacks'].split()] if found else []
+    agree = found and (int(found['number']), int(found['count']), len(slacks)) == (answer.number, answer.count, answer.count)
     if not agree or (answer.number == 0 and slacks and min(slacks) != answer.margin):
         raise Trouble('tools/card: the programs slacks and forecast differ about this card: run make cards')
     return Course(card, answer, slacks, min(len(slacks), fields.committed_substeps(card)))

@@ -1,4 +1,5 @@
 """Beliefs to try: one action of an arm on a plane, checked by the guard (the proved program `tries`), with settings that can be changed."""
+import re
 import struct
 import textwrap
 from collections import namedtuple
@@ -33,6 +34,8 @@ REFUSALS = answers.REFUSALS | {
     4: 'channel0 and channel1 are the same, or one of them is not below channels',
     12: 'a number of p, row or camera is not finite',
 }
+# a line of the program: a refusal's number, or 0 with trips, moved coordinates, peak speed and eight numbers of the row
+LINE = re.compile('(?P<refusal>[1-9][0-9]*)|0 (?P<trips>[0-9]+) (?P<moved>[0-9]+)(?P<numbers>(?: [0-9a-f]{16}){9})')
 # a belief: what is set for it, what the answer shows, and what to change
 Belief = namedtuple('Belief', 'said settings shows vary')
 BELIEFS = {
@@ -129,11 +132,14 @@ def record(s):
 
 def told(line):
     """The answer in words, and whether nothing trips."""
-    number, *rest = line.split()
-    if number != '0':
-        return f'refused ({number}): {REFUSALS[int(number)]}', False
-    trips, moved, peak = int(rest[0]), int(rest[1]), answers.number(rest[2])
-    row = ', '.join(text.readable(answers.number(b)) for b in rest[3:5])
+    found = LINE.fullmatch(line)
+    if not found or not found['numbers'] and int(found['refusal']) not in REFUSALS:
+        raise Trouble(f'tools/card: the program tries gave a line that is none: {text.shown(line)}')
+    if found['refusal']:
+        return f'refused ({found["refusal"]}): {REFUSALS[int(found["refusal"])]}', False
+    trips, moved = int(found['trips']), int(found['moved'])
+    peak, *row = map(answers.number, found['numbers'].split())
+    row = ', '.join(map(text.readable, row[:2]))
     names = ', '.join(name.upper() for name, bit in TRIPS.items() if trips & bit)
     out = f'the row is moved to {row}' if moved else f'the row comes out as it went in: {row}'
     return f'{"trips: " + names if trips else "nothing trips"}; {out}; peak speed {text.readable(peak)} m/s', not trips
