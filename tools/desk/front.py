@@ -74,6 +74,7 @@ def draw(path, options):
                 out.write(svg.picture(path, course))
         except OSError as error:
             raise Trouble(f'{options["--svg"]}: cannot be written: {error.strerror}')
+        print(f'the picture is in {options["--svg"]}')
     return status([course.answer])
 
 

@@ -35,9 +35,9 @@ def part(c, substep):
     return 'committed' if substep <= c.committed else 'braking'
 
 
-def least_words(c, exactly=False):
+def least_words(c):
     at = least(c)
-    return f'least {answers.shown(c.slacks[at - 1], exactly)} m after substep {at:,} ({part(c, at)})'
+    return f'least {text.readable(c.slacks[at - 1])} m after substep {at:,} ({part(c, at)})'
 
 
 def fractions(slacks):
@@ -96,12 +96,13 @@ def picture(c, plain):
     drawn = [min(group, key=lambda k: c.slacks[k - 1]) for group in groups]
     parts, top, bottom, most = fractions([c.slacks[k - 1] for k in drawn])
     above, below = split(top, bottom)
+    lowest = least(c)
     rows = {row: [' '] * (wide * len(groups)) for row in range(-below, above + 1)}
     for row in rows:
         if row <= 0:
             rows[row] = [sign['wall' if row == 0 else 'below']] * (wide * len(groups))
     for at, substep in enumerate(drawn):
-        mark = sign['least' if substep == least(c) else part(c, substep)]
+        mark = sign['least' if substep == lowest else part(c, substep)]
         rows[height(parts[at], above, below, top, bottom)][at * wide + wide // 2] = mark
     labels = {above: text.readable(top * most), -below: text.readable(bottom * most), 0: '0 wall'}
     lines = ['slack (m)']

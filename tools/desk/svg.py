@@ -1,5 +1,6 @@
 """A course as an SVG picture that also reads in black and white: shades, hatching and words, no colours."""
 import math
+import textwrap
 from xml.sax.saxutils import escape
 
 from desk import answers, plot, text
@@ -15,9 +16,9 @@ def words(x, y, content, kind='', anchor='start'):
 
 
 def ticks(low, high, most=6):
-    """Round numbers from low to high, 0 among them where it lies between; none where the difference overflows."""
+    """Round numbers from low to high, 0 among them where it lies between; only 0 where a step between them would leave the format."""
     rough = (high - low) / most
-    if math.isinf(rough):
+    if not 1e-300 < rough < 1e300:
         return [0]
     step = 10.0 ** math.floor(math.log10(rough))
     step *= next(m for m in (1, 2, 5, 10) if m * step >= rough * 0.999)
@@ -84,18 +85,25 @@ def legend(c):
     ]
 
 
+def name_of(path):
+    """A file's name as a line of the picture: its end where it is long, and only characters that can be shown."""
+    shown = ''.join(sign if sign.isprintable() else '?' for sign in path)
+    return shown if len(shown) <= 62 else '..' + shown[-60:]
+
+
 def picture(path, c):
     """The whole file, for the card of this name."""
+    said = textwrap.wrap(answers.verdict(c.answer), 96) + answers.notes(c.card, c.answer)
+    said = said[:3] if c.slacks else said + ['there is no slack to draw']
     head = [
         f'<svg xmlns="http://www.w3.org/2000/svg" viewBox="0 0 {WIDE} {HIGH}" width="{WIDE}" height="{HIGH}">',
-        f'<title>{escape(path)}: slack over substeps</title>',
+        f'<title>{escape(name_of(path))}: slack over substeps</title>',
         f'<style>{STYLE}</style>',
         '<defs><pattern id="outside" width="8" height="8" patternUnits="userSpaceOnUse" patternTransform="rotate(45)">'
         '<path d="M0 0V8" stroke="#777" stroke-width="1.5"/></pattern></defs>',
         f'<rect width="{WIDE}" height="{HIGH}" fill="#fff"/>',
-        words(LEFT, 24, path, 'head'),
-        words(LEFT, 44, answers.verdict(c.answer), 'small'),
-        *(words(LEFT, 61, note, 'small') for note in answers.notes(c.card, c.answer)[:1]),
+        words(LEFT, 24, name_of(path), 'head'),
+        *(words(LEFT, 41 + 14 * at, line, 'small') for at, line in enumerate(said)),
     ]
-    body = drawn(c) + legend(c) if c.slacks else [words(LEFT, HIGH / 2, 'there is no slack to draw')]
+    body = drawn(c) + legend(c) if c.slacks else []
     return '\n'.join(head + body + ['</svg>', ''])

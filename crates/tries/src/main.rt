@@ -4,7 +4,7 @@
 // position, how many numbers it has and eight of them; the camera's, likewise; eight of the row before, and eight of the action. The line
 // is the refusal's number or, accepted, 0 with the trips, the moved coordinates, the peak speed and the projected row, whose numbers are
 // the sixteen hexadecimal digits of their bits. The answer is that of `tier0::check_action`, whose contract says what it is. Of the line
-// only that it ends and stays in bounds is proved; its text is seen in the runs (tools/test-cards).
+// only that it ends and stays in bounds is proved; its text is seen in the runs (tools/test-desk).
 ghost use mathlib.Core.Path.{_≡_};
 ghost use Prim.Native.Nat.{_≤_};
 ghost use lib.ListN.{length};
