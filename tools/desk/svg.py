@@ -1,7 +1,7 @@
 """A course as an SVG picture that also reads in black and white: shades, hatching and words, no colours."""
 import math
 import textwrap
-from xml.sax.saxutils import escape
+from html import escape
 
 from desk import answers, plot, text
 

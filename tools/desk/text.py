@@ -3,9 +3,11 @@ import difflib
 import math
 import re
 
-DIGITS = r'[0-9]+'
-NUMBER = re.compile(rf'[+-]?(?:(?:{DIGITS}\.?[0-9]*|\.{DIGITS})(?:[eE][+-]?{DIGITS})?|inf|infinity|nan)', re.I)
-COUNT = re.compile(rf'[+-]?{DIGITS}')
+NUMBER = re.compile(r'[+-]?(?:(?:[0-9]+\.?[0-9]*|\.[0-9]+)(?:e[+-]?[0-9]+)?|inf|infinity|nan)', re.I | re.A)
+COUNT = re.compile('[+-]?[0-9]{1,20}')
+# digits in threes, with a comma that may stand for thousands as well as for a point
+THREES = re.compile('[+-]?[0-9]{1,3}(?:,[0-9]{3})+')
+UNIT = re.compile(r'\s*(?!x)[A-Za-z°%][A-Za-z0-9/^²]*')
 LARGEST_COUNT = 65535
 
 
@@ -14,20 +16,39 @@ def shown(value):
     return value if len(value) <= 40 else value[:40] + '..'
 
 
+def joined(value):
+    """What was typed without what people put between digits."""
+    return re.sub("[_ ']", '', value)
+
+
 def hint(value):
     """What to do about a value that is no number."""
+    point = value.replace(',', '.', 1)
+    start = NUMBER.match(value)
     if not value:
         return 'give a number after ='
-    if NUMBER.fullmatch(value.replace(',', '.', 1)):
-        return f'use a point: {value.replace(",", ".", 1)}'
+    if THREES.fullmatch(value):
+        return f'use a point, {point}, or no comma, {value.replace(",", "")}' if NUMBER.fullmatch(point) else f'use no commas: {value.replace(",", "")}'
+    if NUMBER.fullmatch(point):
+        return f'use a point: {point}'
     if NUMBER.fullmatch(value.replace('\N{MINUS SIGN}', '-')):
         return 'use the plain minus -'
-    if NUMBER.fullmatch(value.replace('_', '')) or NUMBER.fullmatch(value.replace(' ', '').replace("'", '').replace(',', '')):
+    if NUMBER.fullmatch(joined(value)):
         return 'write the digits 0-9 together, with nothing between them'
-    start = NUMBER.match(value)
-    if start and re.fullmatch(r'\s*[A-Za-z/%°²0-9^]+', value[start.end():]) and not value[start.end()].isdigit():
+    if start and UNIT.fullmatch(value[start.end():]):
         return f'give the number alone, without a unit: {start.group()}'
     return 'use the digits 0-9, a point and a minus, as in -0.5 or 1e-3'
+
+
+def count_hint(value):
+    """What to do about a value that is no whole number, as words to add."""
+    if not value:
+        return ' (give a number after =)'
+    if NUMBER.fullmatch(value.replace(',', '.')) and not THREES.fullmatch(value):
+        return ''
+    if COUNT.fullmatch(joined(value).replace(',', '')):
+        return ' (write the digits 0-9 together, with nothing between them)'
+    return ' (use the digits 0-9)'
 
 
 def number(name, value):
@@ -44,11 +65,9 @@ def number(name, value):
 
 def count(name, value, largest=LARGEST_COUNT):
     """The whole number that is typed, or ValueError."""
-    if COUNT.fullmatch(value) and len(value) <= 20 and 0 <= int(value) <= largest:
+    if COUNT.fullmatch(value) and 0 <= int(value) <= largest:
         return int(value)
-    if NUMBER.fullmatch(value):
-        raise ValueError(f'{name} is not a whole number from 0 to {largest:,}: {shown(value)}')
-    raise ValueError(f'{name} is not a whole number from 0 to {largest:,}: {shown(value)} ({hint(value)})')
+    raise ValueError(f'{name} is not a whole number from 0 to {largest:,}: {shown(value)}{count_hint(value)}')
 
 
 def did_you_mean(word, names):
