@@ -53,8 +53,10 @@ BELIEFS = {
 
 def usage():
     lines = ['usage: tools/card try BELIEF [name=value ..]', '']
-    lines += [f'  {name:<10}"{belief.said}"' for name, belief in BELIEFS.items()]
-    lines += ['', 'The arm is a point on a plane. Settings, each with what it is where none is given:', '']
+    for name, belief in BELIEFS.items():
+        begins = ', with ' + ' '.join(f'{setting}={value}' for setting, value in belief.settings.items()) if belief.settings else ''
+        lines.append(f'  {name:<10}"{belief.said}"{begins}')
+    lines += ['', 'The arm is a point on a plane. Settings, each with what it is where none is given here or above:', '']
     lines += [f'  {s.name + "=" + s.default:<16}{s.meaning}' for s in SETTINGS]
     lines += ['', f'The checks are {", ".join(TRIPS)}; accel and jerk need more than one row, so they never trip here.',
               'For "The stopping forecast inspects where the arm stands now.": tools/card ask cards/7-start-outside.card cards/3-F3.card']
