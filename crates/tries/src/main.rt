@@ -40,7 +40,7 @@ fn record_of(b: &[u8]) -> Record {
     while i < 104 {
         let w = words::word(b, (8 * i) as u32);
         words[i] = w;
-        numbers[i] = words::number(w);
+        numbers[i] = words::float_of(w);
         i += 1;
     }
     Record { words, numbers }
