@@ -7,18 +7,19 @@ fn main() {
     println!("cargo:rerun-if-env-changed=LICTOR_LIB");
     println!("cargo:rerun-if-changed=build.rs");
     let processor = env::var("CARGO_CFG_TARGET_ARCH").expect("cargo sets it");
-    let root = PathBuf::from(env::var("CARGO_MANIFEST_DIR").expect("cargo sets it")).join("../..");
-    let (folder, remedy) = match env::var_os("LICTOR_LIB") {
-        Some(named) => (root.join("bindings/rust").join(named), "let LICTOR_LIB name the folder that has it"),
-        None => (root.join("target/native").join(&processor), "or let LICTOR_LIB name a folder that has it"),
+    let here = PathBuf::from(env::var("CARGO_MANIFEST_DIR").expect("cargo sets it"));
+    let above = here.join("../..");
+    let root = above.canonicalize().unwrap_or(above);
+    let (folder, first) = match env::var_os("LICTOR_LIB") {
+        Some(named) => (here.join(named), "let LICTOR_LIB name a folder that has it, or unset it and make the archive"),
+        None => (root.join("target/native").join(&processor), "let LICTOR_LIB name a folder that has it, or make it"),
     };
     let archive = folder.join("liblictor.a");
     println!("cargo:rerun-if-changed={}", archive.display());
     if !archive.is_file() {
-        let root = root.canonicalize().unwrap_or(root);
         eprintln!("lictor: there is no archive at {}", archive.display());
         eprintln!(
-            "lictor: make it for {processor} by {0}/tools/native-archive (for another processor: {0}/tools/native-archive TARGET), {remedy}",
+            "lictor: {first} by {}/tools/native-archive, which takes a TARGET for another processor",
             root.display()
         );
         process::exit(1);

@@ -57,6 +57,7 @@ struct tick {
     struct lictor_check_marks found;
     struct lictor_forecast_marks forecast;
     struct lictor_forecast_reach reach;
+    struct lictor_derived derived;
     uint64_t place, trips, bin, length;
 };
 
@@ -76,7 +77,7 @@ static void forms(void) {
     lictor_tier1_new(LICTOR_TIER1_PARTS(&a.state));
     for (uint32_t t = 0; t < 2000; t++) {
         struct lictor_config c = arm();
-        struct lictor_chunk chunk = {a.rows, ROWS * AXES, t, t, ROWS, AXES, 2};
+        struct lictor_chunk chunk = {a.rows, ROWS * AXES, t + 7, t, ROWS, AXES, 2};
         const size_t from = below(4), i = below(7), pos = AXES - (below(30) == 0), aux = below(3), ext = below(5);
         draw(a.pos, AXES), draw(a.vel, AXES), draw(a.aux, 2), draw(a.ext, 4), draw(a.rows, ROWS * AXES), draw(a.previous, AXES);
         c.counts.brake = below(5), c.counts.kind = below(5), c.counts.contact = below(2), c.counts.clamp = below(2);
@@ -88,7 +89,8 @@ static void forms(void) {
         b = a;
 #define PARTS LICTOR_CONFIG_PARTS(&c)
 #define GATE c.center, c.scale, c.numbers.tau, 4095, 2, terms
-        SAME(lictor_features(PARTS, LICTOR_TIER1_PARTS(&a.state), a.pos, pos, a.ext, ext, 1, t, t, ROWS, AXES, chunk.exec_steps,
+        SAME(lictor_derive(PARTS, &a.derived), lictor_guard_derive(&c, &b.derived));
+        SAME(lictor_features(PARTS, LICTOR_TIER1_PARTS(&a.state), a.pos, pos, a.ext, ext, 1, t + 7, t, ROWS, AXES, chunk.exec_steps,
                              a.rows, ROWS * AXES, &a.scores, &a.marks),
              lictor_guard_features(&c, &b.state, a.pos, pos, a.ext, ext, &chunk, &b.scores, &b.marks));
         SAME(lictor_features(PARTS, LICTOR_TIER1_PARTS(&a.state), a.pos, pos, a.ext, ext, 0, 0, 0, 0, 0, 0, a.rows, 0, &a.scores,

@@ -61,7 +61,10 @@ fn what_belongs_to_the_arm_has_no_default() {
         (FuseConfig { reach_max: START.reach_max, ..whole }, Refusal::Number),
         (FuseConfig { box_lo: START.box_lo, ..whole }, Refusal::Number),
         (FuseConfig { box_hi: START.box_hi, ..whole }, Refusal::Number),
-        (FuseConfig { brake: START.brake, ..whole }, Refusal::Number),
+        (FuseConfig { brake: BrakeModel { k_p: START.brake.k_p, ..BRAKE }, ..whole }, Refusal::Number),
+        (FuseConfig { brake: BrakeModel { k_v: START.brake.k_v, ..BRAKE }, ..whole }, Refusal::Number),
+        (FuseConfig { brake: BrakeModel { dt: START.brake.dt, ..BRAKE }, ..whole }, Refusal::Number),
+        (FuseConfig { brake: BrakeModel { substeps: START.brake.substeps, ..BRAKE }, ..whole }, Refusal::Steps),
     ];
     for (i, (config, refusal)) in missing.iter().enumerate() {
         assert_eq!(Config::new(config).unwrap_err(), *refusal, "missing part {i}");
@@ -152,6 +155,7 @@ fn a_chunk_that_does_not_come_out_even_is_refused() {
     assert_eq!(check(0, &[0.0; 2]), Err(Refusal::Empty));
     assert_eq!(check(2, &[]), Err(Refusal::Empty));
     assert_eq!(check(2, &[0.0; 130]), Err(Refusal::TooLong));
-    assert_eq!(check(1, &vec![0.0; 70_000]), Err(Refusal::TooLong));
+    // two rows more than 16 bits hold
+    assert_eq!(check(1, &vec![0.0; 65_538]), Err(Refusal::TooLong));
     assert_eq!(check(1, &[0.0; 2]), Err(Refusal::Width));
 }
