@@ -71,8 +71,8 @@ extern "C" {
    refused as the table has it (65536 substeps with LICTOR_STEPS, a trail's head of 256 with LICTOR_SIZE), and with LICTOR_MISFIT
    where the table has nothing against it. What is not there is not judged: a term past n_terms, the channels without a contact, the
    calibration's counts without a calibration, and what the header of a buffer that holds no chunk says of one. (What is there and not
-   read is judged, as react_ticks is for the second-order brake.) The width of
-   an argument that is passed by itself is its C type; C cuts what is wider before the call. */
+   read is judged, as react_ticks is for the second-order brake.) The width of an argument that is passed by itself is its C type; C
+   cuts what is wider before the call. */
 
 enum lictor_refusal {
     LICTOR_ACCEPTED = 0,
@@ -129,7 +129,8 @@ static inline const char *lictor_refusal_text(uint64_t number) {
 
 /* ---- where it runs */
 
-/* No numbers: what an entry is handed for a slice of count 0, as in lictor_norm(LICTOR_NONE, 0, 0, &norm). */
+/* No numbers: what an entry is handed for a slice of count 0 that it reads, as in lictor_norm(LICTOR_NONE, 0, 0, &norm). For one that it
+   writes any number of the caller's does. */
 static const double lictor_nothing[1] = {0.0};
 #define LICTOR_NONE lictor_nothing
 
