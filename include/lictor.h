@@ -606,7 +606,7 @@ struct lictor_terms {
 
 LICTOR_MUST_USE LICTOR_NOT_NULL
 static inline struct lictor_terms lictor_terms_of(const struct lictor_config *config) {
-    struct lictor_terms terms;
+    struct lictor_terms terms = {{0}};
     for (int i = 0; i < 8; i++) terms.bits[i] = lictor_narrow(config->counts.terms[i], UINT32_MAX);
     return terms;
 }
