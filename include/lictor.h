@@ -1,23 +1,31 @@
-/* The guard's entries: limits, scores and the stopping forecast, each proved equal to its rule.
+/* The guard's entries: limits, scores and the stopping forecast, each proved equal to its rule. docs/INTEGRATION.md says in which order a
+ * control box calls them, and what it does at each refusal.
+ *
+ * There are two forms. An entry (lictor_check_chunk) is a function of the archive, on flat arrays. A guard form (lictor_guard_check_chunk, at
+ * the end of this file) is the same entry on one struct for the configuration with its calibration and one for a chunk, and takes a
+ * null pointer for no numbers. What is said of an entry holds of its guard form.
  *
  * Every pointer is to memory of the caller's that nothing else writes during the call; what is written overlaps nothing
- * else that is passed, and no pointer is kept. A slice is a pointer to its first number and a count of numbers; the
- * pointer is not null and is aligned for a double also where the count is 0. An entry that can refuse returns the number of the refusal, 0
- * where it accepts; a refusal leaves every output as it was, save that a forecast's sets its place and, with
- * LICTOR_COMPUTED, keeps the entries before it.
+ * else that is passed, and no pointer is kept. A slice is a pointer to its first number and a count of numbers. To an entry the
+ * pointer is not null and is aligned for a double also where the count is 0: pass LICTOR_NONE there. An entry that can refuse
+ * returns the number of the refusal, 0 where it accepts; a refusal leaves every output as it was, save that a forecast's sets its place
+ * and, with LICTOR_COMPUTED, keeps the entries before it.
  *
- * Threads: the library has no state of its own, allocates nothing and calls nothing but memcpy, memmove and memset, so that any
- * number of threads may be in it at once, each with memory of its own.
+ * Threads: the library has no state of its own and calls nothing but memcpy, memmove and memset, so that any number of threads may be
+ * in it at once, each with memory of its own.
+ *
+ * The heap: none. The stack: no entry needs more than LICTOR_STACK bytes of it (tests/c/stack.c).
  *
  * The floating-point environment: the processor has to round to nearest and to keep numbers below the least normal one, as
  * it does unless a program changes it (-ffast-math can, by flushing them to zero: the length of 1e-160 is then 0). Under any other
- * setting nothing here is promised. lictor_environment_ok tells, in a few nanoseconds; the flags of the environment are
+ * setting nothing here is promised. lictor_environment_ok tells, in some tens of nanoseconds; the flags of the environment are
  * not read, and may be set.
  *
- * The stack: no entry needs more than LICTOR_STACK bytes of it (tests/c/stack.c).
- *
  * What is trusted: the prover, and the compiler behind the language's abstract machine, which no proof covers. No entry
- * rests on an assumed contract; those of C's read and write are assumed by the programs beside this library alone.
+ * rests on an assumed contract; those of C's read and write are assumed by the programs beside this library alone. What this file
+ * itself computes, in the guard forms, is not proved but tested (tests/c/guard.c).
+ *
+ * Languages: C99 and later, C++11 and later.
  */
 #ifndef LICTOR_H
 #define LICTOR_H
@@ -25,8 +33,36 @@
 #include <stddef.h>
 #include <stdint.h>
 
+/* ---- the version of this file, and so of the archive that it was installed with */
+
+#define LICTOR_VERSION_MAJOR 0
+#define LICTOR_VERSION_MINOR 1
+#define LICTOR_VERSION_PATCH 0
+#define LICTOR_VERSION "0.1.0"
+/* for comparisons: LICTOR_VERSION_NUMBER >= 100 is 0.1.0 or later */
+#define LICTOR_VERSION_NUMBER (LICTOR_VERSION_MAJOR * 10000 + LICTOR_VERSION_MINOR * 100 + LICTOR_VERSION_PATCH)
+
+/* ---- what a compiler is told: a result that is dropped and a null pointer are mistakes */
+
+#if defined(__cplusplus) && __cplusplus >= 201703L
+#define LICTOR_MUST_USE [[nodiscard]]
+#elif defined(__GNUC__)
+#define LICTOR_MUST_USE __attribute__((warn_unused_result))
+#else
+#define LICTOR_MUST_USE
+#endif
+
+#if defined(__GNUC__)
+#define LICTOR_NOT_NULL __attribute__((nonnull))
+#else
+#define LICTOR_NOT_NULL
+#endif
+
 #ifdef __cplusplus
+#define LICTOR_CAST(type, number) static_cast<type>(number)
 extern "C" {
+#else
+#define LICTOR_CAST(type, number) ((type)(number))
 #endif
 
 /* ---- refusals, in the order of judging: the first that applies is given, LICTOR_MISFIT before all others
@@ -35,37 +71,68 @@ extern "C" {
    refused as the table has it (65536 substeps with LICTOR_STEPS, a trail's head of 256 with LICTOR_SIZE), and with LICTOR_MISFIT
    where the table has nothing against it. What is not there is not judged: a term past n_terms, the channels without a contact, the
    calibration's counts without a calibration, and what the header of a buffer that holds no chunk says of one. (What is there and not
-   read is judged, as react_ticks is for the second-order brake.) The width of
-   an argument that is passed by itself is its C type; C cuts what is wider before the call. */
+   read is judged, as react_ticks is for the second-order brake.) The width of an argument that is passed by itself is its C type; C
+   cuts what is wider before the call. */
 
-#define LICTOR_ACCEPTED 0
-/* dim, pos_dim, term count, feature bit, window length, trail head or trail count is out of size */
-#define LICTOR_SIZE 1
-/* a configuration number, or one derived from it, isn't finite or is out of its range */
-#define LICTOR_NUMBER 2
-/* substeps, commit, braking steps or horizon ticks are out of range */
-#define LICTOR_STEPS 3
-/* the contact's two channels are equal, or one is at or above aux_count */
-#define LICTOR_CHANNELS 4
-/* a chunk, in the order of judging: no rows or no width, over 64 rows, over 8 wide, executes more rows than it has, other
-   than rows times width numbers */
-#define LICTOR_EMPTY 5
-#define LICTOR_TOO_LONG 6
-#define LICTOR_TOO_WIDE 7
-#define LICTOR_EXEC_EXCEEDS_HORIZON 8
-#define LICTOR_LEN_MISMATCH 9
-/* a chunk's width differs from dim */
-#define LICTOR_WIDTH 10
-/* a slice is too short */
-#define LICTOR_SHORT 11
-/* a number of an input slice, of a trail, of held features or of scores isn't finite */
-#define LICTOR_NOT_FINITE 12
-/* a computed number isn't finite */
-#define LICTOR_COMPUTED 13
-/* the boundary's own: a code or a flag is none of its kind, or a count doesn't fit its field and no number above is for it */
-#define LICTOR_MISFIT 255
+enum lictor_refusal {
+    LICTOR_ACCEPTED = 0,
+    /* dim, pos_dim, term count, feature bit, window length, trail head or trail count is out of size */
+    LICTOR_SIZE = 1,
+    /* a configuration number, or one derived from it, isn't finite or is out of its range */
+    LICTOR_NUMBER = 2,
+    /* substeps, commit, braking steps or horizon ticks are out of range */
+    LICTOR_STEPS = 3,
+    /* the contact's two channels are equal, or one is at or above aux_count */
+    LICTOR_CHANNELS = 4,
+    /* a chunk, in the order of judging: no rows or no width, over 64 rows, over 8 wide, executes more rows than it has, other
+       than rows times width numbers */
+    LICTOR_EMPTY = 5,
+    LICTOR_TOO_LONG = 6,
+    LICTOR_TOO_WIDE = 7,
+    LICTOR_EXEC_EXCEEDS_HORIZON = 8,
+    LICTOR_LEN_MISMATCH = 9,
+    /* a chunk's width differs from dim */
+    LICTOR_WIDTH = 10,
+    /* a slice is too short */
+    LICTOR_SHORT = 11,
+    /* a number of an input slice, of a trail, of held features or of scores isn't finite */
+    LICTOR_NOT_FINITE = 12,
+    /* a computed number isn't finite */
+    LICTOR_COMPUTED = 13,
+    /* the boundary's own: a code or a flag is none of its kind, or a count doesn't fit its field and no number above is for it; of a
+       guard form also: a pointer is null and its count isn't 0 */
+    LICTOR_MISFIT = 255
+};
+
+/* What a number stands for, in a few words of English that end without a point. Never null. */
+LICTOR_MUST_USE
+static inline const char *lictor_refusal_text(uint64_t number) {
+    switch (number) {
+    case LICTOR_ACCEPTED: return "accepted";
+    case LICTOR_SIZE: return "a dimension, term count, feature bit, window length or trail index is out of size";
+    case LICTOR_NUMBER: return "a configuration number is not finite or out of its range";
+    case LICTOR_STEPS: return "a count of steps or ticks is out of range";
+    case LICTOR_CHANNELS: return "the contact's channels are equal or past the declared ones";
+    case LICTOR_EMPTY: return "the chunk is empty";
+    case LICTOR_TOO_LONG: return "the chunk has too many rows";
+    case LICTOR_TOO_WIDE: return "the chunk's rows are too wide";
+    case LICTOR_EXEC_EXCEEDS_HORIZON: return "the chunk executes more rows than it has";
+    case LICTOR_LEN_MISMATCH: return "the chunk's numbers are not rows times width";
+    case LICTOR_WIDTH: return "the chunk's width is not the configured dimension";
+    case LICTOR_SHORT: return "a slice is too short";
+    case LICTOR_NOT_FINITE: return "an input number is not finite";
+    case LICTOR_COMPUTED: return "a computed number is not finite";
+    case LICTOR_MISFIT: return "a code or a flag is none of its kind, a count does not fit its field, or a null pointer has numbers";
+    default: return "no refusal has this number";
+    }
+}
 
 /* ---- where it runs */
+
+/* No numbers: what an entry is handed for a slice of count 0 that it reads, as in lictor_norm(LICTOR_NONE, 0, 0, &norm). For one that it
+   writes any number of the caller's does. */
+static const double lictor_nothing[1] = {0.0};
+#define LICTOR_NONE lictor_nothing
 
 /* What an entry needs of the stack, at most. Measured with the kit's clang 22 at -O3: 18,959 bytes on Arm and 18,951 on x86-64, both by
    lictor_tier1_reset. */
@@ -73,9 +140,11 @@ extern "C" {
 
 /* Use lictor_environment_ok below. Whether the processor rounds to nearest and keeps small numbers, where one is 1 and least is
    2^-1022; they are arguments so that nothing is computed before the call. */
+LICTOR_MUST_USE
 uint64_t lictor_environment(double one, double least);
 
 /* 1 where the floating-point environment of this thread is the one that the entries are proved for, else 0. */
+LICTOR_MUST_USE
 static inline uint64_t lictor_environment_ok(void) {
     return lictor_environment(1.0, 2.2250738585072014e-308);
 }
@@ -83,21 +152,27 @@ static inline uint64_t lictor_environment_ok(void) {
 /* ---- numbers */
 
 /* a where a < b, else b */
+LICTOR_MUST_USE
 double lictor_min(double a, double b);
 
 /* a where a > b, else b */
+LICTOR_MUST_USE
 double lictor_max(double a, double b);
 
 /* lo where x < lo, hi where x > hi, else x */
+LICTOR_MUST_USE
 double lictor_clamp(double x, double lo, double hi);
 
 /* The root of x, to nearest. LICTOR_COMPUTED below zero, at an infinity and at a NaN. */
+LICTOR_MUST_USE LICTOR_NOT_NULL
 uint64_t lictor_sqrt(double x, double *root);
 
 /* The length of the first n coordinates of v. LICTOR_SHORT, LICTOR_NOT_FINITE, LICTOR_COMPUTED. */
+LICTOR_MUST_USE LICTOR_NOT_NULL
 uint64_t lictor_norm(const double *v, size_t v_count, size_t n, double *norm);
 
 /* The distance of a and b over their first n coordinates. LICTOR_SHORT, LICTOR_NOT_FINITE, LICTOR_COMPUTED. */
+LICTOR_MUST_USE LICTOR_NOT_NULL
 uint64_t lictor_dist(const double *a, size_t a_count, const double *b, size_t b_count, size_t n, double *dist);
 
 /* ---- chunks: rows of planned actions, row i from i x dim */
@@ -114,30 +189,37 @@ struct lictor_chunk_header {
 
 /* Copies a chunk into a buffer; the numbers past the chunk's own stay. The old header isn't read.
    LICTOR_EMPTY to LICTOR_LEN_MISMATCH, LICTOR_NOT_FINITE. */
+LICTOR_MUST_USE LICTOR_NOT_NULL
 uint64_t lictor_fill(double numbers[512], struct lictor_chunk_header *header, uint32_t seq, uint32_t t_emit,
                      uint16_t horizon, uint16_t dim, uint16_t exec_steps, const double *rows, size_t rows_count);
 
 /* The length of row i, the last row at or past the horizon; 0 where there are no rows or the row runs past the numbers.
    The row is copied where there is room for dim numbers. Refuses nothing. */
+LICTOR_MUST_USE LICTOR_NOT_NULL
 size_t lictor_action(const double *rows, size_t rows_count, uint16_t horizon, uint16_t dim, size_t i, double *row,
                      size_t row_count);
 
 /* Writes the numbers of row over that row, as many as both have. Refuses nothing. */
+LICTOR_NOT_NULL
 void lictor_set_row(double *rows, size_t rows_count, uint16_t horizon, uint16_t dim, size_t i, const double *row,
                     size_t row_count);
 
 /* How many of a buffer's numbers are rows of a held chunk: horizon x dim where filled isn't 0 and they are there, else 0. */
+LICTOR_MUST_USE LICTOR_NOT_NULL
 size_t lictor_held_rows(const double numbers[512], uint16_t horizon, uint16_t dim, uint64_t filled);
 
 /* ---- the hit window: the last pushes, a bit each, the newest lowest; 0 is a new window */
 
 /* The mask of a window of n pushes, 2^n - 1. LICTOR_SIZE outside 1..63. */
+LICTOR_MUST_USE LICTOR_NOT_NULL
 uint64_t lictor_mask(uint8_t n, uint64_t *mask);
 
 /* The bits after one more push, a hit where hit isn't 0. */
+LICTOR_MUST_USE
 uint64_t lictor_push(uint64_t bits, uint64_t hit, uint64_t mask);
 
 /* How many bits are set. */
+LICTOR_MUST_USE
 uint64_t lictor_hits(uint64_t bits);
 
 /* ---- the trail: a ring of the last 32 positions, 8 numbers to a slot; all zeros is a new one */
@@ -148,25 +230,31 @@ struct lictor_trail_marks {
 
 /* Records the first d coordinates of p, at most 8 and as many as there are; the slot's other numbers stay. LICTOR_SIZE,
    LICTOR_NOT_FINITE. */
+LICTOR_MUST_USE LICTOR_NOT_NULL
 uint64_t lictor_trail_push(double numbers[256], struct lictor_trail_marks *marks, const double *p, size_t p_count,
                            size_t d);
 
 /* Lets go of the samples; the numbers stay. LICTOR_SIZE, LICTOR_NOT_FINITE. */
+LICTOR_MUST_USE LICTOR_NOT_NULL
 uint64_t lictor_trail_clear(double numbers[256], struct lictor_trail_marks *marks);
 
 /* The distance from the oldest to the newest of the last w samples, over the first d coordinates; 0 for too few samples or a w
    out of range. LICTOR_SIZE, LICTOR_NOT_FINITE, LICTOR_COMPUTED. */
+LICTOR_MUST_USE LICTOR_NOT_NULL
 uint64_t lictor_trail_net(const double numbers[256], const struct lictor_trail_marks *marks, size_t d, size_t w,
                           double *net);
 
 /* The length of the way between them, sample by sample, likewise. */
+LICTOR_MUST_USE LICTOR_NOT_NULL
 uint64_t lictor_trail_path(const double numbers[256], const struct lictor_trail_marks *marks, size_t d, size_t w,
                            double *path);
 
 /* How many samples are held. LICTOR_SIZE, LICTOR_NOT_FINITE. */
+LICTOR_MUST_USE LICTOR_NOT_NULL
 uint64_t lictor_trail_len(const double numbers[256], const struct lictor_trail_marks *marks, uint64_t *len);
 
 /* 1 where none is held, else 0, likewise. */
+LICTOR_MUST_USE LICTOR_NOT_NULL
 uint64_t lictor_trail_is_empty(const double numbers[256], const struct lictor_trail_marks *marks, uint64_t *empty);
 
 /* ---- the configuration: 44 numbers, 26 counts and codes, and the calibration's two tables */
@@ -190,7 +278,8 @@ struct lictor_counts {
     uint64_t substeps, commit, brake_steps;   /*  8..10: 16 bits; LICTOR_STEPS past them */
     uint64_t react_ticks;                     /* 11: 16 bits */
     uint64_t terms[8];                        /* 12..19: feature bits, 32 bits; LICTOR_SIZE past them */
-    uint64_t armed;                           /* 20: trip bits, 32 bits */
+    uint64_t armed;                           /* 20: trip bits, 32 bits; a bit that is none of LICTOR_TRIP_ALL arms nothing, and no number
+                                                    refuses it */
     uint64_t aux_count;                       /* 21: how many channels the camera declares, 64 bits */
     uint64_t calibrated;                      /* 22: a flag, 1 where there is a calibration; else nothing of it is judged */
     uint64_t mask, n_terms;                   /* 23..24: feature bits, 32 bits, and a count, 8 bits; LICTOR_SIZE past them */
@@ -222,6 +311,7 @@ struct lictor_counts {
 #define LICTOR_TRIP_JERK 8
 #define LICTOR_TRIP_REACH 16
 #define LICTOR_TRIP_CONTACT 32
+#define LICTOR_TRIP_ALL 63
 
 /* What is derived from a configuration. */
 struct lictor_derived {
@@ -233,6 +323,7 @@ struct lictor_derived {
 
 /* Judges a configuration and derives from it. The tables hold feature j of time bin b at b x 12 + j. LICTOR_MISFIT,
    LICTOR_SIZE, LICTOR_NUMBER, LICTOR_STEPS, LICTOR_CHANNELS. */
+LICTOR_MUST_USE LICTOR_NOT_NULL
 uint64_t lictor_derive(const struct lictor_numbers *numbers, const struct lictor_counts *counts,
                        const double center[192], const double scale[192], struct lictor_derived *derived);
 
@@ -250,6 +341,7 @@ struct lictor_check_marks {
 /* Checks a chunk from a position; aux is what the camera saw, and a slow zone whose channels it lacks is off. Writes the
    first horizon x dim numbers of out, the marks, and the greatest speed. LICTOR_MISFIT, LICTOR_SIZE to
    LICTOR_COMPUTED. */
+LICTOR_MUST_USE LICTOR_NOT_NULL
 uint64_t lictor_check_chunk(const struct lictor_numbers *numbers, const struct lictor_counts *counts,
                             const double center[192], const double scale[192], const double *position,
                             size_t position_count, const double *aux, size_t aux_count, const double *rows,
@@ -258,6 +350,7 @@ uint64_t lictor_check_chunk(const struct lictor_numbers *numbers, const struct l
 
 /* Checks one action against the one before it, without LICTOR_TRIP_ACCEL and LICTOR_TRIP_JERK. Writes the first dim numbers
    of out, the marks, and the speed. LICTOR_MISFIT, LICTOR_SIZE to LICTOR_CHANNELS, LICTOR_SHORT to LICTOR_COMPUTED. */
+LICTOR_MUST_USE LICTOR_NOT_NULL
 uint64_t lictor_check_action(const struct lictor_numbers *numbers, const struct lictor_counts *counts,
                              const double center[192], const double scale[192], const double *position,
                              size_t position_count, const double *aux, size_t aux_count, const double *previous,
@@ -314,12 +407,14 @@ struct lictor_tier1 {
 #define LICTOR_TIER1_PARTS(s) (s)->before, &(s)->header, (s)->trail, &(s)->samples, (s)->held, &(s)->kept
 
 /* Makes the state new: no chunk, no sample, no feature. Refuses nothing and reads nothing. */
+LICTOR_NOT_NULL
 void lictor_tier1_new(double before[512], struct lictor_chunk_header *header, double trail[256],
                       struct lictor_trail_marks *samples, double held[6], struct lictor_held_marks *kept);
 
 /* Lets go of the chunk before, the trail and the held features, as between episodes; the chunk's and the trail's numbers stay, and
    so does what the header says of the chunk.
    LICTOR_MISFIT, LICTOR_SIZE, LICTOR_EMPTY to LICTOR_LEN_MISMATCH for the chunk before, LICTOR_NOT_FINITE. */
+LICTOR_MUST_USE LICTOR_NOT_NULL
 uint64_t lictor_tier1_reset(double before[512], struct lictor_chunk_header *header, double trail[256],
                             struct lictor_trail_marks *samples, double held[6], struct lictor_held_marks *kept);
 
@@ -327,6 +422,7 @@ uint64_t lictor_tier1_reset(double before[512], struct lictor_chunk_header *head
    chunk came (seq to rows_count): it replaces all held features, invalid ones too, and the chunk before; else what is said
    of a chunk isn't read. The trail is only read. A position may be short: what is missing isn't shared with the action. At most four
    external scalars are read. LICTOR_MISFIT, LICTOR_SIZE to LICTOR_WIDTH, LICTOR_NOT_FINITE, LICTOR_COMPUTED. */
+LICTOR_MUST_USE LICTOR_NOT_NULL
 uint64_t lictor_features(const struct lictor_numbers *numbers, const struct lictor_counts *counts,
                          const double center[192], const double scale[192], double before[512],
                          struct lictor_chunk_header *header, const double trail[256],
@@ -340,22 +436,26 @@ uint64_t lictor_features(const struct lictor_numbers *numbers, const struct lict
 
 /* Puts f in units of the calibration, in z; a bin above 15 is 15. LICTOR_MISFIT, LICTOR_SIZE, LICTOR_NUMBER,
    LICTOR_NOT_FINITE, LICTOR_COMPUTED. */
+LICTOR_MUST_USE LICTOR_NOT_NULL
 uint64_t lictor_standardise(const double center[192], const double scale[192], double tau, uint32_t mask,
                             uint8_t n_terms, const uint32_t terms[8], size_t bin, struct lictor_scores *scores,
                             struct lictor_marks *marks);
 
 /* Sets s and fired from z; s is negative infinity where no term is live. LICTOR_MISFIT, LICTOR_SIZE, LICTOR_NUMBER,
    LICTOR_NOT_FINITE. */
+LICTOR_MUST_USE LICTOR_NOT_NULL
 uint64_t lictor_aggregate(const double center[192], const double scale[192], double tau, uint32_t mask,
                           uint8_t n_terms, const uint32_t terms[8], struct lictor_scores *scores,
                           struct lictor_marks *marks);
 
 /* Sets trips to 1 where s is above tau, else to 0. Refuses as lictor_aggregate does. */
+LICTOR_MUST_USE LICTOR_NOT_NULL
 uint64_t lictor_trip(const double center[192], const double scale[192], double tau, uint32_t mask, uint8_t n_terms,
                      const uint32_t terms[8], const struct lictor_scores *scores, const struct lictor_marks *marks,
                      uint64_t *trips);
 
 /* The time bin of tick t, of 16 over the horizon. LICTOR_STEPS for a horizon of 0 ticks. */
+LICTOR_MUST_USE LICTOR_NOT_NULL
 uint64_t lictor_time_bin(uint32_t t, uint32_t horizon_ticks, uint64_t *bin);
 
 /* ---- the brake: whether the arm can still stop inside its box, and the rows that brake and hold */
@@ -374,6 +474,7 @@ struct lictor_forecast_reach {
    marks and the reach; the rest of the slacks stays. A refusal sets place: for LICTOR_COMPUTED it is the place of the first
    number that isn't finite, counted from 1, and the slacks before it are written; for any other number it is 0.
    LICTOR_MISFIT leaves place as it was. LICTOR_MISFIT, LICTOR_SIZE to LICTOR_COMPUTED. */
+LICTOR_MUST_USE LICTOR_NOT_NULL
 uint64_t lictor_brake_feasible(const struct lictor_numbers *numbers, const struct lictor_counts *counts,
                                const double center[192], const double scale[192], const double *position,
                                size_t position_count, const double *velocity, size_t velocity_count, const double *rows,
@@ -384,6 +485,7 @@ uint64_t lictor_brake_feasible(const struct lictor_numbers *numbers, const struc
 /* The row that brakes, over the first dim numbers of out: the position inside its box, or the velocity ramped down. A position
    or velocity may be short: what is missing counts as 0. LICTOR_MISFIT, LICTOR_SIZE to LICTOR_CHANNELS, LICTOR_SHORT to
    LICTOR_COMPUTED. */
+LICTOR_MUST_USE LICTOR_NOT_NULL
 uint64_t lictor_brake_action(const struct lictor_numbers *numbers, const struct lictor_counts *counts,
                              const double center[192], const double scale[192], const double *position,
                              size_t position_count, const double *velocity, size_t velocity_count, double *out,
@@ -391,29 +493,217 @@ uint64_t lictor_brake_action(const struct lictor_numbers *numbers, const struct 
 
 /* The row that holds, over the first dim numbers of out: the latched position inside its box, or no velocity.
    LICTOR_MISFIT, LICTOR_SIZE to LICTOR_CHANNELS, LICTOR_SHORT to LICTOR_COMPUTED, the last never at a box. */
+LICTOR_MUST_USE LICTOR_NOT_NULL
 uint64_t lictor_hold_action(const struct lictor_numbers *numbers, const struct lictor_counts *counts,
                             const double center[192], const double scale[192], const double *position,
                             size_t position_count, double *out, size_t out_count);
 
+/* ---- guard forms: the entries that take a configuration, a calibration or a chunk, on one struct for each
+
+   Where the entry is handed several arrays that belong together, its guard form is handed the struct that has them, so that no array of
+   another configuration comes in between. A null pointer with a count of 0 is a slice of no numbers, as for an arm without a camera;
+   with any other count it is refused with LICTOR_MISFIT. A pointer that has no count is not null. */
+
+/* A configuration with its calibration. Start from all zeros, then set what the arm has. lictor_guard_derive judges it; so does every call. */
+struct lictor_config {
+    struct lictor_numbers numbers;
+    struct lictor_counts counts;
+    double center[192], scale[192]; /* the calibration's tables, feature j of time bin b at b x 12 + j; not read where calibrated is 0 */
+};
+
+/* The parts of a configuration, as the entries take them. */
+#define LICTOR_CONFIG_PARTS(c) &(c)->numbers, &(c)->counts, (c)->center, (c)->scale
+
+/* A chunk that is lent: horizon x dim numbers. */
+struct lictor_chunk {
+    const double *rows;
+    size_t rows_count;
+    uint32_t seq, t_emit;
+    uint16_t horizon, dim, exec_steps;
+};
+
+/* The parts of a chunk that a check and a forecast read. */
+#define LICTOR_CHUNK_PARTS(c) lictor_lent((c)->rows), (c)->rows_count, (c)->horizon, (c)->dim, (c)->exec_steps
+
+/* The numbers, or where there are none an address that an entry takes. */
+LICTOR_MUST_USE
+static inline const double *lictor_lent(const double *numbers) { return numbers ? numbers : LICTOR_NONE; }
+
+/* Whether a pointer is null and yet has numbers. */
+LICTOR_MUST_USE
+static inline int lictor_missing(const double *numbers, size_t count) { return !numbers && count > 0; }
+
+/* lictor_derive */
+LICTOR_MUST_USE LICTOR_NOT_NULL
+static inline uint64_t lictor_guard_derive(const struct lictor_config *config, struct lictor_derived *derived) {
+    return lictor_derive(LICTOR_CONFIG_PARTS(config), derived);
+}
+
+/* lictor_action: a row of a chunk. Gives 0 where there are no rows. */
+LICTOR_MUST_USE
+static inline size_t lictor_guard_action(const struct lictor_chunk *chunk, size_t i, double *row, size_t row_count) {
+    double none = 0.0;
+    if (lictor_missing(chunk->rows, chunk->rows_count) || lictor_missing(row, row_count)) return 0;
+    return lictor_action(lictor_lent(chunk->rows), chunk->rows_count, chunk->horizon, chunk->dim, i, row ? row : &none, row_count);
+}
+
+/* lictor_check_chunk */
+LICTOR_MUST_USE
+static inline uint64_t lictor_guard_check_chunk(const struct lictor_config *config, const double *position,
+                                                size_t position_count, const double *aux, size_t aux_count,
+                                                const struct lictor_chunk *chunk, double *out, size_t out_count,
+                                                struct lictor_check_marks *marks, double *peak_speed) {
+    double none = 0.0;
+    if (lictor_missing(position, position_count) || lictor_missing(aux, aux_count) ||
+        lictor_missing(chunk->rows, chunk->rows_count) || lictor_missing(out, out_count))
+        return LICTOR_MISFIT;
+    return lictor_check_chunk(LICTOR_CONFIG_PARTS(config), lictor_lent(position), position_count, lictor_lent(aux), aux_count,
+                              LICTOR_CHUNK_PARTS(chunk), out ? out : &none, out_count, marks, peak_speed);
+}
+
+/* lictor_check_action */
+LICTOR_MUST_USE
+static inline uint64_t lictor_guard_check_action(const struct lictor_config *config, const double *position,
+                                                 size_t position_count, const double *aux, size_t aux_count,
+                                                 const double *previous, size_t previous_count, const double *action,
+                                                 size_t action_count, double *out, size_t out_count,
+                                                 struct lictor_check_marks *marks, double *peak_speed) {
+    double none = 0.0;
+    if (lictor_missing(position, position_count) || lictor_missing(aux, aux_count) || lictor_missing(previous, previous_count) ||
+        lictor_missing(action, action_count) || lictor_missing(out, out_count))
+        return LICTOR_MISFIT;
+    return lictor_check_action(LICTOR_CONFIG_PARTS(config), lictor_lent(position), position_count, lictor_lent(aux), aux_count,
+                               lictor_lent(previous), previous_count, lictor_lent(action), action_count, out ? out : &none,
+                               out_count, marks, peak_speed);
+}
+
+/* lictor_features; a null chunk is none that came. */
+LICTOR_MUST_USE
+static inline uint64_t lictor_guard_features(const struct lictor_config *config, struct lictor_tier1 *state,
+                                             const double *position, size_t position_count, const double *external,
+                                             size_t external_count, const struct lictor_chunk *chunk,
+                                             struct lictor_scores *scores, struct lictor_marks *marks) {
+    const struct lictor_chunk none = {LICTOR_NONE, 0, 0, 0, 0, 0, 0};
+    const struct lictor_chunk *lent = chunk ? chunk : &none;
+    if (lictor_missing(position, position_count) || lictor_missing(external, external_count) ||
+        lictor_missing(lent->rows, lent->rows_count))
+        return LICTOR_MISFIT;
+    return lictor_features(LICTOR_CONFIG_PARTS(config), LICTOR_TIER1_PARTS(state), lictor_lent(position), position_count,
+                           lictor_lent(external), external_count, chunk ? 1 : 0, lent->seq, lent->t_emit, lent->horizon, lent->dim,
+                           lent->exec_steps, lictor_lent(lent->rows), lent->rows_count, scores, marks);
+}
+
+/* A count as a narrower field holds it: one that is too wide becomes the greatest, which the gate refuses with LICTOR_SIZE. */
+LICTOR_MUST_USE
+static inline uint32_t lictor_narrow(uint64_t count, uint32_t greatest) {
+    return count > greatest ? greatest : LICTOR_CAST(uint32_t, count);
+}
+
+/* The terms of a configuration's calibration, as the gate takes them. */
+struct lictor_terms {
+    uint32_t bits[8];
+};
+
+LICTOR_MUST_USE LICTOR_NOT_NULL
+static inline struct lictor_terms lictor_terms_of(const struct lictor_config *config) {
+    struct lictor_terms terms = {{0}};
+    for (int i = 0; i < 8; i++) terms.bits[i] = lictor_narrow(config->counts.terms[i], UINT32_MAX);
+    return terms;
+}
+
+/* The calibration of a configuration, as the gate takes it; its flag is not read. */
+#define LICTOR_CALIBRATION_PARTS(c, terms)                                                                             \
+    (c)->center, (c)->scale, (c)->numbers.tau, lictor_narrow((c)->counts.mask, UINT32_MAX),                             \
+        LICTOR_CAST(uint8_t, lictor_narrow((c)->counts.n_terms, UINT8_MAX)), (terms)->bits
+
+/* lictor_standardise, with the configuration's calibration. Without one, all zeros, it is refused with LICTOR_NUMBER. */
+LICTOR_MUST_USE LICTOR_NOT_NULL
+static inline uint64_t lictor_guard_standardise(const struct lictor_config *config, size_t bin, struct lictor_scores *scores,
+                                                struct lictor_marks *marks) {
+    const struct lictor_terms terms = lictor_terms_of(config);
+    return lictor_standardise(LICTOR_CALIBRATION_PARTS(config, &terms), bin, scores, marks);
+}
+
+/* lictor_aggregate, likewise */
+LICTOR_MUST_USE LICTOR_NOT_NULL
+static inline uint64_t lictor_guard_aggregate(const struct lictor_config *config, struct lictor_scores *scores,
+                                              struct lictor_marks *marks) {
+    const struct lictor_terms terms = lictor_terms_of(config);
+    return lictor_aggregate(LICTOR_CALIBRATION_PARTS(config, &terms), scores, marks);
+}
+
+/* lictor_trip, likewise */
+LICTOR_MUST_USE LICTOR_NOT_NULL
+static inline uint64_t lictor_guard_trip(const struct lictor_config *config, const struct lictor_scores *scores,
+                                         const struct lictor_marks *marks, uint64_t *trips) {
+    const struct lictor_terms terms = lictor_terms_of(config);
+    return lictor_trip(LICTOR_CALIBRATION_PARTS(config, &terms), scores, marks, trips);
+}
+
+/* lictor_time_bin, with the configuration's horizon_ticks; LICTOR_MISFIT where those take more than 32 bits */
+LICTOR_MUST_USE LICTOR_NOT_NULL
+static inline uint64_t lictor_guard_time_bin(const struct lictor_config *config, uint32_t t, uint64_t *bin) {
+    if (config->counts.horizon_ticks > UINT32_MAX) return LICTOR_MISFIT;
+    return lictor_time_bin(t, LICTOR_CAST(uint32_t, config->counts.horizon_ticks), bin);
+}
+
+/* lictor_brake_feasible */
+LICTOR_MUST_USE
+static inline uint64_t lictor_guard_brake_feasible(const struct lictor_config *config, const double *position,
+                                                   size_t position_count, const double *velocity, size_t velocity_count,
+                                                   const struct lictor_chunk *chunk, size_t from, double *slacks,
+                                                   size_t slacks_count, struct lictor_forecast_marks *marks,
+                                                   struct lictor_forecast_reach *reach, uint64_t *place) {
+    double none = 0.0;
+    if (lictor_missing(position, position_count) || lictor_missing(velocity, velocity_count) ||
+        lictor_missing(chunk->rows, chunk->rows_count) || lictor_missing(slacks, slacks_count))
+        return LICTOR_MISFIT;
+    return lictor_brake_feasible(LICTOR_CONFIG_PARTS(config), lictor_lent(position), position_count, lictor_lent(velocity),
+                                 velocity_count, LICTOR_CHUNK_PARTS(chunk), from, slacks ? slacks : &none, slacks_count, marks,
+                                 reach, place);
+}
+
+/* lictor_brake_action */
+LICTOR_MUST_USE
+static inline uint64_t lictor_guard_brake_action(const struct lictor_config *config, const double *position,
+                                                 size_t position_count, const double *velocity, size_t velocity_count,
+                                                 double *out, size_t out_count) {
+    double none = 0.0;
+    if (lictor_missing(position, position_count) || lictor_missing(velocity, velocity_count) || lictor_missing(out, out_count))
+        return LICTOR_MISFIT;
+    return lictor_brake_action(LICTOR_CONFIG_PARTS(config), lictor_lent(position), position_count, lictor_lent(velocity),
+                               velocity_count, out ? out : &none, out_count);
+}
+
+/* lictor_hold_action */
+LICTOR_MUST_USE
+static inline uint64_t lictor_guard_hold_action(const struct lictor_config *config, const double *position,
+                                                size_t position_count, double *out, size_t out_count) {
+    double none = 0.0;
+    if (lictor_missing(position, position_count) || lictor_missing(out, out_count)) return LICTOR_MISFIT;
+    return lictor_hold_action(LICTOR_CONFIG_PARTS(config), lictor_lent(position), position_count, out ? out : &none, out_count);
+}
+
 /* ---- the structs have nothing between their fields */
 
 #ifdef __cplusplus
-#define LICTOR_ASSERT(what, text) static_assert(what, text)
+#define LICTOR_ASSERT(name, words) static_assert(sizeof(struct name) == (words) * sizeof(uint64_t), #name " has gaps")
 #else
-#define LICTOR_ASSERT(what, text) _Static_assert(what, text)
+#define LICTOR_ASSERT(name, words) typedef char name##_has_no_gaps[sizeof(struct name) == (words) * sizeof(uint64_t) ? 1 : -1]
 #endif
-LICTOR_ASSERT(sizeof(struct lictor_chunk_header) == 6 * sizeof(uint64_t), "6 counts");
-LICTOR_ASSERT(sizeof(struct lictor_trail_marks) == 2 * sizeof(uint64_t), "2 counts");
-LICTOR_ASSERT(sizeof(struct lictor_numbers) == 44 * sizeof(double), "44 numbers");
-LICTOR_ASSERT(sizeof(struct lictor_counts) == 26 * sizeof(uint64_t), "26 counts");
-LICTOR_ASSERT(sizeof(struct lictor_derived) == 29 * sizeof(double), "29 numbers");
-LICTOR_ASSERT(sizeof(struct lictor_check_marks) == 2 * sizeof(uint64_t), "2 counts");
-LICTOR_ASSERT(sizeof(struct lictor_held_marks) == 2 * sizeof(uint64_t), "2 counts");
-LICTOR_ASSERT(sizeof(struct lictor_tier1) == 784 * sizeof(uint64_t), "784 words");
-LICTOR_ASSERT(sizeof(struct lictor_forecast_marks) == 2 * sizeof(uint64_t), "2 counts");
-LICTOR_ASSERT(sizeof(struct lictor_forecast_reach) == 2 * sizeof(double), "2 numbers");
-LICTOR_ASSERT(sizeof(struct lictor_scores) == 25 * sizeof(double), "25 numbers");
-LICTOR_ASSERT(sizeof(struct lictor_marks) == 2 * sizeof(uint64_t), "2 counts");
+LICTOR_ASSERT(lictor_chunk_header, 6);
+LICTOR_ASSERT(lictor_trail_marks, 2);
+LICTOR_ASSERT(lictor_numbers, 44);
+LICTOR_ASSERT(lictor_counts, 26);
+LICTOR_ASSERT(lictor_derived, 29);
+LICTOR_ASSERT(lictor_check_marks, 2);
+LICTOR_ASSERT(lictor_held_marks, 2);
+LICTOR_ASSERT(lictor_tier1, 784);
+LICTOR_ASSERT(lictor_forecast_marks, 2);
+LICTOR_ASSERT(lictor_forecast_reach, 2);
+LICTOR_ASSERT(lictor_scores, 25);
+LICTOR_ASSERT(lictor_marks, 2);
+LICTOR_ASSERT(lictor_config, 44 + 26 + 192 + 192);
 #undef LICTOR_ASSERT
 
 #ifdef __cplusplus

@@ -38,7 +38,7 @@ int main(void) {
     const unsigned long kept = control();
     const double small[1] = {1e-160};
     double norm = 7.0;
-    uint64_t ok;
+    uint64_t ok, number;
     expect("as it comes", lictor_environment_ok() == 1);
     expect("a length as it comes", lictor_norm(small, 1, 1, &norm) == LICTOR_ACCEPTED && norm > 0.0);
     for (int i = 0; i < 3; i++) {
@@ -50,8 +50,9 @@ int main(void) {
     for (unsigned i = 0; i < sizeof flushes / sizeof *flushes; i++) {
         set_control(kept | flushes[i]);
         ok = lictor_environment_ok();
-        if (i == 0) lictor_norm(small, 1, 1, &norm);
+        number = i == 0 ? lictor_norm(small, 1, 1, &norm) : LICTOR_ACCEPTED;
         set_control(kept);
+        expect("a length is answered", number == LICTOR_ACCEPTED);
         expect("small numbers taken for 0", ok == 0);
     }
     expect("a length under flush to zero", norm == 0.0);

@@ -1,99 +1,153 @@
 //! The configuration, and what is derived from it.
 
 use crate::{
-    conformal::Calibration,
+    conformal::{self, Calibration},
     raw,
     refusal::{given, Answer},
 };
 
-/// The bits of the checks.
+/// The bits of the checks. A bit of `armed` that is none of them arms nothing, and no number refuses it.
 pub mod trip {
+    /// A row leaves the walls.
     pub const WORKSPACE: u32 = 1;
+    /// A step is longer than `v_max` allows.
     pub const SPEED: u32 = 2;
+    /// A difference of steps exceeds `a_max`.
     pub const ACCEL: u32 = 4;
+    /// A difference of those exceeds `j_max`.
     pub const JERK: u32 = 8;
+    /// The first row is farther than `reach_max` from the position.
     pub const REACH: u32 = 16;
+    /// A step inside the slow zone is longer than the zone's `v_max` allows.
     pub const CONTACT: u32 = 32;
+    /// All six.
+    pub const ALL: u32 = 63;
 }
 
+/// What a row of a chunk is.
 #[derive(Clone, Copy, Debug, PartialEq, Eq)]
 pub enum ActionKind {
+    /// A position of the end effector.
     EePosition,
+    /// A step of the end effector.
     EeDelta,
+    /// Positions of the joints.
     JointPosition,
+    /// Velocities of the joints.
     JointVelocity,
+    /// Anything else; it is treated as a position.
     Other,
 }
 
+/// Whether a check's output is moved inside the limits.
 #[derive(Clone, Copy, Debug, PartialEq, Eq)]
 pub enum ClampMode {
+    /// The rows go out as they came.
     Off,
+    /// The rows are moved inside the armed limits.
     Project,
 }
 
+/// How the arm stops.
 #[derive(Clone, Copy, Debug, PartialEq, Eq)]
 pub enum BrakeKind {
+    /// By a spring and a damper, `k_p` and `k_v`, in substeps.
     PdSecondOrder,
+    /// Its velocity decays at the rate `k_v`.
     FirstOrderDecay,
+    /// At `a_max`.
     BoundedAccel,
+    /// At `a_max`, which it comes to at `j_max`.
     JerkLimited,
+    /// By a command of no velocity, at `a_max`.
     ZeroVelocityHold,
 }
 
-/// Gains, the length of a substep, and counts: substeps in a control step, committed rows, braking steps, ticks to react.
+/// The brake that a forecast is of.
 #[derive(Clone, Copy, Debug, PartialEq)]
 pub struct BrakeModel {
+    /// How the arm stops.
     pub kind: BrakeKind,
+    /// The spring, 0 or more.
     pub k_p: f64,
+    /// The damper, above 0.
     pub k_v: f64,
+    /// The length of a substep, above 0.
     pub dt: f64,
+    /// Substeps in a control step, 1 to 64.
     pub substeps: u16,
+    /// Rows that are committed, at most 64.
     pub commit: u16,
+    /// Control steps of braking after them; (commit + `brake_steps`) x substeps is at most 4,096.
     pub brake_steps: u16,
+    /// Control steps before the arm reacts; the closed kinds alone read it.
     pub react_ticks: u16,
 }
 
 /// A slow zone round the point that the camera's channels a0 and a1 give.
 #[derive(Clone, Copy, Debug, PartialEq)]
 pub struct Contact {
+    /// How far the zone reaches, 0 or more.
     pub radius: f64,
+    /// The speed inside it, above 0.
     pub v_max: f64,
+    /// The channel of the point's first coordinate, below the `aux_count` of the configuration.
     pub a0: u8,
+    /// The channel of its second; another than a0.
     pub a1: u8,
 }
 
-/// The raw configuration.
+/// The raw configuration. [`Config::builder`] starts from defaults; here every number is named.
 #[derive(Clone, Copy, Debug, PartialEq)]
 pub struct FuseConfig {
+    /// What a row is.
     pub kind: ActionKind,
+    /// Coordinates of a row, 1 to 8.
     pub dim: usize,
+    /// Coordinates of a position, 1 to 8.
     pub pos_dim: usize,
+    /// The control period, above 0.
     pub dt: f64,
+    /// The greatest speed, above 0.
     pub v_max: f64,
+    /// The greatest acceleration, above 0.
     pub a_max: f64,
+    /// The greatest jerk, above 0.
     pub j_max: f64,
+    /// How far the first row may be from the position, above 0.
     pub reach_max: f64,
+    /// How far the walls are moved inward, 0 or more.
     pub margin: f64,
+    /// The center of each coordinate of a row; the first dim are read, as of the scale.
     pub norm_center: [f64; 8],
+    /// The scale of each coordinate of a row, above 0.
     pub norm_scale: [f64; 8],
+    /// The low wall of each coordinate of a position; the first `pos_dim` are read, as of the high wall.
     pub box_lo: [f64; 8],
+    /// The high wall.
     pub box_hi: [f64; 8],
+    /// The slow zone, where there is one.
     pub contact: Option<Contact>,
+    /// The brake.
     pub brake: BrakeModel,
+    /// Whether rows are moved inside the limits.
     pub clamp: ClampMode,
+    /// The checks that are made, bits of [`trip`].
     pub armed: u32,
+    /// How many channels the camera declares.
     pub aux_count: usize,
+    /// The calibration of the gate, where there is one.
     pub calibration: Option<Calibration>,
+    /// The ticks of an episode, 1 or more; not judged without a calibration.
     pub horizon_ticks: u32,
 }
 
-/// A configuration laid out as the library takes it: make it once and lend it to every call.
+/// A configuration laid out as the library takes it, with its calibration: make it once and lend it to every call.
 #[derive(Clone, Debug)]
 pub struct Config {
     pub(crate) numbers: raw::Numbers,
     pub(crate) counts: raw::Counts,
-    pub(crate) center: [f64; 192],
-    pub(crate) scale: [f64; 192],
+    pub(crate) gate: Calibration,
 }
 
 /// What is laid out where there is no calibration: nothing of it is read.
@@ -101,8 +155,71 @@ const NO_CALIBRATION: Calibration =
     Calibration { center: [0.0; 192], scale: [0.0; 192], mask: 0, n_terms: 0, terms: [0; 8], tau: 0.0 };
 
 impl Config {
-    pub fn new(c: &FuseConfig) -> Self {
-        let cal = c.calibration.as_ref().unwrap_or(&NO_CALIBRATION);
+    /// A configuration by its parts, the rest by defaults.
+    ///
+    /// ```
+    /// use lictor::{config::Config, Refusal};
+    /// // nothing of the arm has a default: dim and pos_dim are missed first
+    /// assert_eq!(Config::builder().build().unwrap_err(), Refusal::Size);
+    /// ```
+    pub const fn builder() -> ConfigBuilder {
+        ConfigBuilder(ConfigBuilder::START)
+    }
+
+    /// Lays a configuration out, and judges it.
+    ///
+    /// ```
+    /// use lictor::{config::*, Refusal};
+    /// let mut arm = FuseConfig {
+    ///     kind: ActionKind::EePosition,
+    ///     dim: 2,
+    ///     pos_dim: 2,
+    ///     dt: 0.5,
+    ///     v_max: 1.0,
+    ///     a_max: 4.0,
+    ///     j_max: 32.0,
+    ///     reach_max: 1.0,
+    ///     margin: 0.0,
+    ///     norm_center: [0.0; 8],
+    ///     norm_scale: [1.0; 8],
+    ///     box_lo: [-1.0; 8],
+    ///     box_hi: [1.0; 8],
+    ///     contact: None,
+    ///     brake: BrakeModel {
+    ///         kind: BrakeKind::BoundedAccel, k_p: 2.0, k_v: 1.0, dt: 0.5, substeps: 2, commit: 1, brake_steps: 4, react_ticks: 1,
+    ///     },
+    ///     clamp: ClampMode::Project,
+    ///     armed: trip::ALL,
+    ///     aux_count: 0,
+    ///     calibration: None,
+    ///     horizon_ticks: 0,
+    /// };
+    /// assert!(Config::new(&arm).is_ok());
+    /// // walls that the margin makes cross
+    /// arm.margin = 2.0;
+    /// assert_eq!(Config::new(&arm).unwrap_err(), Refusal::Number);
+    /// ```
+    ///
+    /// # Errors
+    ///
+    /// [`Size`](crate::Refusal::Size), [`Number`](crate::Refusal::Number), [`Steps`](crate::Refusal::Steps),
+    /// [`Channels`](crate::Refusal::Channels).
+    pub fn new(c: &FuseConfig) -> Answer<Self> {
+        let config = Self::unjudged(c);
+        config.derive()?;
+        Ok(config)
+    }
+
+    /// Lays a configuration out as it is. Every call judges what it is lent, so one that is not fit is refused there.
+    ///
+    /// ```
+    /// use lictor::{brake, config::{Config, ConfigBuilder}, Refusal};
+    /// let unfit = Config::unjudged(&ConfigBuilder::START);
+    /// assert_eq!(brake::hold_action(&unfit, &[0.0], &mut [0.0]), Err(Refusal::Size));
+    /// ```
+    #[must_use]
+    pub fn unjudged(c: &FuseConfig) -> Self {
+        let gate = c.calibration.unwrap_or(NO_CALIBRATION);
         let zone = c.contact.unwrap_or(Contact { radius: 0.0, v_max: 0.0, a0: 0, a1: 0 });
         let b = &c.brake;
         let numbers = raw::Numbers {
@@ -121,7 +238,7 @@ impl Config {
             norm_scale: c.norm_scale,
             box_lo: c.box_lo,
             box_hi: c.box_hi,
-            tau: cal.tau,
+            tau: gate.tau,
         };
         let counts = raw::Counts {
             dim: c.dim as u64,
@@ -136,23 +253,258 @@ impl Config {
             commit: b.commit.into(),
             brake_steps: b.brake_steps.into(),
             react_ticks: b.react_ticks.into(),
-            terms: cal.terms.map(u64::from),
+            terms: gate.terms.map(u64::from),
             armed: c.armed.into(),
             aux_count: c.aux_count as u64,
             calibrated: c.calibration.is_some().into(),
-            mask: cal.mask.into(),
-            n_terms: cal.n_terms.into(),
+            mask: gate.mask.into(),
+            n_terms: gate.n_terms.into(),
             horizon_ticks: c.horizon_ticks.into(),
         };
-        Self { numbers, counts, center: cal.center, scale: cal.scale }
+        Self { numbers, counts, gate }
     }
 
     /// Judges the configuration, and gives what is derived from it.
+    ///
+    /// ```
+    /// # use lictor::config::{BrakeKind, BrakeModel, Config};
+    /// # let brake = BrakeModel {
+    /// #     kind: BrakeKind::PdSecondOrder, k_p: 2.0, k_v: 1.0, dt: 0.5, substeps: 2, commit: 1, brake_steps: 1, react_ticks: 1,
+    /// # };
+    /// # let builder = Config::builder().axes(1).dt(0.5).v_max(1.0).a_max(1.0).j_max(1.0).reach_max(1.0).brake(brake);
+    /// let config = builder.walls([-1.0; 8], [2.0; 8]).margin(0.25).build()?;
+    /// let derived = config.derive()?;
+    /// assert_eq!((derived.box_lo[0], derived.box_hi[0]), (-0.75, 1.75));
+    /// # Ok::<(), lictor::Refusal>(())
+    /// ```
+    ///
+    /// # Errors
+    ///
+    /// As [`new`](Self::new).
     pub fn derive(&self) -> Answer<Derived> {
         let mut d = Derived::default();
         // SAFETY: the structs are live and laid out as C's, and the place is ours alone.
-        let number = unsafe { raw::lictor_derive(&self.numbers, &self.counts, &self.center, &self.scale, &mut d) };
+        let number =
+            unsafe { raw::lictor_derive(&self.numbers, &self.counts, &self.gate.center, &self.gate.scale, &mut d) };
         given(number, d)
+    }
+
+    /// The calibration that the gate takes, where there is one, so that it is handed over once.
+    ///
+    /// ```
+    /// # use lictor::config::{Config, ConfigBuilder};
+    /// assert!(Config::unjudged(&ConfigBuilder::START).calibration().is_none());
+    /// ```
+    #[must_use]
+    pub const fn calibration(&self) -> Option<&Calibration> {
+        match self.counts.calibrated {
+            1 => Some(&self.gate),
+            _ => None,
+        }
+    }
+
+    /// The time bin of tick `t` in an episode of the configuration's `horizon_ticks`.
+    ///
+    /// ```
+    /// # use lictor::{config::{Config, ConfigBuilder, FuseConfig}, Refusal};
+    /// let of = |horizon_ticks| Config::unjudged(&FuseConfig { horizon_ticks, ..ConfigBuilder::START });
+    /// assert_eq!(of(200).time_bin(13), Ok(1));
+    /// assert_eq!(of(0).time_bin(13), Err(Refusal::Steps));
+    /// ```
+    ///
+    /// # Errors
+    ///
+    /// As [`conformal::time_bin`].
+    pub fn time_bin(&self, t: u32) -> Answer<usize> {
+        conformal::time_bin(t, self.counts.horizon_ticks as u32)
+    }
+}
+
+/// A configuration on its way. What belongs to the arm has no default: it starts as what [`build`](Self::build) refuses, so that
+/// nothing is forgotten.
+///
+/// | Part | Starts as |
+/// | --- | --- |
+/// | `axes` (`dim`, `pos_dim`) | 0, refused with [`Size`](crate::Refusal::Size) |
+/// | `dt`, `v_max`, `a_max`, `j_max`, `reach_max`, `walls` | NaN, refused with [`Number`](crate::Refusal::Number) |
+/// | `brake` | gains that are NaN, refused with [`Number`](crate::Refusal::Number) |
+/// | `kind` | [`ActionKind::EePosition`] |
+/// | `clamp` | [`ClampMode::Project`]: rows are moved inside the limits |
+/// | `armed` | [`trip::ALL`]: every check is made |
+/// | `margin` | 0: the walls as they are |
+/// | `norm` | centers 0 and scales 1: coordinates as they are |
+/// | `contact`, `aux_count` | no slow zone, and no camera |
+/// | `calibration` | none: nothing of it is judged |
+///
+/// ```
+/// use lictor::{config::{BrakeKind, BrakeModel, Config}, Refusal};
+/// let plane = Config::builder()
+///     .axes(2)
+///     .dt(0.5)
+///     .v_max(1.0)
+///     .a_max(4.0)
+///     .j_max(32.0)
+///     .reach_max(1.0)
+///     .walls([-1.0; 8], [1.0; 8])
+///     .brake(BrakeModel {
+///         kind: BrakeKind::PdSecondOrder, k_p: 2.0, k_v: 1.0, dt: 0.5, substeps: 2, commit: 1, brake_steps: 4, react_ticks: 1,
+///     });
+/// assert!(plane.build().is_ok());
+/// assert_eq!(plane.v_max(f64::INFINITY).build().unwrap_err(), Refusal::Number);
+/// ```
+#[derive(Clone, Copy, Debug)]
+#[must_use = "a builder does nothing until `build`"]
+pub struct ConfigBuilder(FuseConfig);
+
+impl ConfigBuilder {
+    /// What a builder starts from.
+    pub const START: FuseConfig = FuseConfig {
+        kind: ActionKind::EePosition,
+        dim: 0,
+        pos_dim: 0,
+        dt: f64::NAN,
+        v_max: f64::NAN,
+        a_max: f64::NAN,
+        j_max: f64::NAN,
+        reach_max: f64::NAN,
+        margin: 0.0,
+        norm_center: [0.0; 8],
+        norm_scale: [1.0; 8],
+        box_lo: [f64::NAN; 8],
+        box_hi: [f64::NAN; 8],
+        contact: None,
+        brake: BrakeModel {
+            kind: BrakeKind::PdSecondOrder,
+            k_p: f64::NAN,
+            k_v: f64::NAN,
+            dt: f64::NAN,
+            substeps: 0,
+            commit: 0,
+            brake_steps: 0,
+            react_ticks: 0,
+        },
+        clamp: ClampMode::Project,
+        armed: trip::ALL,
+        aux_count: 0,
+        calibration: None,
+        horizon_ticks: 0,
+    };
+
+    /// What a row is.
+    pub const fn kind(mut self, kind: ActionKind) -> Self {
+        self.0.kind = kind;
+        self
+    }
+
+    /// Coordinates of a row and of a position alike, 1 to 8.
+    pub const fn axes(self, n: usize) -> Self {
+        self.dim(n).pos_dim(n)
+    }
+
+    /// Coordinates of a row, where they are others than a position's.
+    pub const fn dim(mut self, n: usize) -> Self {
+        self.0.dim = n;
+        self
+    }
+
+    /// Coordinates of a position, where they are others than a row's.
+    pub const fn pos_dim(mut self, n: usize) -> Self {
+        self.0.pos_dim = n;
+        self
+    }
+
+    /// The control period.
+    pub const fn dt(mut self, dt: f64) -> Self {
+        self.0.dt = dt;
+        self
+    }
+
+    /// The greatest speed.
+    pub const fn v_max(mut self, v_max: f64) -> Self {
+        self.0.v_max = v_max;
+        self
+    }
+
+    /// The greatest acceleration.
+    pub const fn a_max(mut self, a_max: f64) -> Self {
+        self.0.a_max = a_max;
+        self
+    }
+
+    /// The greatest jerk.
+    pub const fn j_max(mut self, j_max: f64) -> Self {
+        self.0.j_max = j_max;
+        self
+    }
+
+    /// How far the first row may be from the position.
+    pub const fn reach_max(mut self, reach_max: f64) -> Self {
+        self.0.reach_max = reach_max;
+        self
+    }
+
+    /// The low and the high wall of each coordinate of a position; past `pos_dim` they are not read.
+    pub const fn walls(mut self, lo: [f64; 8], hi: [f64; 8]) -> Self {
+        (self.0.box_lo, self.0.box_hi) = (lo, hi);
+        self
+    }
+
+    /// How far the walls are moved inward.
+    pub const fn margin(mut self, margin: f64) -> Self {
+        self.0.margin = margin;
+        self
+    }
+
+    /// The center and the scale of each coordinate of a row; past dim they are not read.
+    pub const fn norm(mut self, center: [f64; 8], scale: [f64; 8]) -> Self {
+        (self.0.norm_center, self.0.norm_scale) = (center, scale);
+        self
+    }
+
+    /// A slow zone. Its channels have to be below the [`aux_count`](Self::aux_count).
+    pub const fn contact(mut self, zone: Contact) -> Self {
+        self.0.contact = Some(zone);
+        self
+    }
+
+    /// How many channels the camera declares.
+    pub const fn aux_count(mut self, n: usize) -> Self {
+        self.0.aux_count = n;
+        self
+    }
+
+    /// The brake.
+    pub const fn brake(mut self, brake: BrakeModel) -> Self {
+        self.0.brake = brake;
+        self
+    }
+
+    /// Whether rows are moved inside the limits.
+    pub const fn clamp(mut self, clamp: ClampMode) -> Self {
+        self.0.clamp = clamp;
+        self
+    }
+
+    /// The checks that are made, bits of [`trip`].
+    pub const fn armed(mut self, bits: u32) -> Self {
+        self.0.armed = bits;
+        self
+    }
+
+    /// The gate's calibration, and the ticks of an episode.
+    pub const fn calibration(mut self, calibration: Calibration, horizon_ticks: u32) -> Self {
+        self.0.calibration = Some(calibration);
+        self.0.horizon_ticks = horizon_ticks;
+        self
+    }
+
+    /// Judges the configuration and lays it out.
+    ///
+    /// # Errors
+    ///
+    /// As [`Config::new`].
+    pub fn build(&self) -> Answer<Config> {
+        Config::new(&self.0)
     }
 }
 
@@ -160,12 +512,20 @@ impl Config {
 #[repr(C)]
 #[derive(Clone, Copy, Debug, Default, PartialEq)]
 pub struct Derived {
+    /// 1 / dt.
     pub inv_dt: f64,
+    /// Its square.
     pub inv_dt2: f64,
+    /// Its cube.
     pub inv_dt3: f64,
+    /// `v_max` x dt.
     pub step_max: f64,
+    /// The least norm scale.
     pub norm_scale_iso: f64,
+    /// The low walls moved inward by the margin.
     pub box_lo: [f64; 8],
+    /// The high walls moved inward by the margin.
     pub box_hi: [f64; 8],
+    /// 1 / scale.
     pub inv_norm_scale: [f64; 8],
 }

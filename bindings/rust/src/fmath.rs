@@ -6,24 +6,47 @@ use crate::{
 };
 
 /// `a` where it is strictly less, else `b`.
+///
+/// ```
+/// assert_eq!(lictor::fmath::min(1.0, 2.0), 1.0);
+/// ```
+#[must_use]
 pub fn min(a: f64, b: f64) -> f64 {
     // SAFETY: numbers go by value.
     unsafe { raw::lictor_min(a, b) }
 }
 
 /// `a` where it is strictly greater, else `b`.
+///
+/// ```
+/// assert_eq!(lictor::fmath::max(1.0, 2.0), 2.0);
+/// ```
+#[must_use]
 pub fn max(a: f64, b: f64) -> f64 {
     // SAFETY: numbers go by value.
     unsafe { raw::lictor_max(a, b) }
 }
 
 /// `lo` below lo, `hi` above hi, else `x`.
+///
+/// ```
+/// assert_eq!(lictor::fmath::clamp(3.0, 0.0, 2.0), 2.0);
+/// ```
+#[must_use]
 pub fn clamp(x: f64, lo: f64, hi: f64) -> f64 {
     // SAFETY: numbers go by value.
     unsafe { raw::lictor_clamp(x, lo, hi) }
 }
 
-/// The root to nearest; 13 below zero, at an infinity and at a NaN.
+/// The root to nearest.
+///
+/// ```
+/// assert_eq!(lictor::fmath::sqrt(2.0), Ok(2f64.sqrt()));
+/// ```
+///
+/// # Errors
+///
+/// [`Computed`](crate::Refusal::Computed) below zero, at an infinity and at a NaN.
 pub fn sqrt(x: f64) -> Answer<f64> {
     let mut root = 0.0;
     // SAFETY: the place is live and ours alone.
@@ -32,6 +55,14 @@ pub fn sqrt(x: f64) -> Answer<f64> {
 }
 
 /// The length of the first `n` coordinates.
+///
+/// ```
+/// assert_eq!(lictor::fmath::norm(&[3.0, 4.0], 2), Ok(5.0));
+/// ```
+///
+/// # Errors
+///
+/// [`Short`](crate::Refusal::Short), [`NotFinite`](crate::Refusal::NotFinite), [`Computed`](crate::Refusal::Computed).
 pub fn norm(v: &[f64], n: usize) -> Answer<f64> {
     let mut norm = 0.0;
     // SAFETY: the slice is live, and the place is ours alone.
@@ -40,6 +71,14 @@ pub fn norm(v: &[f64], n: usize) -> Answer<f64> {
 }
 
 /// The distance over the first `n` coordinates.
+///
+/// ```
+/// assert_eq!(lictor::fmath::dist(&[1.0, 1.0], &[4.0, 5.0], 2), Ok(5.0));
+/// ```
+///
+/// # Errors
+///
+/// As [`norm`].
 pub fn dist(a: &[f64], b: &[f64], n: usize) -> Answer<f64> {
     let mut dist = 0.0;
     // SAFETY: the slices are live, and the place is ours alone.

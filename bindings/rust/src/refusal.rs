@@ -1,63 +1,165 @@
 //! Why a call is refused.
 
-use std::{error::Error, fmt};
+use core::{error::Error, fmt};
 
-/// A number of the table of refusals, and for a computed number that isn't finite the forecast's place (else 0).
-#[derive(Clone, Copy, Debug, PartialEq, Eq)]
-pub struct Refusal {
-    pub number: u8,
-    pub place: usize,
+/// Why a call is refused. The variants stand in the order of judging: of all that apply the first is given.
+///
+/// ```
+/// use lictor::{fmath, Refusal};
+/// let refusal = fmath::norm(&[3.0], 2).unwrap_err();
+/// assert_eq!(refusal, Refusal::Short);
+/// assert_eq!(refusal.number(), 11);
+/// assert_eq!(refusal.to_string(), "refused with 11: a slice is too short");
+/// ```
+#[derive(Clone, Copy, Debug, PartialEq, Eq, Hash)]
+#[non_exhaustive]
+pub enum Refusal {
+    /// 1: dim, `pos_dim`, a term count, a feature bit, a window length, a trail's head or a trail's count is out of size.
+    Size,
+    /// 2: a configuration number, or one derived from it, is not finite or is out of its range.
+    Number,
+    /// 3: substeps, commit, braking steps or horizon ticks are out of range.
+    Steps,
+    /// 4: the contact's two channels are equal, or one is at or above `aux_count`.
+    Channels,
+    /// 5: a chunk has no rows or no width.
+    Empty,
+    /// 6: a chunk has over 64 rows.
+    TooLong,
+    /// 7: a chunk's rows are over 8 wide.
+    TooWide,
+    /// 8: a chunk executes more rows than it has.
+    ExecExceedsHorizon,
+    /// 9: a chunk has other than rows times width numbers.
+    LenMismatch,
+    /// 10: a chunk's width differs from the configuration's dim.
+    Width,
+    /// 11: a slice is too short.
+    Short,
+    /// 12: a number of an input slice, of a trail, of held features or of scores is not finite.
+    NotFinite,
+    /// 13: a computed number is not finite.
+    Computed {
+        /// Of a forecast the place of that number, counted from 1; everywhere else 0.
+        place: usize,
+    },
+    /// 255, the boundary's own: a code, a flag or a count that its field cannot hold. No call of this crate gives it: its types hold what
+    /// fits.
+    Misfit,
+    /// A number that this version of the crate does not know: the archive is of another version.
+    Unknown {
+        /// The number that the library gave.
+        number: u8,
+    },
 }
 
+/// What a call gives: its value, or why it is refused.
 pub type Answer<T> = Result<T, Refusal>;
 
 impl Refusal {
-    pub const SIZE: u8 = 1;
-    pub const NUMBER: u8 = 2;
-    pub const STEPS: u8 = 3;
-    pub const CHANNELS: u8 = 4;
-    pub const EMPTY: u8 = 5;
-    pub const TOO_LONG: u8 = 6;
-    pub const TOO_WIDE: u8 = 7;
-    pub const EXEC_EXCEEDS_HORIZON: u8 = 8;
-    pub const LEN_MISMATCH: u8 = 9;
-    pub const WIDTH: u8 = 10;
-    pub const SHORT: u8 = 11;
-    pub const NOT_FINITE: u8 = 12;
-    pub const COMPUTED: u8 = 13;
-    /// The boundary's own: a code or a flag that is none of its kind, or a count that does not fit its field and that no number
-    /// above is for. No call of this crate gives it: its types hold what fits.
-    pub const MISFIT: u8 = 255;
+    /// The refusals that have a number of their own, in the order of judging, the boundary's last; a place is 0.
+    pub const ALL: [Self; 14] = [
+        Self::Size,
+        Self::Number,
+        Self::Steps,
+        Self::Channels,
+        Self::Empty,
+        Self::TooLong,
+        Self::TooWide,
+        Self::ExecExceedsHorizon,
+        Self::LenMismatch,
+        Self::Width,
+        Self::Short,
+        Self::NotFinite,
+        Self::Computed { place: 0 },
+        Self::Misfit,
+    ];
 
-    /// What the number stands for.
-    pub fn text(&self) -> &'static str {
-        match self.number {
-            Self::SIZE => "a dimension, term count, feature bit, window length or trail index is out of size",
-            Self::NUMBER => "a configuration number is not finite or out of its range",
-            Self::STEPS => "a count of steps or ticks is out of range",
-            Self::CHANNELS => "the contact's channels are equal or past the declared ones",
-            Self::EMPTY => "the chunk is empty",
-            Self::TOO_LONG => "the chunk has too many rows",
-            Self::TOO_WIDE => "the chunk's rows are too wide",
-            Self::EXEC_EXCEEDS_HORIZON => "the chunk executes more rows than it has",
-            Self::LEN_MISMATCH => "the chunk's numbers are not rows times width",
-            Self::WIDTH => "the chunk's width is not the configured dimension",
-            Self::SHORT => "a slice is too short",
-            Self::NOT_FINITE => "an input number is not finite",
-            Self::COMPUTED => "a computed number is not finite",
-            Self::MISFIT => "a code or a flag is none of its kind, or a count does not fit its field",
-            _ => "an unknown refusal",
+    /// The number of the table of refusals, as `include/lictor.h` and the desk's cards have it.
+    ///
+    /// ```
+    /// assert_eq!(lictor::Refusal::Computed { place: 7 }.number(), 13);
+    /// ```
+    #[must_use]
+    pub const fn number(self) -> u8 {
+        match self {
+            Self::Size => 1,
+            Self::Number => 2,
+            Self::Steps => 3,
+            Self::Channels => 4,
+            Self::Empty => 5,
+            Self::TooLong => 6,
+            Self::TooWide => 7,
+            Self::ExecExceedsHorizon => 8,
+            Self::LenMismatch => 9,
+            Self::Width => 10,
+            Self::Short => 11,
+            Self::NotFinite => 12,
+            Self::Computed { .. } => 13,
+            Self::Misfit => 255,
+            Self::Unknown { number } => number,
+        }
+    }
+
+    /// The place of a forecast's number that is not finite, counted from 1; 0 for every other refusal.
+    ///
+    /// ```
+    /// assert_eq!(lictor::Refusal::Computed { place: 7 }.place(), 7);
+    /// assert_eq!(lictor::Refusal::Short.place(), 0);
+    /// ```
+    #[must_use]
+    pub const fn place(self) -> usize {
+        match self {
+            Self::Computed { place } => place,
+            _ => 0,
+        }
+    }
+
+    /// What the refusal stands for, in a few words.
+    ///
+    /// ```
+    /// assert_eq!(lictor::Refusal::Empty.text(), "the chunk is empty");
+    /// ```
+    #[must_use]
+    pub const fn text(self) -> &'static str {
+        match self {
+            Self::Size => "a dimension, term count, feature bit, window length or trail index is out of size",
+            Self::Number => "a configuration number is not finite or out of its range",
+            Self::Steps => "a count of steps or ticks is out of range",
+            Self::Channels => "the contact's channels are equal or past the declared ones",
+            Self::Empty => "the chunk is empty",
+            Self::TooLong => "the chunk has too many rows",
+            Self::TooWide => "the chunk's rows are too wide",
+            Self::ExecExceedsHorizon => "the chunk executes more rows than it has",
+            Self::LenMismatch => "the chunk's numbers are not rows times width",
+            Self::Width => "the chunk's width is not the configured dimension",
+            Self::Short => "a slice is too short",
+            Self::NotFinite => "an input number is not finite",
+            Self::Computed { .. } => "a computed number is not finite",
+            Self::Misfit => "a code or a flag is none of its kind, or a count does not fit its field",
+            Self::Unknown { .. } => "no refusal that this version knows has this number",
+        }
+    }
+
+    /// The refusal that the library means by a number, which is not 0, and a place.
+    #[cold]
+    fn of(number: u64, place: u64) -> Self {
+        let number = number as u8;
+        match Self::ALL.into_iter().find(|refusal| refusal.number() == number) {
+            Some(Self::Computed { .. }) => Self::Computed { place: place as usize },
+            Some(refusal) => refusal,
+            None => Self::Unknown { number },
         }
     }
 }
 
 impl fmt::Display for Refusal {
     fn fmt(&self, f: &mut fmt::Formatter<'_>) -> fmt::Result {
-        write!(f, "refused with {}: {}", self.number, self.text())?;
-        if self.place > 0 {
-            write!(f, ", at place {}", self.place)?;
+        write!(f, "refused with {}: {}", self.number(), self.text())?;
+        match self.place() {
+            0 => Ok(()),
+            place => write!(f, ", at place {place}"),
         }
-        Ok(())
     }
 }
 
@@ -72,6 +174,31 @@ pub(crate) fn given<T>(number: u64, value: T) -> Answer<T> {
 pub(crate) fn given_at<T>(number: u64, place: u64, value: T) -> Answer<T> {
     match number {
         0 => Ok(value),
-        n => Err(Refusal { number: n as u8, place: place as usize }),
+        n => Err(Refusal::of(n, place)),
+    }
+}
+
+#[cfg(test)]
+mod tests {
+    use super::*;
+
+    #[test]
+    fn each_number_is_the_librarys_and_comes_back() {
+        for (refusal, number) in Refusal::ALL.into_iter().zip((1..=13).chain([255])) {
+            assert_eq!(refusal.number(), number);
+            assert_eq!(given(number.into(), ()), Err(refusal));
+        }
+    }
+
+    #[test]
+    fn a_place_comes_with_13_alone() {
+        assert_eq!(given_at(13, 4, ()), Err(Refusal::Computed { place: 4 }));
+        assert_eq!(given_at(12, 4, ()), Err(Refusal::NotFinite));
+        assert_eq!(given_at(0, 4, 7), Ok(7));
+    }
+
+    #[test]
+    fn a_number_of_another_version_is_told() {
+        assert_eq!(given(14, ()), Err(Refusal::Unknown { number: 14 }));
     }
 }

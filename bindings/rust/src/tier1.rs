@@ -9,14 +9,27 @@ use crate::{
     window::Trail,
 };
 
-/// What is held between ticks: the chunk before, the trail, to which each tick's position is pushed, and the features of the
-/// last chunk, bits 0 to 5.
+/// What is held between ticks.
+///
+/// ```
+/// use lictor::tier1::Tier1;
+/// let mut state = Tier1::new();
+/// state.trail.push(&[0.0, 0.0], 2)?; // each tick's position
+/// state.reset()?; // between episodes
+/// assert_eq!(state, Tier1::new());
+/// # Ok::<(), lictor::Refusal>(())
+/// ```
 #[derive(Clone, Copy, Debug, PartialEq)]
 pub struct Tier1 {
+    /// The chunk before.
     pub prev: ChunkBuf,
+    /// Whether a chunk came before.
     pub have_prev: bool,
+    /// The trail, to which each tick's position is pushed.
     pub trail: Trail,
+    /// The features of the last chunk, by their numbers.
     pub held: [f64; 6],
+    /// Those of them that are there, a bit each.
     pub held_valid: u32,
 }
 
@@ -28,6 +41,7 @@ impl Default for Tier1 {
 
 impl Tier1 {
     /// Nothing is held yet.
+    #[must_use]
     pub fn new() -> Self {
         let (prev, trail, held) = (ChunkBuf::new(), Trail::new(), [0.0; 6]);
         let mut rt = Self { prev, have_prev: false, trail, held, held_valid: 0 };
@@ -39,6 +53,11 @@ impl Tier1 {
     }
 
     /// Lets go of the chunk before, the trail and the held features, as between episodes.
+    ///
+    /// # Errors
+    ///
+    /// [`Size`](crate::Refusal::Size), [`Empty`](crate::Refusal::Empty) to [`LenMismatch`](crate::Refusal::LenMismatch) for the chunk
+    /// before, [`NotFinite`](crate::Refusal::NotFinite): the state was written over.
     pub fn reset(&mut self) -> Answer<()> {
         let number = self.laid_out(|l| {
             // SAFETY: the arrays are ours alone.
@@ -78,6 +97,30 @@ struct Parts<'a> {
 
 /// The features of a tick, in the scores' f and valid; the rest of the scores stays. A new chunk replaces all held features,
 /// invalid ones too, and the chunk before; the trail stays. At most four of the external scalars are read.
+///
+/// ```
+/// # use lictor::config::{BrakeKind, BrakeModel, Config};
+/// # let brake = BrakeModel {
+/// #     kind: BrakeKind::PdSecondOrder, k_p: 2.0, k_v: 1.0, dt: 0.5, substeps: 2, commit: 1, brake_steps: 1, react_ticks: 1,
+/// # };
+/// # let builder = Config::builder().axes(1).dt(1.0).v_max(1.0).a_max(9.0).j_max(9.0).reach_max(99.0).walls([-9.0; 8], [9.0; 8]).brake(brake);
+/// use lictor::{chunk::ChunkView, conformal::{feature, Scores}, tier1::{features, Tier1}};
+/// let config = builder.build()?;
+/// let (mut state, mut scores) = (Tier1::new(), Scores::default());
+/// let planned = ChunkView::new(0, 0, 1, 1, &[2.0, 3.0, 4.0, 5.0]);
+/// features(&config, &mut state, &[0.0], &[9.0], Some(planned), &mut scores)?;
+/// assert_eq!(scores.f[feature::REACH], 2.0);
+/// assert_eq!(scores.f[feature::EXT0], 9.0);
+/// // a tick without a chunk keeps the features of the last one
+/// features(&config, &mut state, &[0.5], &[], None, &mut scores)?;
+/// assert_eq!(scores.f[feature::REACH], 2.0);
+/// # Ok::<(), lictor::Refusal>(())
+/// ```
+///
+/// # Errors
+///
+/// [`Size`](crate::Refusal::Size) to [`Width`](crate::Refusal::Width), [`NotFinite`](crate::Refusal::NotFinite),
+/// [`Computed`](crate::Refusal::Computed).
 pub fn features(
     c: &Config,
     rt: &mut Tier1,
@@ -86,8 +129,7 @@ pub fn features(
     new: Option<ChunkView<'_>>,
     sc: &mut Scores,
 ) -> Answer<()> {
-    let none = ChunkView { seq: 0, t_emit: 0, horizon: 0, dim: 0, exec_steps: 0, data: &[] };
-    let ch = new.unwrap_or(none);
+    let ch = new.unwrap_or(ChunkView::new(0, 0, 0, 0, &[]));
     let (mut numbers, mut marks) = (sc.numbers(), sc.marks());
     let number = rt.laid_out(|l| {
         // SAFETY: the arrays and slices are live; the state, the numbers and the marks are ours alone.
@@ -95,8 +137,8 @@ pub fn features(
             raw::lictor_features(
                 &c.numbers,
                 &c.counts,
-                &c.center,
-                &c.scale,
+                &c.gate.center,
+                &c.gate.scale,
                 l.before,
                 l.header,
                 l.trail,

@@ -51,7 +51,7 @@ pub fn port() -> Port {
 }
 
 fn answer<T>(a: lictor::Answer<T>) -> Answer<T> {
-    a.map_err(|r| model::Refusal { number: r.number, place: r.place })
+    a.map_err(|r| model::Refusal { number: r.number(), place: r.place() })
 }
 
 fn found(a: lictor::Answer<tier0::Tier0Out>) -> Answer<Tier0Out> {
@@ -205,10 +205,10 @@ fn brake(b: &model::BrakeModel) -> config::BrakeModel {
     config::BrakeModel { kind, k_p, k_v, dt, substeps, commit, brake_steps, react_ticks: react }
 }
 
-/// The configuration as the library takes it.
+/// The configuration as the library takes it, not judged: each entry is compared on what it has to refuse, too.
 pub fn config(c: &FuseConfig) -> config::Config {
     let contact = c.contact.map(|z| config::Contact { radius: z.radius, v_max: z.v_max, a0: z.a0, a1: z.a1 });
-    config::Config::new(&config::FuseConfig {
+    config::Config::unjudged(&config::FuseConfig {
         kind: kind(c.kind),
         dim: c.dim,
         pos_dim: c.pos_dim,

@@ -28,8 +28,8 @@ mul-words c = search needs
 array-write-words : tie.Need-array-write-words Inv-loop μ-loop
 array-write-words c = search needs
 
-number-requires : tie.Need-number-requires Inv-loop μ-loop
-number-requires c κs = search needs
+float-of-requires : tie.Need-number-requires Inv-loop μ-loop
+float-of-requires c κs = search needs
 
 mul-numbers : tie.Need-mul-numbers Inv-loop μ-loop
 mul-numbers c = search needs
@@ -61,7 +61,7 @@ record-of-spec =
     word-requires
     mul-words
     array-write-words
-    number-requires
+    float-of-requires
     mul-numbers
     array-write-numbers
     add-i

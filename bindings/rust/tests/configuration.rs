@@ -1,0 +1,161 @@
+//! What the crate itself does with a configuration: its defaults, its judging, and that no part of it gets lost on the way to the library.
+
+use lictor::{
+    chunk::ChunkView,
+    config::{trip, ActionKind, BrakeKind, BrakeModel, ClampMode, Config, ConfigBuilder, Contact, FuseConfig},
+    conformal::{self, Calibration, Scores},
+    tier0, Refusal,
+};
+
+const BRAKE: BrakeModel = BrakeModel {
+    kind: BrakeKind::PdSecondOrder,
+    k_p: 2.0,
+    k_v: 1.0,
+    dt: 0.5,
+    substeps: 2,
+    commit: 1,
+    brake_steps: 4,
+    react_ticks: 1,
+};
+
+const CALIBRATION: Calibration =
+    Calibration { center: [0.0; 192], scale: [1.0; 192], tau: 2.0, mask: 4095, n_terms: 1, terms: [1; 8] };
+
+/// An arm on a plane, every part of which is set.
+fn arm() -> ConfigBuilder {
+    Config::builder()
+        .axes(2)
+        .dt(0.5)
+        .v_max(1.0)
+        .a_max(4.0)
+        .j_max(32.0)
+        .reach_max(1.0)
+        .walls([-1.0; 8], [1.0; 8])
+        .brake(BRAKE)
+}
+
+#[test]
+fn what_belongs_to_the_arm_has_no_default() {
+    const START: FuseConfig = ConfigBuilder::START;
+    let whole = FuseConfig {
+        dim: 2,
+        pos_dim: 2,
+        dt: 0.5,
+        v_max: 1.0,
+        a_max: 4.0,
+        j_max: 32.0,
+        reach_max: 1.0,
+        box_lo: [-1.0; 8],
+        box_hi: [1.0; 8],
+        brake: BRAKE,
+        ..START
+    };
+    assert!(Config::new(&whole).is_ok() && arm().build().is_ok());
+    let missing = vec![
+        (FuseConfig { dim: START.dim, ..whole }, Refusal::Size),
+        (FuseConfig { pos_dim: START.pos_dim, ..whole }, Refusal::Size),
+        (FuseConfig { dt: START.dt, ..whole }, Refusal::Number),
+        (FuseConfig { v_max: START.v_max, ..whole }, Refusal::Number),
+        (FuseConfig { a_max: START.a_max, ..whole }, Refusal::Number),
+        (FuseConfig { j_max: START.j_max, ..whole }, Refusal::Number),
+        (FuseConfig { reach_max: START.reach_max, ..whole }, Refusal::Number),
+        (FuseConfig { box_lo: START.box_lo, ..whole }, Refusal::Number),
+        (FuseConfig { box_hi: START.box_hi, ..whole }, Refusal::Number),
+        (FuseConfig { brake: BrakeModel { k_p: START.brake.k_p, ..BRAKE }, ..whole }, Refusal::Number),
+        (FuseConfig { brake: BrakeModel { k_v: START.brake.k_v, ..BRAKE }, ..whole }, Refusal::Number),
+        (FuseConfig { brake: BrakeModel { dt: START.brake.dt, ..BRAKE }, ..whole }, Refusal::Number),
+        (FuseConfig { brake: BrakeModel { substeps: START.brake.substeps, ..BRAKE }, ..whole }, Refusal::Steps),
+    ];
+    for (i, (config, refusal)) in missing.iter().enumerate() {
+        assert_eq!(Config::new(config).unwrap_err(), *refusal, "missing part {i}");
+    }
+}
+
+#[test]
+fn each_part_of_the_builder_comes_to_the_library() {
+    let zone = Contact { radius: 1.0, v_max: 0.5, a0: 0, a1: 1 };
+    assert!(arm().contact(zone).aux_count(2).build().is_ok());
+    let unfit = vec![
+        (arm().dim(9), Refusal::Size),
+        (arm().pos_dim(9), Refusal::Size),
+        (arm().dt(0.0), Refusal::Number),
+        (arm().v_max(0.0), Refusal::Number),
+        (arm().a_max(0.0), Refusal::Number),
+        (arm().j_max(0.0), Refusal::Number),
+        (arm().reach_max(0.0), Refusal::Number),
+        (arm().margin(-1.0), Refusal::Number),
+        (arm().margin(1.5), Refusal::Number),
+        (arm().norm([f64::NAN; 8], [1.0; 8]), Refusal::Number),
+        (arm().norm([0.0; 8], [0.0; 8]), Refusal::Number),
+        (arm().walls([2.0; 8], [1.0; 8]), Refusal::Number),
+        (arm().brake(BrakeModel { substeps: 65, ..BRAKE }), Refusal::Steps),
+        (arm().contact(zone), Refusal::Channels),
+        (arm().contact(Contact { radius: -1.0, ..zone }).aux_count(2), Refusal::Number),
+        (arm().calibration(CALIBRATION, 0), Refusal::Steps),
+        (arm().calibration(Calibration { n_terms: 9, ..CALIBRATION }, 200), Refusal::Size),
+        (arm().calibration(Calibration { scale: [0.0; 192], ..CALIBRATION }, 200), Refusal::Number),
+    ];
+    for (i, (builder, refusal)) in unfit.iter().enumerate() {
+        assert_eq!(builder.build().unwrap_err(), *refusal, "unfit part {i}");
+    }
+}
+
+#[test]
+fn kind_clamp_and_armed_come_to_the_library() {
+    let check = |builder: ConfigBuilder| {
+        let mut out = [0.0; 2];
+        let chunk = ChunkView::new(0, 0, 2, 1, &[5.0, 0.0]);
+        let found = tier0::check_chunk(&builder.build()?, &[0.0, 0.0], &[], chunk, &mut out)?;
+        Ok::<_, Refusal>((found.trips, out[0] < 1.0))
+    };
+    let exceeded = trip::WORKSPACE | trip::SPEED | trip::REACH;
+    assert_eq!(check(arm()), Ok((exceeded, true)));
+    assert_eq!(check(arm().clamp(ClampMode::Off)), Ok((exceeded, false)));
+    assert_eq!(check(arm().armed(trip::SPEED)), Ok((trip::SPEED, true)));
+    // a bit that is no check arms nothing
+    assert_eq!(check(arm().armed(!trip::ALL)), Ok((0, false)));
+    let hold = |kind| {
+        let mut row = [7.0; 2];
+        lictor::brake::hold_action(&arm().kind(kind).build()?, &[0.5, 0.5], &mut row)?;
+        Ok::<_, Refusal>(row)
+    };
+    assert_eq!(hold(ActionKind::EePosition), Ok([0.5, 0.5]));
+    assert_eq!(hold(ActionKind::JointVelocity), Ok([0.0, 0.0]));
+}
+
+#[test]
+fn the_calibration_is_handed_over_once() {
+    let config = arm().calibration(CALIBRATION, 200).build().unwrap();
+    assert_eq!(config.calibration(), Some(&CALIBRATION));
+    assert_eq!(config.time_bin(13), conformal::time_bin(13, 200));
+    let mut scores = Scores { valid: 1, ..Scores::default() };
+    scores.f[0] = 3.0;
+    conformal::standardise(config.calibration().unwrap(), 0, &mut scores).unwrap();
+    assert_eq!(conformal::aggregate(config.calibration().unwrap(), &mut scores), Ok(3.0));
+    assert_eq!(conformal::trip(config.calibration().unwrap(), &scores), Ok(true));
+    assert_eq!(arm().build().unwrap().calibration(), None);
+}
+
+#[test]
+fn a_configuration_that_is_not_judged_is_refused_by_each_call() {
+    let unfit = Config::unjudged(&ConfigBuilder::START);
+    let chunk = ChunkView::new(0, 0, 2, 1, &[0.0, 0.0]);
+    assert_eq!(tier0::check_chunk(&unfit, &[0.0; 2], &[], chunk, &mut [0.0; 2]), Err(Refusal::Size));
+    assert_eq!(lictor::brake::brake_action(&unfit, &[], &[], &mut [0.0; 2]), Err(Refusal::Size));
+}
+
+#[test]
+fn a_chunk_that_does_not_come_out_even_is_refused() {
+    let config = arm().build().unwrap();
+    let check = |dim, data: &[f64]| {
+        tier0::check_chunk(&config, &[0.0; 2], &[], ChunkView::new(0, 0, dim, 0, data), &mut [0.0; 200]).map(|_| ())
+    };
+    assert_eq!(check(2, &[0.0; 128]), Ok(()));
+    assert_eq!(check(2, &[0.0; 3]), Err(Refusal::LenMismatch));
+    assert_eq!(check(0, &[0.0; 2]), Err(Refusal::Empty));
+    assert_eq!(check(2, &[]), Err(Refusal::Empty));
+    assert_eq!(check(2, &[0.0; 130]), Err(Refusal::TooLong));
+    // two rows more than 16 bits hold
+    assert_eq!(check(1, &vec![0.0; 65_538]), Err(Refusal::TooLong));
+    assert_eq!(check(1, &[0.0; 2]), Err(Refusal::Width));
+}

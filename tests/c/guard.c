@@ -1,0 +1,248 @@
+/* Holds what the header itself computes: each guard form to its entry, on drawn arguments; null pointers; counts that the gate's types
+   cannot hold; the texts and the version. Prints each that is otherwise. */
+#include "lictor.h"
+
+#include <math.h>
+#include <stdio.h>
+#include <string.h>
+
+static int failed;
+
+#define EXPECT(what)                                      \
+    do {                                                  \
+        if (!(what)) {                                    \
+            printf("guard.c:%d: %s\n", __LINE__, #what);  \
+            failed = 1;                                   \
+        }                                                 \
+    } while (0)
+
+/* Drawn numbers, the same in every run. */
+static uint64_t drawn = 1;
+static uint64_t below(uint64_t n) {
+    drawn = drawn * UINT64_C(6364136223846793005) + UINT64_C(1442695040888963407);
+    return (drawn >> 33) % n;
+}
+static double number(void) { return (double)below(2001) / 1000.0 - 1.0; }
+static void draw(double *numbers, size_t count) {
+    for (size_t i = 0; i < count; i++) numbers[i] = number();
+}
+
+#define AXES 3
+#define ROWS 5
+
+/* An arm of three axes that is accepted. */
+static struct lictor_config arm(void) {
+    struct lictor_config c;
+    memset(&c, 0, sizeof c);
+    c.numbers.dt = 0.5, c.numbers.v_max = c.numbers.a_max = c.numbers.j_max = c.numbers.reach_max = 1.0;
+    c.numbers.brake_k_p = 2.0, c.numbers.brake_k_v = 1.0, c.numbers.brake_dt = 0.25, c.numbers.tau = 0.5;
+    c.numbers.contact_radius = 1.0, c.numbers.contact_v_max = 0.5;
+    for (int i = 0; i < 8; i++) c.numbers.norm_scale[i] = 1.0, c.numbers.box_lo[i] = -2.0, c.numbers.box_hi[i] = 2.0;
+    for (int i = 0; i < 192; i++) c.center[i] = 0.01 * i, c.scale[i] = 1.0 + i;
+    c.counts.dim = c.counts.pos_dim = AXES, c.counts.armed = LICTOR_TRIP_ALL, c.counts.clamp = LICTOR_CLAMP_PROJECT;
+    c.counts.substeps = 2, c.counts.commit = 3, c.counts.brake_steps = 2, c.counts.react_ticks = 1;
+    c.counts.aux_count = 2, c.counts.contact_a1 = 1;
+    c.counts.calibrated = 1, c.counts.mask = 4095, c.counts.n_terms = 2, c.counts.terms[0] = 3, c.counts.terms[1] = 60;
+    c.counts.horizon_ticks = 200;
+    return c;
+}
+
+/* What the calls below read and write. */
+struct tick {
+    double pos[AXES], vel[AXES], aux[2], ext[4], rows[ROWS * AXES], previous[AXES];
+    double out[ROWS * AXES], row[AXES], slacks[64], speed;
+    struct lictor_tier1 state;
+    struct lictor_scores scores;
+    struct lictor_marks marks;
+    struct lictor_check_marks found;
+    struct lictor_forecast_marks forecast;
+    struct lictor_forecast_reach reach;
+    struct lictor_derived derived;
+    uint64_t place, trips, bin, length;
+};
+
+static const uint32_t terms[8] = {3, 60};
+
+#define SAME(number_a, number_b)                                                   \
+    do {                                                                           \
+        const uint64_t number_of_a = (number_a), number_of_b = (number_b);         \
+        EXPECT(number_of_a == number_of_b && memcmp(&a, &b, sizeof a) == 0);       \
+        refusals += number_of_a != 0;                                              \
+    } while (0)
+
+/* Each guard form answers and writes as its entry does. */
+static void forms(void) {
+    static struct tick a, b;
+    int refusals = 0;
+    lictor_tier1_new(LICTOR_TIER1_PARTS(&a.state));
+    for (uint32_t t = 0; t < 2000; t++) {
+        struct lictor_config c = arm();
+        struct lictor_chunk chunk = {a.rows, ROWS * AXES, t + 7, t, ROWS, AXES, 2};
+        const size_t from = below(4), i = below(7), pos = AXES - (below(30) == 0), aux = below(3), ext = below(5);
+        draw(a.pos, AXES), draw(a.vel, AXES), draw(a.aux, 2), draw(a.ext, 4), draw(a.rows, ROWS * AXES), draw(a.previous, AXES);
+        c.counts.brake = below(5), c.counts.kind = below(5), c.counts.contact = below(2), c.counts.clamp = below(2);
+        if (below(30) == 0) chunk.exec_steps = 9;
+        if (below(30) == 0) a.rows[4] = NAN;
+        if (below(30) == 0) c.numbers.margin = -1.0;
+        if (below(30) == 0) c.counts.kind = 5;
+        if (below(30) == 0) c.scale[100] = 0.0;
+        b = a;
+#define PARTS LICTOR_CONFIG_PARTS(&c)
+#define GATE c.center, c.scale, c.numbers.tau, 4095, 2, terms
+        SAME(lictor_derive(PARTS, &a.derived), lictor_guard_derive(&c, &b.derived));
+        SAME(lictor_features(PARTS, LICTOR_TIER1_PARTS(&a.state), a.pos, pos, a.ext, ext, 1, t + 7, t, ROWS, AXES, chunk.exec_steps,
+                             a.rows, ROWS * AXES, &a.scores, &a.marks),
+             lictor_guard_features(&c, &b.state, a.pos, pos, a.ext, ext, &chunk, &b.scores, &b.marks));
+        SAME(lictor_features(PARTS, LICTOR_TIER1_PARTS(&a.state), a.pos, pos, a.ext, ext, 0, 0, 0, 0, 0, 0, a.rows, 0, &a.scores,
+                             &a.marks),
+             lictor_guard_features(&c, &b.state, a.pos, pos, a.ext, ext, NULL, &b.scores, &b.marks));
+        SAME(lictor_time_bin(t, 200, &a.bin), lictor_guard_time_bin(&c, t, &b.bin));
+        SAME(lictor_standardise(GATE, a.bin, &a.scores, &a.marks), lictor_guard_standardise(&c, a.bin, &b.scores, &b.marks));
+        SAME(lictor_aggregate(GATE, &a.scores, &a.marks), lictor_guard_aggregate(&c, &b.scores, &b.marks));
+        SAME(lictor_trip(GATE, &a.scores, &a.marks, &a.trips), lictor_guard_trip(&c, &b.scores, &b.marks, &b.trips));
+        SAME(lictor_check_chunk(PARTS, a.pos, pos, a.aux, aux, a.rows, ROWS * AXES, ROWS, AXES, chunk.exec_steps, a.out, ROWS * AXES,
+                                &a.found, &a.speed),
+             lictor_guard_check_chunk(&c, a.pos, pos, a.aux, aux, &chunk, b.out, ROWS * AXES, &b.found, &b.speed));
+        SAME(lictor_check_action(PARTS, a.pos, pos, a.aux, aux, a.previous, AXES, a.rows, AXES, a.row, AXES, &a.found, &a.speed),
+             lictor_guard_check_action(&c, a.pos, pos, a.aux, aux, a.previous, AXES, a.rows, AXES, b.row, AXES, &b.found, &b.speed));
+        SAME(lictor_brake_feasible(PARTS, a.pos, pos, a.vel, AXES, a.rows, ROWS * AXES, ROWS, AXES, chunk.exec_steps, from, a.slacks,
+                                   64, &a.forecast, &a.reach, &a.place),
+             lictor_guard_brake_feasible(&c, a.pos, pos, a.vel, AXES, &chunk, from, b.slacks, 64, &b.forecast, &b.reach, &b.place));
+        SAME(lictor_brake_action(PARTS, a.pos, pos, a.vel, AXES, a.row, AXES),
+             lictor_guard_brake_action(&c, a.pos, pos, a.vel, AXES, b.row, AXES));
+        SAME(lictor_hold_action(PARTS, a.pos, pos, a.row, AXES), lictor_guard_hold_action(&c, a.pos, pos, b.row, AXES));
+        a.length = lictor_action(a.rows, ROWS * AXES, ROWS, AXES, i, a.row, AXES);
+        b.length = lictor_guard_action(&chunk, i, b.row, AXES);
+        SAME(0, 0);
+#undef PARTS
+#undef GATE
+    }
+    /* the draws reach refused calls too, and not those alone */
+    EXPECT(refusals > 500 && refusals < 12000);
+}
+
+/* No numbers are a null pointer with a count of 0; with any other count nothing is written, and LICTOR_MISFIT given. */
+static void nulls(void) {
+    struct lictor_config c = arm();
+    static struct tick a, b;
+    const struct lictor_chunk chunk = {a.rows, ROWS * AXES, 0, 0, ROWS, AXES, 2};
+    const struct lictor_chunk without = {NULL, 0, 0, 0, ROWS, AXES, 2}, lost = {NULL, ROWS * AXES, 0, 0, ROWS, AXES, 2};
+    lictor_tier1_new(LICTOR_TIER1_PARTS(&a.state));
+#define CHECK(pos, pos_count, aux, aux_count, ch, out, out_count) \
+    lictor_guard_check_chunk(&c, pos, pos_count, aux, aux_count, ch, out, out_count, &a.found, &a.speed)
+#define ACTION(pos, pos_count, aux, aux_count, prev, prev_count, act, act_count, out, out_count) \
+    lictor_guard_check_action(&c, pos, pos_count, aux, aux_count, prev, prev_count, act, act_count, out, out_count, &a.found, &a.speed)
+#define FEATURES(pos, pos_count, ext, ext_count, ch) \
+    lictor_guard_features(&c, &a.state, pos, pos_count, ext, ext_count, ch, &a.scores, &a.marks)
+#define FORECAST(pos, pos_count, vel, vel_count, ch, slacks, slacks_count) \
+    lictor_guard_brake_feasible(&c, pos, pos_count, vel, vel_count, ch, 0, slacks, slacks_count, &a.forecast, &a.reach, &a.place)
+    b = a;
+    EXPECT(CHECK(NULL, 1, a.aux, 2, &chunk, a.out, ROWS * AXES) == LICTOR_MISFIT);
+    EXPECT(CHECK(a.pos, AXES, NULL, 1, &chunk, a.out, ROWS * AXES) == LICTOR_MISFIT);
+    EXPECT(CHECK(a.pos, AXES, a.aux, 2, &lost, a.out, ROWS * AXES) == LICTOR_MISFIT);
+    EXPECT(CHECK(a.pos, AXES, a.aux, 2, &chunk, NULL, ROWS * AXES) == LICTOR_MISFIT);
+    EXPECT(CHECK(NULL, 0, NULL, 0, &chunk, a.out, ROWS * AXES) == LICTOR_SHORT);
+    EXPECT(CHECK(a.pos, AXES, NULL, 0, &chunk, NULL, 0) == LICTOR_SHORT);
+    EXPECT(CHECK(a.pos, AXES, NULL, 0, &without, a.out, ROWS * AXES) == LICTOR_LEN_MISMATCH);
+    EXPECT(ACTION(NULL, 1, NULL, 0, a.previous, AXES, a.rows, AXES, a.row, AXES) == LICTOR_MISFIT);
+    EXPECT(ACTION(a.pos, AXES, NULL, 1, a.previous, AXES, a.rows, AXES, a.row, AXES) == LICTOR_MISFIT);
+    EXPECT(ACTION(a.pos, AXES, NULL, 0, NULL, AXES, a.rows, AXES, a.row, AXES) == LICTOR_MISFIT);
+    EXPECT(ACTION(a.pos, AXES, NULL, 0, a.previous, AXES, NULL, AXES, a.row, AXES) == LICTOR_MISFIT);
+    EXPECT(ACTION(a.pos, AXES, NULL, 0, a.previous, AXES, a.rows, AXES, NULL, AXES) == LICTOR_MISFIT);
+    EXPECT(ACTION(a.pos, AXES, NULL, 0, NULL, 0, a.rows, AXES, a.row, AXES) == LICTOR_SHORT);
+    EXPECT(FEATURES(NULL, 1, NULL, 0, &chunk) == LICTOR_MISFIT && FEATURES(a.pos, AXES, NULL, 1, &chunk) == LICTOR_MISFIT);
+    EXPECT(FEATURES(a.pos, AXES, NULL, 0, &lost) == LICTOR_MISFIT && FEATURES(a.pos, AXES, NULL, 0, &without) == LICTOR_LEN_MISMATCH);
+    EXPECT(FORECAST(NULL, 1, a.vel, AXES, &chunk, a.slacks, 64) == LICTOR_MISFIT);
+    EXPECT(FORECAST(a.pos, AXES, NULL, 1, &chunk, a.slacks, 64) == LICTOR_MISFIT);
+    EXPECT(FORECAST(a.pos, AXES, a.vel, AXES, &lost, a.slacks, 64) == LICTOR_MISFIT);
+    EXPECT(FORECAST(a.pos, AXES, a.vel, AXES, &chunk, NULL, 64) == LICTOR_MISFIT);
+    EXPECT(FORECAST(NULL, 0, NULL, 0, &chunk, NULL, 0) == LICTOR_SHORT);
+    EXPECT(lictor_guard_brake_action(&c, NULL, 1, a.vel, AXES, a.row, AXES) == LICTOR_MISFIT);
+    EXPECT(lictor_guard_brake_action(&c, a.pos, AXES, NULL, 1, a.row, AXES) == LICTOR_MISFIT);
+    EXPECT(lictor_guard_brake_action(&c, a.pos, AXES, a.vel, AXES, NULL, 1) == LICTOR_MISFIT);
+    EXPECT(lictor_guard_brake_action(&c, NULL, 0, NULL, 0, NULL, 0) == LICTOR_SHORT);
+    EXPECT(lictor_guard_hold_action(&c, NULL, 1, a.row, AXES) == LICTOR_MISFIT);
+    EXPECT(lictor_guard_hold_action(&c, a.pos, AXES, NULL, 1) == LICTOR_MISFIT);
+    EXPECT(lictor_guard_action(&lost, 0, a.row, AXES) == 0 && lictor_guard_action(&without, 0, a.row, AXES) == 0);
+    EXPECT(lictor_guard_action(&chunk, 0, NULL, AXES) == 0 && lictor_guard_action(&chunk, 0, NULL, 0) == AXES);
+    EXPECT(memcmp(&a, &b, sizeof a) == 0);
+    /* an arm without a camera, features without a position, a hold without one */
+    EXPECT(CHECK(a.pos, AXES, NULL, 0, &chunk, a.out, ROWS * AXES) == LICTOR_ACCEPTED && a.found.trips == 0);
+    EXPECT(ACTION(a.pos, AXES, NULL, 0, a.previous, AXES, a.rows, AXES, a.row, AXES) == LICTOR_ACCEPTED);
+    EXPECT(FEATURES(NULL, 0, NULL, 0, &chunk) == LICTOR_ACCEPTED && FEATURES(NULL, 0, NULL, 0, NULL) == LICTOR_ACCEPTED);
+    a.row[0] = 7.0;
+    EXPECT(lictor_guard_brake_action(&c, NULL, 0, NULL, 0, a.row, AXES) == LICTOR_ACCEPTED && a.row[0] == 0.0);
+    a.row[0] = 7.0;
+    EXPECT(lictor_guard_hold_action(&c, NULL, 0, a.row, AXES) == LICTOR_ACCEPTED && a.row[0] == 0.0);
+    c.counts.commit = c.counts.brake_steps = 0;
+    EXPECT(FORECAST(a.pos, AXES, a.vel, AXES, &chunk, NULL, 0) == LICTOR_ACCEPTED && a.forecast.count == 0);
+    /* the entries' own constant for it */
+    EXPECT(lictor_norm(LICTOR_NONE, 0, 0, &a.speed) == LICTOR_ACCEPTED && a.speed == 0.0);
+#undef CHECK
+#undef ACTION
+#undef FEATURES
+#undef FORECAST
+}
+
+/* A calibration's counts that the gate's types cannot hold are refused as lictor_derive refuses them, and not cut. */
+static void widths(void) {
+    const uint64_t wide = UINT64_C(1) << 32;
+    static struct tick a;
+    struct lictor_config c = arm();
+    uint64_t bin = 7, trips = 7;
+#define GATE(due)                                                                                                       \
+    EXPECT(lictor_guard_standardise(&c, 0, &a.scores, &a.marks) == (due) && lictor_guard_trip(&c, &a.scores, &a.marks, &trips) == (due) && \
+           lictor_guard_aggregate(&c, &a.scores, &a.marks) == (due))
+    GATE(LICTOR_ACCEPTED);
+    c = arm(), c.counts.mask = wide;
+    GATE(LICTOR_SIZE);
+    c = arm(), c.counts.n_terms = 257;
+    GATE(LICTOR_SIZE);
+    c = arm(), c.counts.terms[1] = wide + 1;
+    GATE(LICTOR_SIZE);
+    c = arm(), c.counts.terms[2] = wide + 1;
+    GATE(LICTOR_ACCEPTED);
+    memset(&c, 0, sizeof c);
+    GATE(LICTOR_NUMBER);
+#undef GATE
+    c = arm(), c.counts.horizon_ticks = wide + 1;
+    EXPECT(lictor_guard_time_bin(&c, 0, &bin) == LICTOR_MISFIT && bin == 7);
+    c.counts.horizon_ticks = 0;
+    EXPECT(lictor_guard_time_bin(&c, 0, &bin) == LICTOR_STEPS && bin == 7);
+}
+
+/* A bit of armed that is no check arms nothing, and is not refused. */
+static void arming(void) {
+    struct lictor_config c = arm();
+    static struct tick a;
+    const struct lictor_chunk chunk = {a.rows, ROWS * AXES, 0, 0, ROWS, AXES, 2};
+    for (int i = 0; i < ROWS * AXES; i++) a.rows[i] = i % 2 ? 9.0 : -9.0;
+    EXPECT(lictor_guard_check_chunk(&c, a.pos, AXES, NULL, 0, &chunk, a.out, ROWS * AXES, &a.found, &a.speed) == LICTOR_ACCEPTED);
+    EXPECT(a.found.trips == (LICTOR_TRIP_ALL & ~LICTOR_TRIP_CONTACT) && a.found.clamped_dims == 7);
+    c.counts.armed = UINT32_MAX - LICTOR_TRIP_ALL;
+    EXPECT(lictor_guard_check_chunk(&c, a.pos, AXES, NULL, 0, &chunk, a.out, ROWS * AXES, &a.found, &a.speed) == LICTOR_ACCEPTED);
+    EXPECT(a.found.trips == 0 && a.found.clamped_dims == 0 && memcmp(a.out, a.rows, sizeof a.out) == 0);
+}
+
+/* Each number has a text of its own, and the version's parts agree. */
+static void words(void) {
+    const char *unknown = lictor_refusal_text(14);
+    char version[32];
+    for (uint64_t i = 0; i < 300; i++) {
+        const int known = i <= LICTOR_COMPUTED || i == LICTOR_MISFIT;
+        EXPECT((strcmp(lictor_refusal_text(i), unknown) != 0) == known);
+        for (uint64_t j = 0; known && j < i; j++) EXPECT(strcmp(lictor_refusal_text(i), lictor_refusal_text(j)) != 0);
+    }
+    snprintf(version, sizeof version, "%d.%d.%d", LICTOR_VERSION_MAJOR, LICTOR_VERSION_MINOR, LICTOR_VERSION_PATCH);
+    EXPECT(strcmp(version, LICTOR_VERSION) == 0 && LICTOR_VERSION_NUMBER >= 100);
+}
+
+int main(void) {
+    forms();
+    nulls();
+    widths();
+    arming();
+    words();
+    puts(failed ? "guard forms: failed" : "guard forms: as expected");
+    return failed;
+}
