@@ -61,14 +61,14 @@ static uint64_t score(struct guard *g, const struct measured *m) {
 static uint64_t tick(struct guard *g, const struct measured *m, const char **deed, double row[2]) {
     struct lictor_check_marks found;
     struct lictor_forecast_marks forecast;
-    struct lictor_forecast_reach reach;
+    struct lictor_forecast_distances distances;
     struct lictor_chunk projected = m->planned;
     double inside[8], speed;
     uint64_t place, number;
     if ((number = score(g, m))) return number;
     if ((number = lictor_guard_check_chunk(&g->config, m->pos, 2, NULL, 0, &m->planned, inside, 8, &found, &speed))) return number;
     projected.rows = inside;
-    if ((number = lictor_guard_brake_feasible(&g->config, m->pos, 2, m->vel, 2, &projected, 0, g->slacks, 64, &forecast, &reach,
+    if ((number = lictor_guard_brake_feasible(&g->config, m->pos, 2, m->vel, 2, &projected, 0, g->slacks, 64, &forecast, &distances,
                                               &place)))
         return number;
     *deed = "follow";

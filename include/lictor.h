@@ -465,13 +465,13 @@ struct lictor_forecast_marks {
     uint64_t feasible; /* 1 where none of them is negative, else 0 */
 };
 
-struct lictor_forecast_reach {
+struct lictor_forecast_distances {
     double margin;    /* the least slack; infinity where there is none */
     double stop_dist; /* how far the arm comes */
 };
 
 /* Forecasts from row `from` of a chunk through the committed rows and the braking after them. Writes the slacks in order, the
-   marks and the reach; the rest of the slacks stays. A refusal sets place: for LICTOR_COMPUTED it is the place of the first
+   marks and the distances; the rest of the slacks stays. A refusal sets place: for LICTOR_COMPUTED it is the place of the first
    number that isn't finite, counted from 1, and the slacks before it are written; for any other number it is 0.
    LICTOR_MISFIT leaves place as it was. LICTOR_MISFIT, LICTOR_SIZE to LICTOR_COMPUTED. */
 LICTOR_MUST_USE LICTOR_NOT_NULL
@@ -480,7 +480,7 @@ uint64_t lictor_brake_feasible(const struct lictor_numbers *numbers, const struc
                                size_t position_count, const double *velocity, size_t velocity_count, const double *rows,
                                size_t rows_count, uint16_t horizon, uint16_t dim, uint16_t exec_steps, size_t from,
                                double *slacks, size_t slacks_count, struct lictor_forecast_marks *marks,
-                               struct lictor_forecast_reach *reach, uint64_t *place);
+                               struct lictor_forecast_distances *distances, uint64_t *place);
 
 /* The row that brakes, over the first dim numbers of out: the position inside its box, or the velocity ramped down. A position
    or velocity may be short: what is missing counts as 0. LICTOR_MISFIT, LICTOR_SIZE to LICTOR_CHANNELS, LICTOR_SHORT to
@@ -653,14 +653,14 @@ static inline uint64_t lictor_guard_brake_feasible(const struct lictor_config *c
                                                    size_t position_count, const double *velocity, size_t velocity_count,
                                                    const struct lictor_chunk *chunk, size_t from, double *slacks,
                                                    size_t slacks_count, struct lictor_forecast_marks *marks,
-                                                   struct lictor_forecast_reach *reach, uint64_t *place) {
+                                                   struct lictor_forecast_distances *distances, uint64_t *place) {
     double none = 0.0;
     if (lictor_missing(position, position_count) || lictor_missing(velocity, velocity_count) ||
         lictor_missing(chunk->rows, chunk->rows_count) || lictor_missing(slacks, slacks_count))
         return LICTOR_MISFIT;
     return lictor_brake_feasible(LICTOR_CONFIG_PARTS(config), lictor_lent(position), position_count, lictor_lent(velocity),
                                  velocity_count, LICTOR_CHUNK_PARTS(chunk), from, slacks ? slacks : &none, slacks_count, marks,
-                                 reach, place);
+                                 distances, place);
 }
 
 /* lictor_brake_action */
@@ -700,7 +700,7 @@ LICTOR_ASSERT(lictor_check_marks, 2);
 LICTOR_ASSERT(lictor_held_marks, 2);
 LICTOR_ASSERT(lictor_tier1, 784);
 LICTOR_ASSERT(lictor_forecast_marks, 2);
-LICTOR_ASSERT(lictor_forecast_reach, 2);
+LICTOR_ASSERT(lictor_forecast_distances, 2);
 LICTOR_ASSERT(lictor_scores, 25);
 LICTOR_ASSERT(lictor_marks, 2);
 LICTOR_ASSERT(lictor_config, 44 + 26 + 192 + 192);

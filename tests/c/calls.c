@@ -321,7 +321,7 @@ static void brakes(void) {
     struct lictor_numbers n = {0};
     struct lictor_counts c = {0};
     struct lictor_forecast_marks m = {7, 7};
-    struct lictor_forecast_reach r = {7.0, 7.0};
+    struct lictor_forecast_distances r = {7.0, 7.0};
     const double still[1] = {0.0}, rows[4] = {1.0, 1.0, 1.0, 1.0}, far[1] = {5.0};
     double slacks[5] = {7.0, 7.0, 7.0, 7.0, 7.0}, out[2] = {7.0, 7.0};
     uint64_t place = 7;

@@ -56,7 +56,7 @@ struct tick {
     struct lictor_marks marks;
     struct lictor_check_marks found;
     struct lictor_forecast_marks forecast;
-    struct lictor_forecast_reach reach;
+    struct lictor_forecast_distances distances;
     struct lictor_derived derived;
     uint64_t place, trips, bin, length;
 };
@@ -106,8 +106,8 @@ static void forms(void) {
         SAME(lictor_check_action(PARTS, a.pos, pos, a.aux, aux, a.previous, AXES, a.rows, AXES, a.row, AXES, &a.found, &a.speed),
              lictor_guard_check_action(&c, a.pos, pos, a.aux, aux, a.previous, AXES, a.rows, AXES, b.row, AXES, &b.found, &b.speed));
         SAME(lictor_brake_feasible(PARTS, a.pos, pos, a.vel, AXES, a.rows, ROWS * AXES, ROWS, AXES, chunk.exec_steps, from, a.slacks,
-                                   64, &a.forecast, &a.reach, &a.place),
-             lictor_guard_brake_feasible(&c, a.pos, pos, a.vel, AXES, &chunk, from, b.slacks, 64, &b.forecast, &b.reach, &b.place));
+                                   64, &a.forecast, &a.distances, &a.place),
+             lictor_guard_brake_feasible(&c, a.pos, pos, a.vel, AXES, &chunk, from, b.slacks, 64, &b.forecast, &b.distances, &b.place));
         SAME(lictor_brake_action(PARTS, a.pos, pos, a.vel, AXES, a.row, AXES),
              lictor_guard_brake_action(&c, a.pos, pos, a.vel, AXES, b.row, AXES));
         SAME(lictor_hold_action(PARTS, a.pos, pos, a.row, AXES), lictor_guard_hold_action(&c, a.pos, pos, b.row, AXES));
@@ -135,7 +135,7 @@ static void nulls(void) {
 #define FEATURES(pos, pos_count, ext, ext_count, ch) \
     lictor_guard_features(&c, &a.state, pos, pos_count, ext, ext_count, ch, &a.scores, &a.marks)
 #define FORECAST(pos, pos_count, vel, vel_count, ch, slacks, slacks_count) \
-    lictor_guard_brake_feasible(&c, pos, pos_count, vel, vel_count, ch, 0, slacks, slacks_count, &a.forecast, &a.reach, &a.place)
+    lictor_guard_brake_feasible(&c, pos, pos_count, vel, vel_count, ch, 0, slacks, slacks_count, &a.forecast, &a.distances, &a.place)
     b = a;
     EXPECT(CHECK(NULL, 1, a.aux, 2, &chunk, a.out, ROWS * AXES) == LICTOR_MISFIT);
     EXPECT(CHECK(a.pos, AXES, NULL, 1, &chunk, a.out, ROWS * AXES) == LICTOR_MISFIT);

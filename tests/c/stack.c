@@ -45,9 +45,9 @@ static void reset(void) {
 
 static void forecast(void) {
     struct lictor_forecast_marks marks;
-    struct lictor_forecast_reach reach;
+    struct lictor_forecast_distances distances;
     uint64_t place;
-    if (lictor_brake_feasible(&n, &c, center, scale, still, 8, still, 8, rows, 512, 64, 8, 64, 0, slacks, 4096, &marks, &reach, &place)) abort();
+    if (lictor_brake_feasible(&n, &c, center, scale, still, 8, still, 8, rows, 512, 64, 8, 64, 0, slacks, 4096, &marks, &distances, &place)) abort();
 }
 
 static void brake(void) {

@@ -52,7 +52,7 @@ pub fn brake_feasible(
     from: usize,
     slacks: &mut [f64],
 ) -> Answer<BrakeOut> {
-    let (mut marks, mut reach, mut place) = ([0; 2], [0.0; 2], 0);
+    let (mut marks, mut distances, mut place) = ([0; 2], [0.0; 2], 0);
     // SAFETY: the arrays and slices are live; `slacks` is lent to us alone, and the places are ours.
     let number = unsafe {
         raw::lictor_brake_feasible(
@@ -73,11 +73,11 @@ pub fn brake_feasible(
             slacks.as_mut_ptr(),
             slacks.len(),
             &mut marks,
-            &mut reach,
+            &mut distances,
             &mut place,
         )
     };
-    let [margin, stop_dist] = reach;
+    let [margin, stop_dist] = distances;
     given_at(number, place, BrakeOut { count: marks[0] as usize, margin, feasible: marks[1] == 1, stop_dist })
 }
 

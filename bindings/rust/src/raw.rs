@@ -205,7 +205,7 @@ extern "C" {
         slacks: *mut f64,
         slacks_len: usize,
         marks: &mut [u64; 2],
-        reach: &mut [f64; 2],
+        distances: &mut [f64; 2],
         place: &mut u64,
     ) -> u64;
     pub fn lictor_brake_action(

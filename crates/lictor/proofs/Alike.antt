@@ -93,7 +93,7 @@ pub forecast-misfit : {f g : Bool} {a : BrakeOut} {l : List Float} {m : List ℕ
 forecast-misfit e q = let z = sym q ∙ e in record { number = rw z; marks = rw z; reach = rw z; place = rw z; slacks = rw z }
 
 pub forecast-fits : {f g : Bool} {a b : BrakeOut} {l : List Float} {r : ℕ} {m₀ m : List ℕ} {x₀ x : List Float} {p₀ p : ℕ} {s₀ s : List Float} → f ≡ true → f ≡ g → (a ≡ b) × (s ≡ l) → ForecastPut a r m₀ m x₀ x p₀ p → ForecastGiven g b l r m₀ m x₀ x p₀ p s₀ s
-forecast-fits e y q g = let z = sym y ∙ e in record { number = rw (z, ← q .0) (g .number); marks = rw (z, ← q .0) (g .marks); reach = rw (z, ← q .0) (g .reach); place = rw (z, ← q .0) (g .place); slacks = rw z (q .1) }
+forecast-fits e y q g = let z = sym y ∙ e in record { number = rw (z, ← q .0) (g .number); marks = rw (z, ← q .0) (g .marks); distances = rw (z, ← q .0) (g .distances); place = rw (z, ← q .0) (g .place); slacks = rw z (q .1) }
 
 -- a row whose counts do not fit is not written, and one whose counts fit is
 pub sent-misfit : {f g : Bool} {a : Sent} {l o : List Float} → f ≡ false → f ≡ g → SentGiven g a l 255 o o

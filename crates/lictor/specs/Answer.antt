@@ -188,9 +188,9 @@ unfoldable pub forecastMarks : BrakeOut → List ℕ → List ℕ
 forecastMarks (F.Accepted count margin feasible stop) old = count ∷ flag feasible ∷ []
 forecastMarks (F.Refused r) old = old
 
-unfoldable pub forecastReach : BrakeOut → List Float → List Float
-forecastReach (F.Accepted count margin feasible stop) old = margin ∷ stop ∷ []
-forecastReach (F.Refused r) old = old
+unfoldable pub forecastDistances : BrakeOut → List Float → List Float
+forecastDistances (F.Accepted count margin feasible stop) old = margin ∷ stop ∷ []
+forecastDistances (F.Refused r) old = old
 
 unfoldable pub forecastPlace : BrakeOut → ℕ → ℕ
 forecastPlace (F.Accepted count margin feasible stop) old = old
@@ -199,14 +199,14 @@ forecastPlace (F.Refused r) old = r .place
 pub record ForecastPut (a : BrakeOut) (r : ℕ) (m₀ m : List ℕ) (x₀ x : List Float) (p₀ p : ℕ) : Type 0 where
   pub number : r ≡ forecastNumber a
   pub marks : m ≡ forecastMarks a m₀
-  pub reach : x ≡ forecastReach a x₀
+  pub distances : x ≡ forecastDistances a x₀
   pub place : p ≡ forecastPlace a p₀
 
 -- a forecast of a configuration whose counts may not fit; the entry leaves l in the slacks
 pub record ForecastGiven (fits : Bool) (a : BrakeOut) (l : List Float) (r : ℕ) (m₀ m : List ℕ) (x₀ x : List Float) (p₀ p : ℕ) (s₀ s : List Float) : Type 0 where
   pub number : r ≡ fitting fits (forecastNumber a)
   pub marks : m ≡ (if fits then forecastMarks a m₀ else m₀)
-  pub reach : x ≡ (if fits then forecastReach a x₀ else x₀)
+  pub distances : x ≡ (if fits then forecastDistances a x₀ else x₀)
   pub place : p ≡ (if fits then forecastPlace a p₀ else p₀)
   pub slacks : s ≡ (if fits then l else s₀)
 

@@ -146,10 +146,10 @@ pub(crate) fn put_cleared(
 pub(crate) fn put_forecast(
     a: BrakeOut,
     marks: &mut [u64; 2],
-    reach: &mut [f64; 2],
+    distances: &mut [f64; 2],
     place: &mut u64,
 ) -> u64
-    ensures { λ r. ⌜ ForecastPut a r (now (marks .entry)) (now (marks .exit)) (now (reach .entry)) (now (reach .exit)) (now (place .entry)) (now (place .exit)) ⌝ }
+    ensures { λ r. ⌜ ForecastPut a r (now (marks .entry)) (now (marks .exit)) (now (distances .entry)) (now (distances .exit)) (now (place .entry)) (now (place .exit)) ⌝ }
 {
     match a {
         BrakeOut::Accepted {
@@ -159,7 +159,7 @@ pub(crate) fn put_forecast(
             stop_dist,
         } => {
             *marks = [count as u64, feasible as u64];
-            *reach = [margin, stop_dist];
+            *distances = [margin, stop_dist];
             0
         }
         BrakeOut::Refused(r) => {

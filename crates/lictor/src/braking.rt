@@ -23,10 +23,10 @@ pub extern "C" fn lictor_brake_feasible(
     from: usize,
     slack: &mut [f64],
     marks: &mut [u64; 2],
-    reach: &mut [f64; 2],
+    distances: &mut [f64; 2],
     place: &mut u64,
 ) -> u64
-    ensures { λ r. ⌜ ForecastGiven (countsFit (now (counts .entry))) (forecastAnswer binary64 (configOf (now (numbers .entry)) (now (counts .entry))) (tables (now (center .entry)) (now (scale .entry))) (now (pos .entry)) (now (vel .entry)) (now (rows .entry)) (sizesAsked horizon dim «exec_steps») from (length (now (slack .entry)))) (forecastSlacks binary64 (configOf (now (numbers .entry)) (now (counts .entry))) (tables (now (center .entry)) (now (scale .entry))) (now (pos .entry)) (now (vel .entry)) (now (rows .entry)) (sizesAsked horizon dim «exec_steps») from (now (slack .entry))) r (now (marks .entry)) (now (marks .exit)) (now (reach .entry)) (now (reach .exit)) (now (place .entry)) (now (place .exit)) (now (slack .entry)) (now (slack .exit)) ⌝ }
+    ensures { λ r. ⌜ ForecastGiven (countsFit (now (counts .entry))) (forecastAnswer binary64 (configOf (now (numbers .entry)) (now (counts .entry))) (tables (now (center .entry)) (now (scale .entry))) (now (pos .entry)) (now (vel .entry)) (now (rows .entry)) (sizesAsked horizon dim «exec_steps») from (length (now (slack .entry)))) (forecastSlacks binary64 (configOf (now (numbers .entry)) (now (counts .entry))) (tables (now (center .entry)) (now (scale .entry))) (now (pos .entry)) (now (vel .entry)) (now (rows .entry)) (sizesAsked horizon dim «exec_steps») from (now (slack .entry))) r (now (marks .entry)) (now (marks .exit)) (now (distances .entry)) (now (distances .exit)) (now (place .entry)) (now (place .exit)) (now (slack .entry)) (now (slack .exit)) ⌝ }
 {
     let fits = layout::config::counts_fit(counts);
     if !fits {
@@ -41,7 +41,7 @@ pub extern "C" fn lictor_brake_feasible(
         exec_steps,
     };
     let a = brake::brake_feasible(c, center, scale, pos, vel, rows, k, from, slack);
-    crate::answer::put_forecast(a, marks, reach, place)
+    crate::answer::put_forecast(a, marks, distances, place)
 }
 
 #[no_mangle]

@@ -93,7 +93,7 @@ cleared-given : {fits : Bool} {a : Cleared} {r r′ : ℕ} {d₀ : List Float} {
 cleared-given p q = (unique (p .number) (q .number), (unique (p .rows) (q .rows), (unique (p .header) (q .header), (unique (p .trail) (q .trail), (unique (p .samples) (q .samples), (unique (p .held) (q .held), unique (p .kept) (q .kept)))))))
 
 forecast-given : {fits : Bool} {a : BrakeOut} {l : List Float} {r r′ : ℕ} {m₀ : List ℕ} {m m′ : List ℕ} {x₀ : List Float} {x x′ : List Float} {p₀ : ℕ} {p p′ : ℕ} {s₀ : List Float} {s s′ : List Float} → ForecastGiven fits a l r m₀ m x₀ x p₀ p s₀ s → ForecastGiven fits a l r′ m₀ m′ x₀ x′ p₀ p′ s₀ s′ → (r ≡ r′) × ((m ≡ m′) × ((x ≡ x′) × ((p ≡ p′) × (s ≡ s′))))
-forecast-given p q = (unique (p .number) (q .number), (unique (p .marks) (q .marks), (unique (p .reach) (q .reach), (unique (p .place) (q .place), unique (p .slacks) (q .slacks)))))
+forecast-given p q = (unique (p .number) (q .number), (unique (p .marks) (q .marks), (unique (p .distances) (q .distances), (unique (p .place) (q .place), unique (p .slacks) (q .slacks)))))
 
 sent-given : {fits : Bool} {a : Sent} {l : List Float} {r r′ : ℕ} {o₀ : List Float} {o o′ : List Float} → SentGiven fits a l r o₀ o → SentGiven fits a l r′ o₀ o′ → (r ≡ r′) × (o ≡ o′)
 sent-given p q = (unique (p .number) (q .number), unique (p .output) (q .output))
