@@ -90,7 +90,7 @@ check-fits e p q g = let z = sym p ∙ e in record { number = rw (z, ← q .0) (
 
 -- a forecast whose counts do not fit leaves every place as it was; one whose counts fit is put where it belongs
 pub forecast-misfit : {f g : Bool} {a : BrakeOut} {l : List Float} {m : List ℕ} {x : List Float} {p : ℕ} {s : List Float} → f ≡ false → f ≡ g → ForecastGiven g a l 255 m m x x p p s s
-forecast-misfit e q = let z = sym q ∙ e in record { number = rw z; marks = rw z; reach = rw z; place = rw z; slacks = rw z }
+forecast-misfit e q = let z = sym q ∙ e in record { number = rw z; marks = rw z; distances = rw z; place = rw z; slacks = rw z }
 
 pub forecast-fits : {f g : Bool} {a b : BrakeOut} {l : List Float} {r : ℕ} {m₀ m : List ℕ} {x₀ x : List Float} {p₀ p : ℕ} {s₀ s : List Float} → f ≡ true → f ≡ g → (a ≡ b) × (s ≡ l) → ForecastPut a r m₀ m x₀ x p₀ p → ForecastGiven g b l r m₀ m x₀ x p₀ p s₀ s
 forecast-fits e y q g = let z = sym y ∙ e in record { number = rw (z, ← q .0) (g .number); marks = rw (z, ← q .0) (g .marks); distances = rw (z, ← q .0) (g .distances); place = rw (z, ← q .0) (g .place); slacks = rw z (q .1) }
