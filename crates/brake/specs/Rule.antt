@@ -63,7 +63,7 @@ module _ (f : Format) (c : FuseConfig) (p v rows : List Float) (k : Header) (fro
   abbrev pub closed : stopping.Task
   closed = record {
     arm = armOf c;
-    react = c .brake .«react_ticks»;
+    reactTicks = c .brake .«react_ticks»;
     walls = wallsAt f c;
     n = live c;
     start = start;

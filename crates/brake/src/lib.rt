@@ -152,7 +152,7 @@ fn second_order(
 // The closed kinds.
 fn closed(
     arm: Arm,
-    react: u16,
+    react_ticks: u16,
     w: Workspace,
     c: Course,
     start: Plant,
@@ -160,11 +160,11 @@ fn closed(
     slack: &mut [f64],
 ) -> BrakeOut
     requires { ⌜ (stopped.roomy c (length (now rows)) (length (now slack)) ≡ true) × (suc (leftOf c .0) ≤ 4096) ⌝ }
-    ensures { λ r. ⌜ (r ≡ outcome (stopping-rule.forecast binary64 (stopped.taskOf arm react w c start (now (rows .entry))))) × (now (slack .exit) ≡ writtenOf (stopping-rule.forecast binary64 (stopped.taskOf arm react w c start (now (rows .entry)))) (now (slack .entry))) ⌝ }
+    ensures { λ r. ⌜ (r ≡ outcome (stopping-rule.forecast binary64 (stopped.taskOf arm «react_ticks» w c start (now (rows .entry))))) × (now (slack .exit) ≡ writtenOf (stopping-rule.forecast binary64 (stopped.taskOf arm «react_ticks» w c start (now (rows .entry)))) (now (slack .entry))) ⌝ }
 {
-    let run = stopping::closed_form(arm, react, w, c, start, rows, slack);
+    let run = stopping::closed_form(arm, react_ticks, w, c, start, rows, slack);
     let end = run.plant;
-    let stop = stopping::stop_distance(arm, react, start, end, c.live);
+    let stop = stopping::stop_distance(arm, react_ticks, start, end, c.live);
     settled(run, stop)
 }
 
@@ -186,13 +186,13 @@ fn forecast(
     let start = start_of(c, pos, vel);
     let arm = arm_of(c);
     let model = c.brake;
-    let react = model.react_ticks;
+    let react_ticks = model.react_ticks;
     let kind = model.kind;
     match kind {
         BrakeKind::PdSecondOrder { k_p, k_v, dt } => {
             second_order(Law { k_p, k_v, dt }, w, course, start, rows, slack)
         }
-        _ => closed(arm, react, w, course, start, rows, slack),
+        _ => closed(arm, react_ticks, w, course, start, rows, slack),
     }
 }
 

@@ -1,8 +1,8 @@
--- Sizes that are judged first: where they are refused the number is theirs, and where they are accepted it is that of the rows' numbers.
+-- What is known of a chunk that is not refused.
 use Prim.Native.Nat.{ℕ, _*_, _≤_, _<_}
-use mathlib.Core.Path.{_≡_, sym, _∙_}
-use mathlib.Core.Bool.{Bool, true, false, not}
-use mathlib.Core.List.{List, [], _∷_, _++_}
+use mathlib.Core.Path.{_≡_}
+use mathlib.Core.Bool.{true, false, not}
+use mathlib.Core.List.{List, [], _∷_}
 use native.Mathlib.Nat.{mul-le-mul, pos-of-ne-zero}
 use borrow.Author.Tests.{eqb-true, eqb-false, ltb-false, not-false}
 use lib.Dec.{eqb}
@@ -10,35 +10,11 @@ use lib.Ieee.{Float}
 use lib.ListN.{length}
 use Rattle.checked.specs.Finite.{allFinite}
 use Rattle.checked.proofs.Each.{neither}
-use Rattle.refusal.specs.Order.{Judged, _when_, empty, tooLong, tooWide, execExceedsHorizon, lenMismatch, notFinite, among, refusal}
-use Rattle.bits.specs.Choice.{if_then_else_}
+use Rattle.refusal.specs.Order.{_when_, empty, tooLong, tooWide, execExceedsHorizon, lenMismatch, notFinite, among, refusal}
 use Rattle.refusal.specs.Exactly.{exactly-none}
-use Rattle.refusal.specs.Chain.{first-refuses, first-passes, both-pass, passes-at}
+use Rattle.refusal.specs.Chain.{both-pass, passes-at}
 use Rattle.chunk.specs.declared.Header.{Header}
 use Rattle.chunk.specs.Refusals.{chunkReasons, lentReasons}
-
--- r is the sizes' number, and the rows are finite where ok
-module _ (k : Header) (n r : ℕ) (ok : Bool) (is : r ≡ refusal (chunkReasons k n)) where
-  abbrev sizes : List Judged
-  sizes = chunkReasons k n
-
-  abbrev numbers : List Judged
-  numbers = (notFinite when not ok) ∷ []
-
-  abbrev whole : ℕ
-  whole = refusal (sizes ++ numbers)
-
-  pub refused-by-sizes : (r ≡ 0 → ⊥) → r ≡ whole
-  refused-by-sizes some = is ∙ sym (first-refuses sizes numbers (λ z. some (is ∙ z)))
-
-  passed : r ≡ 0 → whole ≡ (if not ok then 12 else 0)
-  passed z = first-passes sizes numbers (sym is ∙ z)
-
-  pub refused-by-numbers : r ≡ 0 → ok ≡ false → 12 ≡ whole
-  refused-by-numbers z f = sym (passed z ∙ rw f)
-
-  pub accepted : r ≡ 0 → ok ≡ true → 0 ≡ whole
-  accepted z t = sym (passed z ∙ rw t)
 
 -- what is known of a chunk whose sizes are accepted
 pub record Accepted (k : Header) (n : ℕ) : Type 0 where

@@ -75,15 +75,9 @@ pub fn chunk_refusal(header: Header, len: usize) -> u8
 fn lent_refusal(rows: &[f64], header: Header) -> u8
     ensures { λ r. ⌜ r ≡ refusal (lentReasons (now (rows .entry)) header) ⌝ }
 {
-    let number = chunk_refusal(header, rows.len());
-    if number != 0 {
-        return number;
-    }
-    if fmath::all_finite(rows, rows.len()) {
-        0
-    } else {
-        Refusal::NOT_FINITE
-    }
+    let sizes = chunk_refusal(header, rows.len());
+    let fit = fmath::all_finite(rows, rows.len());
+    Refusal::or_later(sizes, Refusal::when(Refusal::NOT_FINITE, !fit, 0))
 }
 
 impl ChunkBuf {
@@ -176,15 +170,9 @@ impl ChunkBuf {
         let data = self.data;
         let header = self.header;
         let n = (header.horizon as usize) * (header.dim as usize);
-        let number = chunk_refusal(header, n);
-        if number != 0 {
-            return number;
-        }
-        if fmath::all_finite(&data, n) {
-            0
-        } else {
-            Refusal::NOT_FINITE
-        }
+        let sizes = chunk_refusal(header, n);
+        let fit = fmath::all_finite(&data, n);
+        Refusal::or_later(sizes, Refusal::when(Refusal::NOT_FINITE, !fit, 0))
     }
 
     // The view of the held chunk, as `view_held` gives it.

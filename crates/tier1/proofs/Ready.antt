@@ -1,5 +1,5 @@
 -- The number for what is lent, from the number for each argument; and what is known of a call that is not refused by it.
-use Prim.Native.Nat.{ℕ, zero, suc, _*_, _≤_}
+use Prim.Native.Nat.{ℕ, _*_, _≤_}
 use mathlib.Core.Path.{_≡_, refl, sym, ap, _∙_}
 use mathlib.Core.Bool.{Bool, true, false, not, _&&_, _||_}
 use mathlib.Core.List.{List, [], _∷_}
@@ -10,6 +10,7 @@ use lib.ListN.{length}
 use lib.Ieee.{Float, Format}
 use Rattle.refusal.specs.Order.{Reason, leftover, width, notFinite, _when_, among, given, refusal, _or_, earlier}
 use Rattle.bits.specs.Choice.{if_then_else_}
+use Rattle.refusal.specs.Chain.{first-passes, both-pass}
 use Rattle.refusal.proofs.Joint.{given-or, neither-applies}
 use Rattle.fmath.specs.Answer.{someNotFinite}
 use Rattle.checked.specs.Finite.{allFinite}
@@ -89,10 +90,6 @@ module _ (fm : Format) (c : FuseConfig) (tabs : Tables) (p ext : List Float) (th
 
 -- ---- what is known of a call that is not refused by it
 
-zero-or-not : (r : ℕ) → ((r ≡ 0 → ⊥) → r ≡ 0) → r ≡ 0
-zero-or-not zero h = refl
-zero-or-not (suc r) h = h (λ e. omega arith)
-
 no-12 : (t : Bool) → _≡_ {A = ℕ} (if t then 12 else 0) 0 → t ≡ false
 no-12 true e = absurd (omega arith)
 no-12 false e = refl
@@ -106,7 +103,7 @@ prev-fits : (b : ChunkBuf) → given (prevJudged b) ≡ 0 → b .filled ≡ true
 prev-fits b e t =
     let n = b .header .horizon * b .header .dim in
     let z : refusal (heldReasons (b .«data») (b .header)) ≡ 0 = rw t at e in
-    let s : refusal (chunkReasons (b .header) n) ≡ 0 = zero-or-not _ (λ f. sizes.refused-by-sizes (b .header) n _ (allFinite (b .«data») n) refl f ∙ z) in
+    let s = both-pass (chunkReasons (b .header) n) ((notFinite when not (allFinite (b .«data») n)) ∷ []) z .0 in
     let w = sizes.sizes-accepted (b .header) n s in
     (w .not-long, sizes.accepted-fits w)
 
@@ -134,7 +131,7 @@ module _ (fm : Format) (c : FuseConfig) (tabs : Tables) (p ext : List Float) (th
   new-fits t =
       let g : given (among (chunkReasons k (length rows)) or among ((width when not (eqb (k .dim) (c .dim))) ∷ [])) ≡ 0 = rw t at (parts .1 .0) in
       let w = neither-applies (among (chunkReasons k (length rows))) (among ((width when not (eqb (k .dim) (c .dim))) ∷ [])) g in
-      (sym (sizes.accepted k (length rows) _ (allFinite rows (length rows)) refl (w .0) (rows-finite t)), eqb-true (k .dim) (c .dim) (not-false (eqb (k .dim) (c .dim)) (no-10 (not (eqb (k .dim) (c .dim))) (w .1))))
+      (first-passes (chunkReasons k (length rows)) ((notFinite when someNotFinite rows) ∷ []) (w .0) ∙ rw (rows-finite t), eqb-true (k .dim) (c .dim) (not-false (eqb (k .dim) (c .dim)) (no-10 (not (eqb (k .dim) (c .dim))) (w .1))))
 
   pub before-fits : rt .prev .filled ≡ true → (rt .prev .header .horizon ≤ 64) × (rt .prev .header .horizon * rt .prev .header .dim ≤ 512)
   before-fits =

@@ -23,7 +23,7 @@ stop-distance-requires : tie.Need-stop-distance-requires
 stop-distance-requires c κs = search needs
 
 abbrev task : tie.Start → Task
-task s = taskOf (s .args .arm) (s .args .react) (s .args .w) (s .args .c) (s .args .start) (now (s .args .rows))
+task s = taskOf (s .args .arm) (s .args .react-ticks) (s .args .w) (s .args .c) (s .args .start) (now (s .args .rows))
 
 runs : (c : tie.After-closed-form) → c .closed-form .result ≡ runOf (forecast binary64 (task (c .before .before .before .before))) (stand binary64 (task (c .before .before .before .before)))
 runs c = rw (c .before .before .before .before .pre .0) at (c .closed-form .ensures .0)

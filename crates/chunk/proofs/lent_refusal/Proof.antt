@@ -1,33 +1,32 @@
--- `chunk::lent_refusal` meets its contract: the sizes are judged first, then the numbers.
-use mathlib.Core.Path.{sym, _∙_}
+-- `chunk::lent_refusal` meets its contract: the sizes' number, then that of the rows' numbers.
+use mathlib.Core.Path.{_∙_}
+use mathlib.Core.List.{[], _∷_}
 use borrow.Author.Needs.{needs}
 use lib.ListN.{length}
-use Rattle.checked.specs.Finite.{allFinite}
-use Rattle.chunk.proofs.Judged.{refused-by-sizes, refused-by-numbers, accepted}
+use Rattle.refusal.specs.Order.{notFinite, _when_}
+use Rattle.refusal.specs.Chain.{joined}
+use Rattle.fmath.specs.Answer.{someNotFinite}
+use Rattle.chunk.specs.Refusals.{chunkReasons}
 use Rattle.chunk.proofs.lent_refusal.Statement.{statement}
 use Rattle.chunk.proofs.lent_refusal.Tie as tie
 
 chunk-refusal-requires : tie.Need-chunk-refusal-requires
 chunk-refusal-requires c κs = search needs
 
-returns : tie.Need-returns
-returns c =
-    let s = c .before .before .before .args in
-    refused-by-sizes (s .header) (length (s .rows .now)) _ (allFinite (s .rows .now) (length (s .rows .now))) (c .before .chunk-refusal .ensures) (c .if1 .taken)
-
 all-finite-requires : tie.Need-all-finite-requires
 all-finite-requires c κs = search needs
 
-returns-2 : tie.Need-returns-2
-returns-2 c =
-    let s = c .before .before .before .before .before .args in
-    accepted (s .header) (length (s .rows .now)) _ _ (c .before .before .before .chunk-refusal .ensures) (c .before .before .if1 .left) (sym (c .before .all-finite .ensures) ∙ c .if2 .taken)
+when-requires : tie.Need-when-requires
+when-requires c κs = search needs
 
-returns-3 : tie.Need-returns-3
-returns-3 c =
+or-later-requires : tie.Need-or-later-requires
+or-later-requires c κs = search needs
+
+returns : tie.Need-returns
+returns c =
     let s = c .before .before .before .before .before .args in
-    refused-by-numbers (s .header) (length (s .rows .now)) _ _ (c .before .before .before .chunk-refusal .ensures) (c .before .before .if1 .left) (sym (c .before .all-finite .ensures) ∙ c .if2 .left)
+    joined (chunkReasons (s .header) (length (s .rows .now))) ((notFinite when someNotFinite (s .rows .now)) ∷ []) (c .before .before .before .chunk-refusal .ensures) (c .before .when .ensures ∙ rw (c .before .before .all-finite .ensures)) (c .or-later .ensures)
 
 pub lent-refusal-spec : {M : Type 1} → statement M
 lent-refusal-spec =
-    tie.close (tie.spec chunk-refusal-requires returns all-finite-requires returns-2 returns-3)
+    tie.close (tie.spec chunk-refusal-requires all-finite-requires when-requires or-later-requires returns)

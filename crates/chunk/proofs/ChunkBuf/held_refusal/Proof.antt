@@ -1,12 +1,16 @@
 -- `ChunkBuf::held_refusal` meets its contract: nothing is judged where no chunk is held, else the sizes first, then the numbers.
 use Prim.Native.Nat.{_*_}
-use mathlib.Core.Path.{sym, _∙_}
+use mathlib.Core.Path.{_∙_}
+use mathlib.Core.Bool.{not}
+use mathlib.Core.List.{[], _∷_}
 use native.Mathlib.Nat.{lt-of-le-of-lt, le-of-lt}
 use borrow.Author.Needs.{needs}
 use borrow.Author.Tests.{not-true, not-false}
 use Rattle.checked.specs.Finite.{allFinite}
 use Rattle.chunk.specs.Of.{heldRefusalOf}
-use Rattle.chunk.proofs.Judged.{refused-by-sizes, refused-by-numbers, accepted}
+use Rattle.refusal.specs.Order.{notFinite, _when_}
+use Rattle.refusal.specs.Chain.{joined}
+use Rattle.chunk.specs.Refusals.{chunkReasons}
 use Rattle.chunk.proofs.Rows.{place-small}
 use Rattle.chunk.proofs.ChunkBuf.held_refusal.Statement.{statement}
 use Rattle.chunk.proofs.ChunkBuf.held_refusal.Tie as tie
@@ -29,32 +33,25 @@ mul-n c =
 chunk-refusal-requires : tie.Need-chunk-refusal-requires
 chunk-refusal-requires c κs = search needs
 
-returns-2 : tie.Need-returns-2
-unfolding heldRefusalOf
-returns-2 c =
-    let b = c .before .before .before .before .before .before .before .before .args .self in
-    rw (not-false (b .filled) (c .before .before .before .before .before .before .if1 .left))
-    (refused-by-sizes (b .header) (b .header .horizon * b .header .dim) _ (allFinite (b .«data») (b .header .horizon * b .header .dim)) (c .before .chunk-refusal .ensures) (c .if2 .taken))
-
 slice-aggregate-all-finite : tie.Need-slice-aggregate-all-finite
 slice-aggregate-all-finite c = search needs
 
 all-finite-requires : tie.Need-all-finite-requires
 all-finite-requires c κs = search needs
 
-returns-3 : tie.Need-returns-3
-unfolding heldRefusalOf
-returns-3 c =
-    let b = c .before .before .before .before .before .before .before .before .before .before .before .args .self in
-    rw (not-false (b .filled) (c .before .before .before .before .before .before .before .before .before .if1 .left))
-    (accepted (b .header) (b .header .horizon * b .header .dim) _ _ (c .before .before .before .before .chunk-refusal .ensures) (c .before .before .before .if2 .left) (sym (c .before .all-finite .ensures) ∙ c .if3 .taken))
+when-requires : tie.Need-when-requires
+when-requires c κs = search needs
 
-returns-4 : tie.Need-returns-4
+or-later-requires : tie.Need-or-later-requires
+or-later-requires c κs = search needs
+
+returns-2 : tie.Need-returns-2
 unfolding heldRefusalOf
-returns-4 c =
+returns-2 c =
     let b = c .before .before .before .before .before .before .before .before .before .before .before .args .self in
+    let n = b .header .horizon * b .header .dim in
     rw (not-false (b .filled) (c .before .before .before .before .before .before .before .before .before .if1 .left))
-    (refused-by-numbers (b .header) (b .header .horizon * b .header .dim) _ _ (c .before .before .before .before .chunk-refusal .ensures) (c .before .before .before .if2 .left) (sym (c .before .all-finite .ensures) ∙ c .if3 .left))
+    (joined (chunkReasons (b .header) n) ((notFinite when not (allFinite (b .«data») n)) ∷ []) (c .before .before .before .before .chunk-refusal .ensures) (c .before .when .ensures ∙ rw (c .before .before .all-finite .ensures)) (c .or-later .ensures))
 
 pub held-refusal-spec : {M : Type 1} → statement M
 held-refusal-spec =
@@ -65,8 +62,8 @@ held-refusal-spec =
     cast-n-2
     mul-n
     chunk-refusal-requires
-    returns-2
     slice-aggregate-all-finite
     all-finite-requires
-    returns-3
-    returns-4)
+    when-requires
+    or-later-requires
+    returns-2)
