@@ -397,9 +397,9 @@ struct lictor_held_marks {
 /* The state between ticks: 784 words of 8 bytes. Each entry takes its six parts, which LICTOR_TIER1_PARTS(&state) lists. */
 struct lictor_tier1 {
     double before[512];                /*   0..511: the numbers of the chunk before, as lictor_fill leaves them */
-    struct lictor_chunk_header header; /* 512..517: .. and its header */
+    struct lictor_chunk_header header; /* 512..517: its header */
     double trail[256];                 /* 518..773: the trail, to which lictor_trail_push adds each tick's position */
-    struct lictor_trail_marks samples; /* 774..775: .. and its marks */
+    struct lictor_trail_marks samples; /* 774..775: its marks */
     double held[6];                    /* 776..781: the held features, by their bits */
     struct lictor_held_marks kept;     /* 782..783 */
 };
