@@ -72,7 +72,7 @@ pub fn chunk_refusal(header: Header, len: usize) -> u8
 }
 
 // The number for a lent chunk: its sizes, then its rows' numbers, which have to be finite.
-fn lent_refusal(rows: &[f64], header: Header) -> u8
+pub fn lent_refusal(rows: &[f64], header: Header) -> u8
     ensures { λ r. ⌜ r ≡ refusal (lentReasons (now (rows .entry)) header) ⌝ }
 {
     let sizes = chunk_refusal(header, rows.len());

@@ -1,12 +1,13 @@
 -- Equal answers are given alike, so that a function which hands on an entry's answer meets the entry's rule.
 use Prim.Native.Nat.{ℕ}
-use mathlib.Core.Path.{_≡_, sym, ap, _∙_}
+use mathlib.Core.Path.{_≡_, sym, ap, _∙_, refl}
 use mathlib.Core.Bool.{Bool, true, false, _&&_}
 use mathlib.Core.List.{List}
+use borrow.Author.Tests.{eqb-true, le-leb}
 use lib.ListN.{length}
 use lib.Ieee.{Float, binary64}
+use lib.Dec.{eqb}
 use Rattle.fmath.specs.declared.Number.{Number}
-use Rattle.chunk.specs.declared.Filled.{Filled}
 use Rattle.window.specs.declared.Masked.{Masked}
 use Rattle.window.specs.declared.Recorded.{Recorded}
 use Rattle.window.specs.declared.Count.{Count}
@@ -34,13 +35,33 @@ use Rattle.tier1.specs.Of.{featuresOf, resetOf}
 use Rattle.brake.specs.declared.BrakeOut.{BrakeOut}
 use Rattle.brake.specs.declared.Sent.{Sent}
 use Rattle.brake.specs.Answer.{forecastAnswer, forecastSlacks, brakeAnswer, brakeOutput, holdAnswer, holdOutput}
+use Rattle.bits.specs.Choice.{if_then_else_}
+use Rattle.refusal.specs.Order.{refusal}
+use Rattle.chunk.specs.Refusals.{lentReasons}
+use Rattle.chunk.specs.Of.{fillOf}
+use Rattle.chunk.proofs.Judged.{accepted-fits, lent-accepted}
+use Rattle.layout.specs.Chunk.{headerFrom}
+use Rattle.lictor.specs.Asked.{bare, rowsOver}
 use Rattle.lictor.specs.Answer.{fitting, NumberGiven, FilledGiven, MaskGiven, RecordedGiven, CountGiven, EmptinessGiven, DerivedGiven, CheckPut, CheckGiven, FeaturedGiven, StateLaid, ClearedGiven, ForecastPut, ForecastGiven, sentNumber, SentGiven, ScoredGiven, VerdictGiven, BinGiven}
 
 pub number-alike : {a b : Number} {r : ℕ} {old new : Float} → a ≡ b → NumberGiven a r old new → NumberGiven b r old new
 number-alike e g = rw e at g
 
-pub filled-alike : {a b : Filled} {r : ℕ} {d₀ d : List Float} {h₀ h : List ℕ} → a ≡ b → FilledGiven a r d₀ d h₀ h → FilledGiven b r d₀ d h₀ h
-filled-alike e g = rw e at g
+-- a lent chunk, put into a buffer where it is not refused, is what `fill` makes of the buffer
+pub filled-so : (d : List Float) (k : Header) (rows : List Float) {n : ℕ} {m : List Float} {h₀ h : List ℕ} → n ≡ refusal (lentReasons rows k)
+    → (m ≡ (if eqb n 0 then rowsOver d rows else d)) × (h ≡ (if eqb n 0 then headerFrom k true else h₀)) → FilledGiven (fillOf (bare d k) k rows) n d m h₀ h
+unfolding fillOf
+filled-so d k rows {n} {m} {h₀} {h} en put = go (eqb n 0) refl
+  where
+    go : (none : Bool) → eqb n 0 ≡ none → FilledGiven (fillOf (bare d k) k rows) n d m h₀ h
+    go true z =
+        let zero-is = eqb-true n 0 z in
+        let fits = le-leb (length rows) 512 (accepted-fits (lent-accepted rows k (sym en ∙ zero-is) .0)) in
+        let judged : eqb (refusal (lentReasons rows k)) 0 ≡ true = ap (λ (x : ℕ). eqb x 0) (sym en) ∙ z in
+        record { number = zero-is ∙ rw judged; numbers = put .0 ∙ rw (z, judged, fits); header = put .1 ∙ rw (z, judged) }
+    go false z =
+        let judged : eqb (refusal (lentReasons rows k)) 0 ≡ false = ap (λ (x : ℕ). eqb x 0) (sym en) ∙ z in
+        record { number = en ∙ rw judged; numbers = put .0 ∙ rw (z, judged, judged); header = put .1 ∙ rw (z, judged, judged) }
 
 pub mask-alike : {a b : Masked} {r old new : ℕ} → a ≡ b → MaskGiven a r old new → MaskGiven b r old new
 mask-alike e g = rw e at g

@@ -1,9 +1,13 @@
 // Answers, put where C reads them: the number is returned, and a refusal leaves every place as it was, but for the place that a forecast names.
 ghost use mathlib.Core.Path.{_≡_};
-ghost use Rattle.lictor.specs.Answer.{fitting, NumberGiven, FilledGiven, MaskGiven, RecordedGiven, CountGiven, EmptinessGiven, DerivedGiven, CheckPut, ClearedGiven, ForecastPut, sentNumber, ScoredGiven, VerdictGiven, BinGiven};
+ghost use mathlib.Core.Bool.{true};
+ghost use Rattle.bits.specs.Choice.{if_then_else_};
+ghost use Rattle.layout.specs.Chunk.{headerFrom};
+ghost use Rattle.lictor.specs.Asked.{rowsOver};
+ghost use Rattle.lictor.specs.Answer.{fitting, NumberGiven, MaskGiven, RecordedGiven, CountGiven, EmptinessGiven, DerivedGiven, CheckPut, ClearedGiven, ForecastPut, sentNumber, ScoredGiven, VerdictGiven, BinGiven};
 use brake::BrakeOut;
 use brake::Sent;
-use chunk::Filled;
+use chunk::Header;
 use conformal::Scored;
 use conformal::TimeBin;
 use conformal::Verdict;
@@ -35,14 +39,29 @@ pub(crate) fn put_number(a: Number, value: &mut f64) -> u64
     }
 }
 
-pub(crate) fn put_filled(a: Filled, numbers: &mut [f64; 512], header: &mut [u64; 6]) -> u64
-    ensures { λ r. ⌜ FilledGiven a r (now (numbers .entry)) (now (numbers .exit)) (now (header .entry)) (now (header .exit)) ⌝ }
+// Puts a chunk's numbers over the first ones of a buffer that has room for them.
+fn put_rows(rows: &[f64], numbers: &mut [f64; 512])
+    ensures { λ _. ⌜ now (numbers .exit) ≡ rowsOver (now (numbers .entry)) (now (rows .entry)) ⌝ }
 {
-    let number = a.number as u64;
-    if number == 0 {
-        layout::chunks::put_chunk(a.buf, numbers, header);
+    if rows.len() <= 512 {
+        fmath::put(rows, rows.len(), numbers);
     }
-    number
+}
+
+// Puts a chunk that came into the buffer of the one before; where none came that stays.
+pub(crate) fn put_lent(
+    came: bool,
+    k: Header,
+    rows: &[f64],
+    numbers: &mut [f64; 512],
+    header: &mut [u64; 6],
+)
+    ensures { λ _. ⌜ (now (numbers .exit) ≡ (if came then rowsOver (now (numbers .entry)) (now (rows .entry)) else now (numbers .entry))) × (now (header .exit) ≡ (if came then headerFrom k true else now (header .entry))) ⌝ }
+{
+    if came {
+        put_rows(rows, numbers);
+        layout::chunks::put_header(k, true, header);
+    }
 }
 
 pub(crate) fn put_mask(a: Masked, mask: &mut u64) -> u64

@@ -23,7 +23,6 @@ ghost use Rattle.layout.specs.Config.{configOf, countsFit};
 ghost use Rattle.lictor.specs.Answer.{fitting, NumberGiven, FilledGiven, MaskGiven, RecordedGiven, CountGiven, EmptinessGiven, DerivedGiven, ScoredGiven, VerdictGiven, BinGiven};
 ghost use Rattle.lictor.specs.Asked.{bare, headerAsked, calibrationAsked};
 ghost use Rattle.lictor.specs.Environment.{environment};
-use chunk::ChunkBuf;
 use chunk::Header;
 use conformal::Calibration;
 use conformal::GateSpec;
@@ -114,13 +113,9 @@ pub extern "C" fn lictor_fill(
         dim,
         exec_steps,
     };
-    let old = ChunkBuf {
-        data: *numbers,
-        header: k,
-        filled: false,
-    };
-    let a = old.fill(k, rows);
-    answer::put_filled(a, numbers, header)
+    let number = chunk::lent_refusal(rows, k);
+    answer::put_lent(number == 0, k, rows, numbers, header);
+    number as u64
 }
 
 #[no_mangle]

@@ -1,39 +1,17 @@
 // Module 6 for C: the features of a tick, and the state that is held between ticks.
-ghost use mathlib.Core.Path.{_≡_};
-ghost use mathlib.Core.Bool.{true, not, _&&_};
+ghost use mathlib.Core.Bool.{not, _&&_};
 ghost use lib.Dec.{eqb};
 ghost use lib.Ieee.{binary64};
 ghost use Rattle.conformal.specs.Of.{tables};
-ghost use Rattle.bits.specs.Choice.{if_then_else_};
-ghost use Rattle.layout.specs.Chunk.{headerFrom};
 ghost use Rattle.layout.specs.Config.{configOf, countsFit};
 ghost use Rattle.layout.specs.Scores.{marksFit, scoresOf};
 ghost use Rattle.layout.specs.State.{stateFits, stateOf};
 ghost use Rattle.tier1.specs.Of.{newRt, featuresOf, resetOf};
 ghost use Rattle.lictor.specs.Answer.{FeaturedGiven, StateLaid, ClearedGiven};
-ghost use Rattle.lictor.specs.Asked.{headerAsked, rowsOver};
+ghost use Rattle.lictor.specs.Asked.{headerAsked};
 use chunk::Header;
 use conformal::Scores;
 use tier1::Tier1Rt;
-
-// Puts a chunk's numbers over the first ones of a buffer that has room for them.
-fn put_rows(rows: &[f64], before: &mut [f64; 512])
-    ensures { λ _. ⌜ now (before .exit) ≡ rowsOver (now (before .entry)) (now (rows .entry)) ⌝ }
-{
-    if rows.len() <= 512 {
-        fmath::put(rows, rows.len(), before);
-    }
-}
-
-// Puts the chunk before after a tick: the new one, where one came; else it stays.
-fn put_before(came: bool, k: Header, rows: &[f64], before: &mut [f64; 512], header: &mut [u64; 6])
-    ensures { λ _. ⌜ (now (before .exit) ≡ (if came then rowsOver (now (before .entry)) (now (rows .entry)) else now (before .entry))) × (now (header .exit) ≡ (if came then headerFrom k true else now (header .entry))) ⌝ }
-{
-    if came {
-        put_rows(rows, before);
-        layout::chunks::put_header(k, true, header);
-    }
-}
 
 #[no_mangle]
 pub extern "C" fn lictor_features(
@@ -81,7 +59,7 @@ pub extern "C" fn lictor_features(
     if number != 0 {
         return number;
     }
-    put_before(came, k, rows, before, header);
+    crate::answer::put_lent(came, k, rows, before, header);
     let features = a.held;
     layout::states::put_held(features, came | rt.have_prev, a.held_valid, held, kept);
     let f = a.f;

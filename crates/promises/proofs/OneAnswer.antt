@@ -20,6 +20,7 @@ use Rattle.fmath.proofs.distance.Reads as distance
 use Rattle.fmath.proofs.norm.Reads as norm
 use Rattle.fmath.proofs.dist.Reads as dist
 use Rattle.chunk.proofs.chunk_refusal.Reads as chunk-refusal
+use Rattle.chunk.proofs.lent_refusal.Reads as lent-refusal
 use Rattle.chunk.proofs.ChunkBuf.new.Reads as chunk-buf-new
 use Rattle.chunk.proofs.ChunkBuf.fill.Reads as chunk-buf-fill
 use Rattle.chunk.proofs.ChunkBuf.emptied.Reads as chunk-buf-emptied
@@ -207,6 +208,9 @@ one-chunk-buf-clear l a r s x y = unique
 
 pub one-chunk-buf-is-filled : One chunk-buf-is-filled.Post (λ r x. r)
 one-chunk-buf-is-filled l a r s x y = unique
+
+pub one-lent-refusal : One lent-refusal.Post (λ r x. r)
+one-lent-refusal l a r s x y = unique
 
 pub one-chunk-buf-held-refusal : One chunk-buf-held-refusal.Post (λ r x. r)
 one-chunk-buf-held-refusal l a r s x y = unique

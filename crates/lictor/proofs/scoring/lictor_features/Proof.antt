@@ -38,8 +38,8 @@ returns c =
     featured-alike (tables (now (s .center)) (now (s .scale))) (now (s .pos)) (now (s .ext)) _ _ (now (s .rows)) (c .before .before .before .before .before .before .before .before .before .before .before .before .before .before .before .before .before .counts-fit .ensures) (c .before .before .before .before .before .before .before .before .before .before .before .before .before .before .state-fits .ensures) (c .before .before .before .before .before .before .before .before .before .before .before .before .marks-fit .ensures) (c .before .before .before .before .before .before .before .before .before .before .before .config-of .ensures) (c .before .before .before .before .before .before .state-of .ensures) (c .before .before .before .scores-of .ensures)
     (refused-places binary64 (c .before .before .before .before .before .before .before .before .before .before .before .config-of .result) (tables (now (s .center)) (now (s .scale))) (now (s .pos)) (now (s .ext)) _ (now (s .rows)) (c .before .before .before .before .before .before .state-of .result) (c .before .before .before .scores-of .result) _ (c .before .before .one-tick .ensures) (c .before .fitting .ensures) (c .if1 .taken))
 
-put-before-requires : tie.Need-put-before-requires
-put-before-requires c κs = search needs
+put-lent-requires : tie.Need-put-lent-requires
+put-lent-requires c κs = search needs
 
 put-held-requires : tie.Need-put-held-requires
 put-held-requires c κs = search needs
@@ -51,7 +51,7 @@ returns-2 : tie.Need-returns-2
 returns-2 c =
     let s = c .before .before .before .before .before .before .before .before .before .before .before .before .before .before .before .before .before .before .before .before .before .before .before .before .before .before .before .before .before .before .before .before .before .before .args in
     featured-alike (tables (now (s .center)) (now (s .scale))) (now (s .pos)) (now (s .ext)) _ _ (now (s .rows)) (c .before .before .before .before .before .before .before .before .before .before .before .before .before .before .before .before .before .before .before .before .before .before .before .before .before .before .before .before .before .before .counts-fit .ensures) (c .before .before .before .before .before .before .before .before .before .before .before .before .before .before .before .before .before .before .before .before .before .before .before .before .before .before .before .state-fits .ensures) (c .before .before .before .before .before .before .before .before .before .before .before .before .before .before .before .before .before .before .before .before .before .before .before .before .before .marks-fit .ensures) (c .before .before .before .before .before .before .before .before .before .before .before .before .before .before .before .before .before .before .before .before .before .before .before .before .config-of .ensures) (c .before .before .before .before .before .before .before .before .before .before .before .before .before .before .before .before .before .before .before .state-of .ensures) (c .before .before .before .before .before .before .before .before .before .before .before .before .before .before .before .before .scores-of .ensures)
-    (passed-places binary64 (c .before .before .before .before .before .before .before .before .before .before .before .before .before .before .before .before .before .before .before .before .before .before .before .before .config-of .result) (tables (now (s .center)) (now (s .scale))) (now (s .pos)) (now (s .ext)) _ (now (s .rows)) (c .before .before .before .before .before .before .before .before .before .before .before .before .before .before .before .before .before .before .before .state-of .result) (c .before .before .before .before .before .before .before .before .before .before .before .before .before .before .before .before .scores-of .result) _ (c .before .before .before .before .before .before .before .before .before .before .before .before .before .before .before .one-tick .ensures) (c .before .before .before .before .before .before .before .before .before .before .before .before .before .before .fitting .ensures) (c .before .before .before .before .before .before .before .before .before .before .before .before .before .if1 .left) (state-rows _ _ _ _ _ _ (c .before .before .before .before .before .before .before .before .before .before .before .before .before .before .before .before .before .before .before .state-of .ensures)) (c .before .before .before .before .before .before .before .before .before .before .put-before .ensures) (c .before .before .before .before .before .put-held .ensures) (c .put-scores .ensures))
+    (passed-places binary64 (c .before .before .before .before .before .before .before .before .before .before .before .before .before .before .before .before .before .before .before .before .before .before .before .before .config-of .result) (tables (now (s .center)) (now (s .scale))) (now (s .pos)) (now (s .ext)) _ (now (s .rows)) (c .before .before .before .before .before .before .before .before .before .before .before .before .before .before .before .before .before .before .before .state-of .result) (c .before .before .before .before .before .before .before .before .before .before .before .before .before .before .before .before .scores-of .result) _ (c .before .before .before .before .before .before .before .before .before .before .before .before .before .before .before .one-tick .ensures) (c .before .before .before .before .before .before .before .before .before .before .before .before .before .before .fitting .ensures) (c .before .before .before .before .before .before .before .before .before .before .before .before .before .if1 .left) (state-rows _ _ _ _ _ _ (c .before .before .before .before .before .before .before .before .before .before .before .before .before .before .before .before .before .before .before .state-of .ensures)) (c .before .before .before .before .before .before .before .before .before .before .put-lent .ensures) (c .before .before .before .before .before .put-held .ensures) (c .put-scores .ensures))
 
 pub lictor-features-spec : {M : Type 1} → statement M
 lictor-features-spec =
@@ -66,7 +66,7 @@ lictor-features-spec =
     one-tick-requires
     fitting-requires
     returns
-    put-before-requires
+    put-lent-requires
     put-held-requires
     put-scores-requires
     returns-2)
