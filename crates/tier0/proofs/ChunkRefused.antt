@@ -59,14 +59,11 @@ module _ (f : Format) (c : FuseConfig) (t : Tables) (p aux rows : List Float) (k
   abbrev h : ℕ
   h = k .horizon
 
-  abbrev d : ℕ
-  d = k .dim
-
   abbrev broad : Bool
-  broad = not (eqb d (c .dim))
+  broad = not (eqb (k .dim) (c .dim))
 
   abbrev brief : ℕ → Bool
-  brief room = chunkTooShort (c .«pos_dim») (length p) (h * d) room
+  brief room = chunkTooShort (c .«pos_dim») (length p) (h * k .dim) room
 
   abbrev unfit : Bool
   unfit = someLentNotFinite (p ∷ aux ∷ rows ∷ [])
@@ -84,15 +81,15 @@ module _ (f : Format) (c : FuseConfig) (t : Tables) (p aux rows : List Float) (k
   pub before-is : (room : ℕ) {n s q i r : ℕ} → n ≡ refusal (configJudged f c t) → s ≡ refusal sizes → q ≡ refusal (lent room) → i ≡ orLater s q → r ≡ orLater n i → r ≡ refusal (before room)
   before-is room en es eq ei er = joined (configJudged f c t) (sizes ++ lent room) en (joined sizes (lent room) es eq ei) er
 
-  known-sizes : (room : ℕ) → c .dim ≤ 8 → Accepted k (length rows) → d ≡ c .dim → brief room ≡ false → Sized c p rows h room
+  known-sizes : (room : ℕ) → c .dim ≤ 8 → Accepted k (length rows) → k .dim ≡ c .dim → brief room ≡ false → Sized c p rows h room
   unfolding chunkTooShort
   known-sizes room narrow w ed g =
       let all-of : length rows ≡ h * c .dim = rw (← ed) (w .all-there) in
       let fits = accepted-fits w in
-      let room-for : h * c .dim ≤ room = rw (← ed) (ltb-false _ _ (neither (ltb (length p) (c .«pos_dim»)) (ltb room (h * d)) g .1)) in
+      let room-for : h * c .dim ≤ room = rw (← ed) (ltb-false _ _ (neither (ltb (length p) (c .«pos_dim»)) (ltb room (h * k .dim)) g .1)) in
       record {
         narrow = narrow;
-        pos = ltb-false _ _ (neither (ltb (length p) (c .«pos_dim»)) (ltb room (h * d)) g .0);
+        pos = ltb-false _ _ (neither (ltb (length p) (c .«pos_dim»)) (ltb room (h * k .dim)) g .0);
         some = w .some-rows;
         few = w .not-long;
         there = omega arith;
@@ -106,7 +103,7 @@ module _ (f : Format) (c : FuseConfig) (t : Tables) (p aux rows : List Float) (k
       let passed = both-pass sizes (lent room) (config .1) in
       let unfit-last = (notFinite when unfit) ∷ [] in
       let wide = passes-at width (broad) ((short when brief room) ∷ unfit-last) (passed .1) in
-      known-sizes room (dim-most f c t (accepted f c t (config .0))) (sizes-accepted k (length rows) (passed .0)) (eqb-true d (c .dim) (not-false (eqb d (c .dim)) (wide .0))) (passes-at short (brief room) unfit-last (wide .1) .0)
+      known-sizes room (dim-most f c t (accepted f c t (config .0))) (sizes-accepted k (length rows) (passed .0)) (eqb-true (k .dim) (c .dim) (not-false (eqb (k .dim) (c .dim)) (wide .0))) (passes-at short (brief room) unfit-last (wide .1) .0)
 
   abbrev ruling : Checked Judgement
   ruling = chunkRuling f c p aux rows h

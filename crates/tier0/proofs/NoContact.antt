@@ -156,12 +156,9 @@ module _ (f : Format) (c : FuseConfig) (t : Tables) (none : c .contact ≡ None)
   still-none = none
 
   module _ (p aux rows : List Float) (k : Header) where
-    abbrev h : ℕ
-    h = k .horizon
-
-    chunk-ruled : chunkRuling f (contactUnarmed c) p aux rows h ≡ chunkRuling f c p aux rows h
+    chunk-ruled : chunkRuling f (contactUnarmed c) p aux rows (k .horizon) ≡ chunkRuling f c p aux rows (k .horizon)
     unfolding chunkRuling
-    chunk-ruled = rw quiet-checks (same-chunk f (checksOf f c) p aux still-none rows (replicate 512 +0) h)
+    chunk-ruled = rw quiet-checks (same-chunk f (checksOf f c) p aux still-none rows (replicate 512 +0) (k .horizon))
 
     chunk-refused : (room : ℕ) → chunkRefusal f (contactUnarmed c) t p aux rows k room ≡ chunkRefusal f c t p aux rows k room
     unfolding chunkRefusal sizesOk numbersFrom stepsOk
