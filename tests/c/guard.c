@@ -157,6 +157,9 @@ static void nulls(void) {
     EXPECT(FORECAST(a.pos, AXES, a.vel, AXES, &lost, a.slacks, 64) == LICTOR_MISFIT);
     EXPECT(FORECAST(a.pos, AXES, a.vel, AXES, &chunk, NULL, 64) == LICTOR_MISFIT);
     EXPECT(FORECAST(NULL, 0, NULL, 0, &chunk, NULL, 0) == LICTOR_SHORT);
+    EXPECT(FORECAST(a.pos, AXES, a.vel, AXES, &chunk, NULL, 0) == LICTOR_SHORT);
+    EXPECT(lictor_guard_hold_action(&c, a.pos, AXES, NULL, 0) == LICTOR_SHORT);
+    EXPECT(lictor_lent(NULL) == LICTOR_NONE && lictor_lent(a.pos) == a.pos);
     EXPECT(lictor_guard_brake_action(&c, NULL, 1, a.vel, AXES, a.row, AXES) == LICTOR_MISFIT);
     EXPECT(lictor_guard_brake_action(&c, a.pos, AXES, NULL, 1, a.row, AXES) == LICTOR_MISFIT);
     EXPECT(lictor_guard_brake_action(&c, a.pos, AXES, a.vel, AXES, NULL, 1) == LICTOR_MISFIT);
@@ -202,6 +205,8 @@ static void widths(void) {
     GATE(LICTOR_SIZE);
     c = arm(), c.counts.terms[2] = wide + 1;
     GATE(LICTOR_ACCEPTED);
+    c = arm(), c.counts.n_terms = 8, c.counts.terms[7] = wide + 1;
+    GATE(LICTOR_SIZE);
     memset(&c, 0, sizeof c);
     GATE(LICTOR_NUMBER);
 #undef GATE

@@ -69,6 +69,8 @@ def draw(path, options):
     else:
         print('    there is no slack to draw')
     if '--svg' in options:
+        if os.path.exists(options['--svg']) and os.path.samefile(options['--svg'], path):
+            raise Trouble(f'{options["--svg"]}: this is the card itself: name another file for the picture')
         try:
             with open(options['--svg'], 'w', encoding='utf-8') as out:
                 out.write(svg.picture(path, course))

@@ -105,7 +105,10 @@ def chosen(belief, words):
     wrong, read = [], {}
     for word in words:
         name, sign, value = word.partition('=')
-        if not sign or name not in NAMES:
+        if not sign and name in NAMES:
+            default = next(s.default for s in SETTINGS if s.name == name)
+            wrong.append(f'tools/card: {name} needs a value: {name}={default}')
+        elif not sign or name not in NAMES:
             wrong.append(f'tools/card: there is no setting {text.shown(word)}{text.did_you_mean(name, NAMES)}: write name=value, and tools/card try lists them')
         else:
             typed[name] = value

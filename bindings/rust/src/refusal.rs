@@ -170,7 +170,7 @@ pub(crate) fn given<T>(number: u64, value: T) -> Answer<T> {
     given_at(number, 0, value)
 }
 
-/// .. with the place that came along.
+/// The value where the library's number is 0, else the refusal with its place.
 pub(crate) fn given_at<T>(number: u64, place: u64, value: T) -> Answer<T> {
     match number {
         0 => Ok(value),
@@ -184,10 +184,12 @@ mod tests {
 
     #[test]
     fn each_number_is_the_librarys_and_comes_back() {
-        for (refusal, number) in Refusal::ALL.into_iter().zip((1..=13).chain([255])) {
-            assert_eq!(refusal.number(), number);
-            assert_eq!(given(number.into(), ()), Err(refusal));
+        for refusal in Refusal::ALL {
+            assert_eq!(given(refusal.number().into(), ()), Err(refusal));
         }
+        let mut numbers = Refusal::ALL.map(|refusal| refusal.number());
+        numbers.sort_unstable();
+        assert!(numbers.windows(2).all(|pair| pair[0] < pair[1]) && numbers[0] == 1);
     }
 
     #[test]

@@ -1,11 +1,12 @@
 -- `conformal::term` meets its contract: the loop keeps the three folds of the features passed.
 use Prim.Native.Nat.{ℕ, _≤_, _-_}
 use mathlib.Core.Path.{_≡_, refl}
-use mathlib.Core.Bool.{false, not, _||_}
+use mathlib.Core.Bool.{Bool, false, not, _||_}
+use mathlib.Core.List.{List}
 use native.Mathlib.Omega.{arith}
 use borrow.Author.Needs.{needs}
-use lib.Ieee.{inf, ofBits, div}
-use Rattle.checked.specs.Each.{all, at}
+use lib.Ieee.{Float, inf, ofBits, div}
+use Rattle.checked.specs.Each.{all, some, at}
 use Rattle.checked.specs.Least.{lesser}
 use Rattle.checked.proofs.Each.{all-more, some-more}
 use Rattle.bits.specs.Bits.{bit}
@@ -14,15 +15,22 @@ use Rattle.conformal.proofs.Turns.{join-more}
 use Rattle.conformal.proofs.term.Statement.{statement}
 use Rattle.conformal.proofs.term.Tie as tie
 
+-- the first j features of a term are looked at
+record Looking (bits mask valid : ℕ) (z : List Float) (named every : Bool) (least : Float) (j : ℕ) : Type 0 where
+  along : j ≤ 12
+  some-so-far : named ≡ some (bit bits) j
+  every-so-far : every ≡ all (λ (k : ℕ). not (bit bits k) || live mask valid k) j
+  least-so-far : least ≡ leastWhere (bit bits) (at z) j
+
 abbrev Inv-loop : tie.InvT-loop
-Inv-loop bits mask valid z some₀ every₀ least₀ j₀ some every least j = (j ≤ 12) × ((some ≡ Rattle.checked.specs.Each.some (bit bits) j) × ((every ≡ all (λ (k : ℕ). not (bit bits k) || live mask valid k) j) × (least ≡ leastWhere (bit bits) (at z) j)))
+Inv-loop bits mask valid z some₀ every₀ least₀ j₀ named every least j = Looking bits mask valid z named every least j
 
 abbrev μ-loop : tie.MeasureT-loop
 μ-loop bits mask valid z some₀ every₀ least₀ j₀ some every least j = 12 - j
 
 loop-holds : tie.Need-loop-holds Inv-loop μ-loop
 unfolding all Rattle.checked.specs.Each.some joinWhere ofBits div
-loop-holds c = (search needs, (refl, (refl, refl)))
+loop-holds c = record { along = search needs; some-so-far = refl; every-so-far = refl; least-so-far = refl }
 
 bit-requires : tie.Need-bit-requires Inv-loop μ-loop
 bit-requires c κs = omega arith
@@ -52,23 +60,19 @@ loop-again : tie.Need-loop-again Inv-loop μ-loop
 loop-again c =
     let p = c .before .before .before .before in
     let l = p .before .before .loop .inv in
-    let a = p .before .before .before .args in (
-      omega arith,
-      (
-        some-more _ _ _ _ (l .1 .0) (p .bit .ensures),
-        (
-          all-more _ _ _ _ (l .1 .1 .0) (rw (p .bit .ensures, c .before .before .before .bit2 .ensures, c .before .before .bit3 .ensures)),
-          join-more lesser (inf false) (bit (a .bits)) (at (a .z .now)) _ _ _ _ _ (l .1 .1 .1) (p .bit .ensures) refl (c .lesser-where .ensures),
-        ),
-      ),
-    )
+    let a = p .before .before .before .args in record {
+      along = omega arith;
+      some-so-far = some-more _ _ _ _ (l .some-so-far) (p .bit .ensures);
+      every-so-far = all-more _ _ _ _ (l .every-so-far) (rw (p .bit .ensures, c .before .before .before .bit2 .ensures, c .before .before .bit3 .ensures));
+      least-so-far = join-more lesser (inf false) (bit (a .bits)) (at (a .z .now)) _ _ _ _ _ (l .least-so-far) (p .bit .ensures) refl (c .lesser-where .ensures);
+    }
 
 returns : tie.Need-returns Inv-loop μ-loop
 unfolding liveTerm leastOf
 returns c =
-    let l = c .before .loop .inv .1 in
+    let l = c .before .loop .inv in
     let e : c .before .loop .j ≡ 12 = omega arith in
-    rw (rw e at (l .0), rw e at (l .1 .0), rw e at (l .1 .1))
+    rw (rw e at (l .some-so-far), rw e at (l .every-so-far), rw e at (l .least-so-far))
 
 pub term-spec : {M : Type 1} → statement M
 term-spec =

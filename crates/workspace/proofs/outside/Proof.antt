@@ -1,21 +1,31 @@
 -- `workspace::outside` meets its contract: from the eighth axis and the last coordinate on none lies beyond, and the loop keeps the answer so far.
-use Prim.Native.Nat.{_-_, _≤_, min}
+use Prim.Native.Nat.{ℕ, _-_, _≤_, min}
 use mathlib.Core.Path.{_≡_, refl, ap, _∙_}
+use mathlib.Core.Bool.{Bool}
+use mathlib.Core.List.{List}
 use native.Mathlib.Omega.{arith}
 use borrow.Author.Needs.{needs}
 use denote.Ref.{now}
 use lib.ListN.{length}
-use lib.Ieee.{binary64}
+use lib.Ieee.{Float, binary64}
 use Rattle.checked.specs.Each.{some}
 use Rattle.checked.proofs.Each.{some-more}
+use Rattle.workspace.specs.declared.Workspace.{Workspace}
 use Rattle.workspace.specs.Rule.{beyond}
 use Rattle.workspace.specs.Of.{wallsOf}
 use Rattle.workspace.proofs.Gaps.{outside-is}
 use Rattle.workspace.proofs.outside.Statement.{statement}
 use Rattle.workspace.proofs.outside.Tie as tie
 
+-- the first j of m coordinates are looked at
+record Looking (a : List Float) (w : Workspace) (m : ℕ) (out : Bool) (j : ℕ) : Type 0 where
+  along : j ≤ m
+  there : m ≤ length a
+  narrow : m ≤ 8
+  so-far : out ≡ some (beyond (wallsOf w) a) j
+
 abbrev Inv-loop : tie.InvT-loop
-Inv-loop a n w m out₀ j₀ out j = (j ≤ m) × (m ≤ length a) × (m ≤ 8) × (out ≡ some (beyond (wallsOf w) a) j)
+Inv-loop a n w m out₀ j₀ out j = Looking a w m out j
 
 abbrev μ-loop : tie.MeasureT-loop
 μ-loop a n w m out₀ j₀ out j = m - j
@@ -28,7 +38,12 @@ fewer-requires-2 c κs = search needs
 
 loop-holds : tie.Need-loop-holds Inv-loop μ-loop
 unfolding some
-loop-holds c = (omega arith, omega (arith, c .fewer2 .ensures, c .before .fewer .ensures), omega (arith, c .fewer2 .ensures, c .before .fewer .ensures), refl)
+loop-holds c = record {
+  along = omega arith;
+  there = omega (arith, c .fewer2 .ensures, c .before .fewer .ensures);
+  narrow = omega (arith, c .fewer2 .ensures, c .before .fewer .ensures);
+  so-far = refl;
+}
 
 mul-out : tie.Need-mul-out Inv-loop μ-loop
 mul-out c = search needs
@@ -64,14 +79,14 @@ loop-again : tie.Need-loop-again Inv-loop μ-loop
 loop-again c =
     let l = c .before .before .before .before .before .loop in
     let s = c .before .before .before .before .before .before .before .before .before .args in
-    (omega arith, l .inv .1, l .inv .2, some-more (beyond (wallsOf (s .t1)) (now (s .a))) (l .j) _ _ (l .inv .3) refl)
+    record { along = omega arith; there = l .inv .there; narrow = l .inv .narrow; so-far = some-more (beyond (wallsOf (s .t1)) (now (s .a))) (l .j) _ _ (l .inv .so-far) refl }
 
 returns : tie.Need-returns Inv-loop μ-loop
 returns c =
     let l = c .before .loop in
     let s = c .before .before .before .before .before .args in
     let e : l .j ≡ min (s .n) (min (length (now (s .a))) 8) = omega (arith, c .before .before .fewer2 .ensures, c .before .before .before .fewer .ensures) in
-    outside-is binary64 (wallsOf (s .t1)) (now (s .a)) (s .n) (search needs) (search needs) (l .inv .3 ∙ ap (some (beyond (wallsOf (s .t1)) (now (s .a)))) e)
+    outside-is binary64 (wallsOf (s .t1)) (now (s .a)) (s .n) (search needs) (search needs) (l .inv .so-far ∙ ap (some (beyond (wallsOf (s .t1)) (now (s .a)))) e)
 
 pub outside-spec : {M : Type 1} → statement M
 outside-spec =
