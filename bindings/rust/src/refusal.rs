@@ -187,7 +187,7 @@ mod tests {
         for refusal in Refusal::ALL {
             assert_eq!(given(refusal.number().into(), ()), Err(refusal));
         }
-        let mut numbers = Refusal::ALL.map(|refusal| refusal.number());
+        let mut numbers = Refusal::ALL.map(Refusal::number);
         numbers.sort_unstable();
         assert!(numbers.windows(2).all(|pair| pair[0] < pair[1]) && numbers[0] == 1);
     }
