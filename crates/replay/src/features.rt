@@ -7,7 +7,6 @@ use crate::record::exact;
 use crate::record::header;
 use crate::record::part;
 use crate::record::rows_of;
-use crate::record::within;
 use chunk::ChunkBuf;
 use conformal::Scores;
 use sample::agrees;
@@ -16,7 +15,7 @@ use window::Trail;
 
 // A new trail after the record's samples.
 fn trail(w: &Words, x: &Numbers) -> Trail {
-    let n = within(w[57], 24) as u16;
+    let n = fmath::fewer(w[57] as usize, 24) as u16;
     let mut t = Trail::new();
     let mut i = 0;
     while i < n {

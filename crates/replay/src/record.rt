@@ -1,5 +1,4 @@
 // A record of the sample: its words, by their places in tests/oracle-sample/README.md, and the numbers that they stand for.
-ghost use Prim.Native.Nat.{_≤_};
 use chunk::Header;
 use layout::places::to_u16;
 use layout::places::to_u32;
@@ -28,18 +27,11 @@ pub(crate) fn record_of(b: &[u8; 4096]) -> Record {
     Record { words, numbers }
 }
 
-// A count, no more than there is room for.
-pub(crate) fn within(n: u64, room: usize) -> usize
-    ensures { λ r. ⌜ r ≤ room ⌝ }
-{
-    if n < room as u64 { n as usize } else { room }
-}
-
 // The n numbers from word at on, or as many as there are.
 pub(crate) fn part(x: &Numbers, at: u16, n: u64) -> &[f64] {
     let all = &x[..];
-    let from = within(at as u64, 358);
-    let end = from + within(n, 358 - from);
+    let from = fmath::fewer(at as usize, 358);
+    let end = from + fmath::fewer(n as usize, 358 - from);
     &all[from..end]
 }
 

@@ -4,7 +4,6 @@
 // of its bits. The slacks are those of `card::run`, whose contract says what they are. Of the lines only that they end and stay in
 // bounds is proved; their text is seen in the runs (tools/test-desk).
 ghost use mathlib.Core.Path.{_≡_};
-ghost use Prim.Native.Nat.{_≤_};
 ghost use lib.ListN.{length};
 use brake::BrakeOut;
 use libc::STDERR_FILENO;
@@ -39,16 +38,9 @@ fn put_slack(x: f64) -> bool {
     put(b" ") & io::print_hex(STDOUT_FILENO, words::pattern(x), 16)
 }
 
-// A count, no more than there is room for.
-fn within(n: u64, room: usize) -> usize
-    ensures { λ r. ⌜ r ≤ room ⌝ }
-{
-    if n < room as u64 { n as usize } else { room }
-}
-
 // The first slacks, until a write fails.
 fn put_slacks(slacks: &[f64], count: u64) -> bool {
-    let n = within(count, slacks.len());
+    let n = fmath::fewer(count as usize, slacks.len());
     let mut i = 0usize;
     while i < n {
         if !put_slack(slacks[i]) {

@@ -6,7 +6,6 @@
 // the sixteen hexadecimal digits of their bits. The answer is that of `tier0::check_action`, whose contract says what it is. Of the line
 // only that it ends and stays in bounds is proved; its text is seen in the runs (tools/test-desk).
 ghost use mathlib.Core.Path.{_≡_};
-ghost use Prim.Native.Nat.{_≤_};
 ghost use lib.ListN.{length};
 use envelope::FuseConfig;
 use fmath::put;
@@ -46,18 +45,11 @@ fn record_of(b: &[u8]) -> Record {
     Record { words, numbers }
 }
 
-// A count, no more than there is room for.
-fn within(n: u64, room: usize) -> usize
-    ensures { λ r. ⌜ r ≤ room ⌝ }
-{
-    if n < room as u64 { n as usize } else { room }
-}
-
 // The n numbers from word at on, or as many as there are.
 fn part(x: &Numbers, at: u16, n: u64) -> &[f64] {
     let all = &x[..];
-    let from = within(at as u64, 104);
-    let end = from + within(n, 104 - from);
+    let from = fmath::fewer(at as usize, 104);
+    let end = from + fmath::fewer(n as usize, 104 - from);
     &all[from..end]
 }
 

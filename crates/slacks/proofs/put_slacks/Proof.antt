@@ -10,8 +10,8 @@ Inv-loop slacks count n i₀ i = i ≤ n
 abbrev μ-loop : tie.MeasureT-loop
 μ-loop slacks count n i₀ i = n - i
 
-within-requires : tie.Need-within-requires Inv-loop μ-loop
-within-requires c κs = search needs
+fewer-requires : tie.Need-fewer-requires Inv-loop μ-loop
+fewer-requires c κs = search needs
 
 loop-holds : tie.Need-loop-holds Inv-loop μ-loop
 loop-holds c = search needs
@@ -46,7 +46,7 @@ put-slacks-spec =
     (tie.spec
     Inv-loop
     μ-loop
-    within-requires
+    fewer-requires
     loop-holds
     mul-put-slack
     shared-slice-read-put-slack

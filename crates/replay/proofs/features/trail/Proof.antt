@@ -10,11 +10,11 @@ Inv-loop w x n t₀ i₀ t i = (i ≤ n) × (n ≤ 24)
 abbrev μ-loop : tie.MeasureT-loop
 μ-loop w x n t₀ i₀ t i = n - i
 
-element-copy-out-within : tie.Need-element-copy-out-within Inv-loop μ-loop
-element-copy-out-within c = search needs
+element-copy-out-fewer : tie.Need-element-copy-out-fewer Inv-loop μ-loop
+element-copy-out-fewer c = search needs
 
-within-requires : tie.Need-within-requires Inv-loop μ-loop
-within-requires c κs = search needs
+fewer-requires : tie.Need-fewer-requires Inv-loop μ-loop
+fewer-requires c κs = search needs
 
 cast-n : tie.Need-cast-n Inv-loop μ-loop
 cast-n c = search needs
@@ -55,8 +55,8 @@ trail-spec =
     (tie.spec
     Inv-loop
     μ-loop
-    element-copy-out-within
-    within-requires
+    element-copy-out-fewer
+    fewer-requires
     cast-n
     new-requires
     loop-holds
