@@ -1,4 +1,6 @@
 pub mod Floor
+pub mod TwoSteps
+pub mod ComeDown
 pub mod Beside
 pub mod Near
 pub mod Whole

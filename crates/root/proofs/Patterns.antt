@@ -1,19 +1,16 @@
--- Bit patterns, at either format: the pattern of q * 2 ^ k smallest values is read as that number, and the patterns from the infinity's up have no root but the one of -0.
+-- Bit patterns, at either format: the pattern of q * 2 ^ k smallest values is read as that number, and the patterns of the numbers above zero lie between zero's and
+-- the infinity's.
 use mathlib.Core.Path.{_≡_, refl, sym, ap, _∙_, subst}
-use mathlib.Core.Logic.{_⊎_, inl, inr}
-use Prim.Native.Nat.{ℕ, zero, suc, _+_, _-_, _*_, _/_, _%_, _^_, _≤_, _<_}
-use native.Mathlib.Nat.{le-add-right, lt-of-not-le, le-trans, lt-of-lt-of-le, mod-eq-of-lt, mul-comm, suc-mul, eq-or-lt-of-le, mul-pos, zero-lt-suc, add-sub-of-le, lt-irrefl, le-of-lt, mod-le}
+use Prim.Native.Nat.{ℕ, zero, suc, _+_, _-_, _*_, _/_, _%_, _≤_, _<_}
+use native.Mathlib.Nat.{lt-of-not-le, le-trans, lt-of-lt-of-le, mod-eq-of-lt, mul-comm, suc-mul, zero-lt-suc, add-sub-of-le, lt-irrefl, le-of-lt, mod-le}
 use native.Mathlib.Decide.{decLe}
 use native.Mathlib.Omega.{arith}
-use mathlib.Core.Bool.{Bool, true, false, not, cond}
+use mathlib.Core.Bool.{Bool, true, false, not, cond, true≢false}
 use lib.Dec.{T, leb, ltb, eqb, le→leb, eqb→eq, ltb→lt, not-T}
 use lib.Arith.{digits-lt, digits-div, digits-mod, lt→nleb}
-use lib.Pow.{pow-pos}
-use lib.Ieee.{nan, inf, Format, binary32, binary64, prec, low, odd, hid, ones, top, ofFields, ofBits, nanBits}
-use lib.Ieee.Bits.{is-true, is-false, cond-no, nanBits-above}
-use lib.Ieee.Exact.{odd-sign}
-use Rattle.root.specs.Root.{rootOf}
-use Rattle.root.proofs.Rule.{rootOf-below}
+use lib.Ieee.{Float, nan, inf, fin, Format, binary32, binary64, prec, low, odd, hid, ones, top, fits, ofFields, ofBits, toBits, isNan, nanBits}
+use lib.Ieee.Positive.{positive}
+use lib.Ieee.Bits.{is-true, is-false, cond-no, nanBits-above, ofBits-toBits}
 
 ofBits-is : (f : Format) (b : ℕ) → ofBits f b ≡ ofFields f (leb (top f) b) (b % top f / hid f) (b % hid f)
 unfolding ofBits
@@ -74,63 +71,59 @@ no-nan f b h =
     subst (λ (t : Bool). T (not t)) (sym (nanBits-above f b))
     (not-T (ltb (ones f * hid f) (b % top f)) (λ u. lt-irrefl (ones f * hid f) (lt-of-lt-of-le (ltb→lt (ones f * hid f) (b % top f) u) (le-trans (mod-le b (top f)) (le-of-lt h)))))
 
--- ---- the patterns from the infinity's up: an infinity, a NaN, or a sign that is set
-neither : (f : Format) (s b : Bool) → rootOf f (cond b (inf s) nan) ≡ nan
-unfolding rootOf
-neither f s true = refl
-neither f s false = refl
+-- ---- the patterns of the numbers above zero lie between zero's and the infinity's
 
-at-top : (f : Format) (s : Bool) (t : ℕ) → rootOf f (ofFields f s (ones f) t) ≡ nan
+odd-below : (d q k l : ℕ) → positive (odd d true q k l) ≡ false
+unfolding odd
+odd-below d zero k l = refl
+odd-below d (suc q) k l = refl
+
+beyond : (b : Bool) (s : Bool) → positive (cond b (inf s) nan) ≡ false
+beyond true s = refl
+beyond false s = refl
+
+signed : (f : Format) (x t : ℕ) → positive (ofFields f true x t) ≡ false
 unfolding ofFields
-at-top binary32 s t = neither binary32 s (eqb t 0)
-at-top binary64 s t = neither binary64 s (eqb t 0)
-
-at-below : (f : Format) (x t : ℕ) → x ≤ ones f → (x ≡ 0 → 0 < t) → rootOf f (ofFields f true x t) ≡ nan
-at-below f zero t X h = ap (rootOf f) (at-zero f true t) ∙ rootOf-below f (odd (prec f) true t 0 (low f)) (t * 2 ^ 0) (2 ^ low f) (odd-sign (prec f) true t 0 (low f)) (mul-pos (h refl) (pow-pos 0))
-at-below f (suc x) t X h = go (eq-or-lt-of-le X)
+signed f zero t = odd-below (prec f) t 0 (low f)
+signed f (suc x) t = go (eqb (suc x) (ones f))
   where
-    go : (suc x ≡ ones f) ⊎ (suc x < ones f) → rootOf f (ofFields f true (suc x) t) ≡ nan
-    go (inl e) = ap (λ (y : ℕ). rootOf f (ofFields f true y t)) e ∙ at-top f true t
-    go (inr l) =
-        ap (rootOf f) (at-normal f true x t l)
-        ∙ rootOf-below f (odd (prec f) true (hid f + t) x (low f)) ((hid f + t) * 2 ^ x) (2 ^ low f) (odd-sign (prec f) true (hid f + t) x (low f)) (mul-pos (lt-of-lt-of-le (pow-pos (prec f - 1)) (le-add-right (hid f) t)) (pow-pos x))
+    go : (b : Bool) → positive (cond b (cond (eqb t 0) (inf true) nan) (odd (prec f) true (hid f + t) x (low f))) ≡ false
+    go true = beyond (eqb t 0) true
+    go false = odd-below (prec f) (hid f + t) x (low f)
 
-field-le : (f : Format) (b : ℕ) → b % top f / hid f ≤ ones f
-field-le binary32 b = omega arith
-field-le binary64 b = omega arith
-
-some-digit : (f : Format) (b : ℕ) → top f ≤ b → b < 2 * top f → (b ≡ top f → ⊥) → b % top f / hid f ≡ 0 → 0 < b % hid f
-some-digit binary32 b l h n e = omega arith
-some-digit binary64 b l h n e = omega arith
+at-top : (f : Format) (s : Bool) (t : ℕ) → positive (ofFields f s (ones f) t) ≡ false
+unfolding ofFields
+at-top binary32 s t = beyond (eqb t 0) s
+at-top binary64 s t = beyond (eqb t 0) s
 
 field-ones : (f : Format) (b : ℕ) → ones f * hid f ≤ b → b < top f → b % top f / hid f ≡ ones f
 field-ones binary32 b l h = omega arith
 field-ones binary64 b l h = omega arith
 
-pub refused : (f : Format) (b : ℕ) → ones f * hid f ≤ b → b < 2 * top f → (b ≡ top f → ⊥) → rootOf f (ofBits f b) ≡ nan
-refused f b l h n = ap (rootOf f) (ofBits-is f b) ∙ go (decLe (top f) b)
+from-infinity : (f : Format) (b : ℕ) → ones f * hid f ≤ b → positive (ofBits f b) ≡ false
+from-infinity f b l = ap positive (ofBits-is f b) ∙ go (decLe (top f) b)
   where
-    x : ℕ
-    x = b % top f / hid f
+    go : Dec (top f ≤ b) → positive (ofFields f (leb (top f) b) (b % top f / hid f) (b % hid f)) ≡ false
+    go (yes g) = ap (λ (s : Bool). positive (ofFields f s (b % top f / hid f) (b % hid f))) (is-true (leb (top f) b) (le→leb (top f) b g)) ∙ signed f (b % top f / hid f) (b % hid f)
+    go (no g) = ap (λ (y : ℕ). positive (ofFields f (leb (top f) b) y (b % hid f))) (field-ones f b l (lt-of-not-le g)) ∙ at-top f (leb (top f) b) (b % hid f)
 
-    t : ℕ
-    t = b % hid f
+at-nought : (f : Format) → positive (ofBits f 0) ≡ false
+unfolding ofBits
+at-nought binary32 = refl
+at-nought binary64 = refl
 
-    go : Dec (top f ≤ b) → rootOf f (ofFields f (leb (top f) b) x t) ≡ nan
-    go (yes g) = ap (λ (s : Bool). rootOf f (ofFields f s x t)) (is-true (leb (top f) b) (le→leb (top f) b g)) ∙ at-below f x t (field-le f b) (some-digit f b g h n)
-    go (no g) = ap (λ (y : ℕ). rootOf f (ofFields f (leb (top f) b) y t)) (field-ones f b l (lt-of-not-le g)) ∙ at-top f (leb (top f) b) t
+pub between : (f : Format) (x : Float) → T (fits f x) → T (positive x) → (0 < toBits f x) × (toBits f x < ones f * hid f)
+between f x h p = (some (toBits f x) (λ e. differ (ap (ofBits f) e) (at-nought f)), lt-of-not-le (λ g. differ refl (from-infinity f (toBits f x) g)))
+  where
+    some : (b : ℕ) → (b ≡ 0 → ⊥) → 0 < b
+    some zero n = absurd (n refl)
+    some (suc b) n = zero-lt-suc b
 
--- ---- the two zeros
-plus-zero : (f : Format) → rootOf f (ofBits f 0) ≡ ofBits f 0
-unfolding rootOf ofBits
-plus-zero binary32 = refl
-plus-zero binary64 = refl
+    differ : {y : Float} → ofBits f (toBits f x) ≡ y → positive y ≡ false → ⊥
+    differ e n = true≢false (sym (is-true (positive x) p) ∙ ap positive (sym (ofBits-toBits f x h) ∙ e) ∙ n)
 
-minus-zero : (f : Format) → rootOf f (ofBits f (top f)) ≡ ofBits f (top f)
-unfolding rootOf ofBits
-minus-zero binary32 = refl
-minus-zero binary64 = refl
-
-pub zero-root : (f : Format) (b : ℕ) → (b ≡ 0) ⊎ (b ≡ top f) → rootOf f (ofBits f b) ≡ ofBits f b
-zero-root f b (inl e) = subst (λ (y : ℕ). rootOf f (ofBits f y) ≡ ofBits f y) (sym e) (plus-zero f)
-zero-root f b (inr e) = subst (λ (y : ℕ). rootOf f (ofBits f y) ≡ ofBits f y) (sym e) (minus-zero f)
+pub not-nan : (x : Float) → T (positive x) → T (not (isNan x))
+unfolding isNan
+not-nan nan p = absurd p
+not-nan (inf s) p = absurd p
+not-nan (fin s m e) p = tt

@@ -7,7 +7,7 @@ use native.Mathlib.Decide.{decLe}
 use native.Mathlib.Omega.{arith}
 use borrow.Author.Tests.{le-leb, lt-leb}
 use lib.Count.{trailingZeros}
-use mathlib.Core.Bool.{Bool, true, false, _&&_, true≢false, false≢true}
+use mathlib.Core.Bool.{Bool, true, false, _&&_, true≢false}
 use lib.IntN.{ℤ, pos, negsuc, subℕ, _*ℤ_}
 use lib.Dec.{T, leb, ltb, eqb, lit≤, lit<, ltb→lt, leb→le}
 use lib.Pow.{pow-add, pow-pos, pow-lt}
@@ -122,15 +122,6 @@ rootOf-val f (fin false (suc m) e) a w h p =
     ∙ placed-root f m (j .0) (b .0)
     ∙ ap (rootUnits (prec f) (low f))
     (ap (λ (y : ℕ). suc m * y) (pow-add 2 (j .0) (low f)) ∙ sym (mul-assoc (suc m) (2 ^ (j .0)) (2 ^ low f)) ∙ ap (λ (y : ℕ). y * 2 ^ low f) v)
-
--- a number below zero has none
-pub rootOf-below : (f : Format) (x : Float) (a c : ℕ) → HasValue x true a c → 0 < a → rootOf f x ≡ nan
-unfolding rootOf
-rootOf-below f nan a c h p = refl
-rootOf-below f (inf s) a c h p = refl
-rootOf-below f (fin s zero e) a c h p = absurd (lt-irrefl 0 (subst (λ (y : ℕ). 0 < y) (sym (h .1) ∙ ap (λ (y : ℕ). y * c) (zero-mul (up e)) ∙ zero-mul c) (mul-pos p (down-pos e))))
-rootOf-below f (fin true (suc m) e) a c h p = refl
-rootOf-below f (fin false (suc m) e) a c h p = absurd (false≢true (h .0))
 
 -- ---- q * 2 ^ k units of the smallest value, with q of no more digits than the format keeps
 module _ (f : Format) (q k : ℕ) (Q : 0 < q) (B : q < 2 ^ prec f) where

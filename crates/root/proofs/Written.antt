@@ -1,21 +1,25 @@
 -- From bits to bits, at either format: the parts of the root, put together as a pattern, are the pattern of the root.
 use mathlib.Core.Path.{_≡_, refl, sym, ap, _∙_, subst}
 use Prim.Native.Nat.{ℕ, zero, suc, _+_, _-_, _*_, _/_, _%_, _^_, _≤_, _<_}
-use native.Mathlib.Nat.{lt-of-lt-of-le, mul-le-mul-right, suc-mul}
+use native.Mathlib.Nat.{lt-of-lt-of-le, lt-of-le-of-lt, mul-le-mul-right, suc-mul}
 use native.Mathlib.Omega.{arith}
 use mathlib.Core.Bool.{Bool, true, false}
 use lib.Dec.{eqb}
-use lib.IntN.{pos, subℕ, _+ℤ_}
+use lib.IntN.{ℤ, pos, natAbs, subℕ, _+ℤ_}
 use borrow.Author.Tests.{eqb-true, eqb-false}
-use lib.Dec.{T, lit≤}
+use lib.Dec.{T, lit≤, lit<}
+use lib.Signed.{mag}
+use mir.Syntax.{w64}
+use mir.Val.{toZ, ofZ}
 use lib.Ieee.{fits}
 use lib.Ieee.{Float, Format, binary32, binary64, prec, low, size, hid, ones, ofBits}
+use lib.Ieee.Bits.{ofBits-fits}
 use lib.Ieee.Digits.{size-le}
 use lib.Ieee.Exact.{HasValue, odd-sign}
-use Rattle.root.specs.declared.Parts.{Parts}
-use Rattle.root.specs.Root.{nearRoot, rootOf}
-use Rattle.root.specs.Of.{Ranged, rootParts, unpacked, Written}
-use Rattle.root.proofs.Whole.{sub-pos, plus-nat}
+use Rattle.root.specs.declared.rounds.Parts.{Parts}
+use Rattle.root.specs.Root.{nearRoot, rootExponent, scaled, rootOf}
+use Rattle.root.specs.Of.{Packable, packed, Ranged, Scaled, unpacked, Written}
+use Rattle.root.proofs.Whole.{sub-pos, sub-mag, plus-nat, read-back}
 use Rattle.root.proofs.Units.{pairs, kept, pairs-is, exponent-is, scaled-is}
 use Rattle.root.proofs.Rule.{prec-pos, wide, root-ge, root-lt, root-is}
 use Rattle.root.proofs.Patterns.{subnormal, normal}
@@ -49,8 +53,12 @@ module _ (f : Format) (q k : ℕ) (Q : 0 < q) (B : q < 2 ^ prec f) where
   abbrev pub weight : ℕ
   weight = pairs (prec f) (q * 2 ^ (k + low f))
 
-  pub parts-are : rootParts (prec f) (placed f q k) ≡ placed f (nearRoot (prec f) whole) weight
-  parts-are = let s = size-le q (prec f) B in rw (exponent-is (prec f) q k (low f) Q s (prec-pos f) (wide f), scaled-is (prec f) q k (low f) Q s (prec-pos f) (wide f))
+  -- the root's exponent
+  pub exponent-at : rootExponent (prec f) q (subℕ k (low f)) ≡ subℕ weight (low f)
+  exponent-at = exponent-is (prec f) q k (low f) Q (size-le q (prec f) B) (prec-pos f) (wide f)
+
+  pub whole-at : scaled (prec f) q (subℕ k (low f)) ≡ whole
+  whole-at = scaled-is (prec f) q k (low f) Q (size-le q (prec f) B) (prec-pos f) (wide f)
 
   -- the root's exponent is in the middle of the range
   pub weight-small : suc k < ones f → suc weight < ones f
@@ -157,3 +165,44 @@ ranged f q k Q B K =
 
 pub bias-back : (i l : ℕ) → subℕ i l +ℤ pos l ≡ pos i
 bias-back i l = plus-nat i l l ∙ sub-pos (i + l) l (omega arith) ∙ ap pos (omega arith)
+
+-- ---- from bits to bits at binary64
+
+-- what `root_bits` hands on to be put together for the number with the pattern b, where X is scaled in x and r is its root: an exponent that is read back from its bits,
+-- and parts that make the root's pattern
+pub record Handed (b : ℕ) (x : Parts) (r : ℕ) : Type 0 where
+  pub back : toZ w64 (ofZ w64 (x .exponent)) ≡ x .exponent
+  pub packable : Packable r (x .exponent)
+  pub written : Written binary64 (packed r (x .exponent)) (rootOf binary64 (ofBits binary64 b))
+
+module _ (b : ℕ) (p : 0 < b) (l : b < ones binary64 * hid binary64) where
+  u : Unpacked binary64 b
+  u = unpack binary64 b p l
+
+  pub apart-ranged : Ranged (unpacked binary64 b) 53
+  apart-ranged = subst (λ (y : Parts). Ranged y 53) (sym (u .is)) (ranged binary64 (u .q) (u .k) (u .some) (u .few) (u .middle))
+
+  pub handed : (x : Parts) → Scaled 53 (unpacked binary64 b) x → (r : ℕ) → r ≡ nearRoot 53 (x .digits * 4 ^ 53 / 2 ^ 64) → Handed b x r
+  handed x s r e =
+      record {
+        back = read-back (x .exponent) (subst (λ (z : ℤ). mag z < 2 ^ 63) (sym exponent-w) (lt-of-le-of-lt (sub-mag w 1074 4096 (omega (arith, w-small)) (omega arith)) (lit< tt)));
+        packable = record { weight = w; is = exponent-w; small = omega (arith, pattern .1) };
+        written = subst (λ (y : ℕ). Written binary64 (y * 2 ^ 52 + r) (rootOf binary64 (ofBits binary64 b))) (sym (ap (λ (z : ℤ). natAbs (z +ℤ pos 1074)) exponent-w ∙ ap natAbs (bias-back w 1074))) pattern;
+      }
+    where
+      w : ℕ
+      w = weight binary64 (u .q) (u .k) (u .some) (u .few)
+
+      w-small : suc w < ones binary64
+      w-small = weight-small binary64 (u .q) (u .k) (u .some) (u .few) (u .middle)
+
+      exponent-w : x .exponent ≡ subℕ w 1074
+      exponent-w = s .exponent ∙ ap (λ (y : Parts). rootExponent 53 (y .digits) (y .exponent)) (u .is) ∙ exponent-at binary64 (u .q) (u .k) (u .some) (u .few)
+
+      root-w : r ≡ nearRoot 53 (whole binary64 (u .q) (u .k) (u .some) (u .few))
+      root-w = e ∙ ap (nearRoot 53) (s .whole ∙ ap (λ (y : Parts). scaled 53 (y .digits) (y .exponent)) (u .is) ∙ whole-at binary64 (u .q) (u .k) (u .some) (u .few))
+
+      pattern : Written binary64 (w * 2 ^ 52 + r) (rootOf binary64 (ofBits binary64 b))
+      pattern =
+          subst (λ (y : ℕ). Written binary64 (w * 2 ^ 52 + y) (rootOf binary64 (ofBits binary64 b))) (sym root-w)
+          (put-together binary64 (u .q) (u .k) (u .some) (u .few) (ofBits binary64 b) (u .middle) (ofBits-fits binary64 b) (u .value))

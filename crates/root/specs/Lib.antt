@@ -1,5 +1,6 @@
 pub mod Root
 pub mod Rule
+pub mod Round
 pub mod Of
 pub mod Worked
 pub mod Promises

@@ -3,17 +3,10 @@ use Prim.Native.Nat.{ℕ, _+_, _-_, _*_, _/_, _%_, _^_, _≤_, _<_}
 use mathlib.Core.Path.{_≡_}
 use mathlib.Core.Bool.{cond}
 use lib.Dec.{eqb}
-use lib.IntN.{subℕ}
+use lib.IntN.{ℤ, pos, natAbs, subℕ, _+ℤ_}
 use lib.Ieee.{Float, Format, low, hid, ones, ofBits}
-use Rattle.root.specs.declared.Parts.{Parts}
-use Rattle.root.specs.declared.Rooted.{Rooted}
-use Rattle.root.specs.Root.{nearRoot, rootExponent, scaled}
-
--- the whole part of the root of x, or the number before it, with what is left beside its square; the nearest is then that number or the next
-pub record Beside (x : ℕ) (r : Rooted) : Type 0 where
-  pub whole : r .root * r .root + r .rest ≡ x
-  pub little : r .rest ≤ 3 * r .root + 2
-  pub small : r .root < 2 ^ 60
+use Rattle.root.specs.declared.rounds.Parts.{Parts}
+use Rattle.root.specs.Root.{rootExponent, scaled}
 
 -- what the root to p digits takes: 1 to p digits, and an exponent k - l with room for the digits of the scaled number below it
 pub record Ranged (x : Parts) (p : ℕ) : Type 0 where
@@ -28,15 +21,26 @@ pub record Ranged (x : Parts) (p : ℕ) : Type 0 where
   pub below : l ≤ 4096
   pub room : 2 * p ≤ l + 2
 
--- the root of a number in parts, in parts
-abbrev pub rootParts : ℕ → Parts → Parts
-rootParts p x = record { digits = nearRoot p (scaled p (x .digits) (x .exponent)); exponent = rootExponent p (x .digits) (x .exponent) }
+-- r is x scaled for a root to p digits: the 2p - 1 or 2p digits of X stand at the top of 64, and the exponent is the root's
+pub record Scaled (p : ℕ) (x r : Parts) : Type 0 where
+  pub whole : r .digits * 4 ^ p / 2 ^ 64 ≡ scaled p (x .digits) (x .exponent)
+  pub exponent : r .exponent ≡ rootExponent p (x .digits) (x .exponent)
 
 -- the digits and the exponent that a pattern below the infinity's stands for; a field of 0 has no leading digit
 abbrev pub unpacked : Format → ℕ → Parts
 unpacked f b =
     cond (eqb (b / hid f) 0) (record { digits = b; exponent = subℕ 0 (low f) })
     (record { digits = b % hid f + hid f; exponent = subℕ (b / hid f - 1) (low f) })
+
+-- digits with a leading one, and an exponent that is a normal number's: weight - 1074
+pub record Packable (digits : ℕ) (exponent : ℤ) : Type 0 where
+  pub weight : ℕ
+  pub is : exponent ≡ subℕ weight 1074
+  pub small : weight * 2 ^ 52 + digits < 2 ^ 64
+
+-- the pattern of digits * 2 ^ exponent: the leading digit adds one to the field
+abbrev pub packed : ℕ → ℤ → ℕ
+packed digits exponent = natAbs (exponent +ℤ pos 1074) * 2 ^ 52 + digits
 
 -- r is the pattern of x, a finite number not below zero
 abbrev pub Written : Format → ℕ → Float → Type 0

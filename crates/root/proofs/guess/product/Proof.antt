@@ -1,10 +1,10 @@
--- `root::product` meets its contract: two numbers below 2 ^ 32 have a product below 2 ^ 64.
+-- `root::guess::product` meets its contract: two numbers below 2 ^ 32 have a product below 2 ^ 64.
 use Prim.Native.Nat.{ℕ, _-_, _*_, _^_, _≤_, _<_}
 use native.Mathlib.Nat.{mul-le-mul}
 use native.Mathlib.Omega.{arith}
 use borrow.Author.Needs.{needs}
-use Rattle.root.proofs.product.Statement.{statement}
-use Rattle.root.proofs.product.Tie as tie
+use Rattle.root.proofs.guess.product.Statement.{statement}
+use Rattle.root.proofs.guess.product.Tie as tie
 
 small : (a b : ℕ) → a < 2 ^ 32 → b < 2 ^ 32 → a * b < 2 ^ 64
 small a b h g =

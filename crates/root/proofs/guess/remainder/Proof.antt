@@ -1,9 +1,9 @@
--- `root::remainder` meets its contract: no difference wraps where the next test lets it pass.
+-- `root::guess::remainder` meets its contract: no difference wraps where the next test lets it pass.
 use native.Mathlib.Omega.{arith}
 use borrow.Author.Needs.{needs}
 use Rattle.root.proofs.Beside.{beside}
-use Rattle.root.proofs.remainder.Statement.{statement}
-use Rattle.root.proofs.remainder.Tie as tie
+use Rattle.root.proofs.guess.remainder.Statement.{statement}
+use Rattle.root.proofs.guess.remainder.Tie as tie
 
 product-requires : tie.Need-product-requires
 product-requires c κs = search needs

@@ -1,0 +1,57 @@
+-- `root::rounds::put_together` meets its contract: the exponent with its bias is a natural number.
+use Prim.Native.Nat.{ℕ, _+_, _*_, _^_, _<_}
+use native.Mathlib.Nat.{lt-of-le-of-lt}
+use native.Mathlib.Omega.{arith}
+use mathlib.Core.Path.{_≡_, sym, ap, _∙_, subst}
+use lib.Dec.{T, lit<}
+use lib.IntN.{ℤ, pos, natAbs, _+ℤ_}
+use lib.Signed.{mag, nonNeg}
+use mir.Syntax.{w64}
+use mir.Val.{toZ, ofZ}
+use Rattle.root.proofs.Whole.{sub-mag, read-back, cast-up}
+use Rattle.root.proofs.Written.{bias-back}
+use Rattle.root.proofs.rounds.put_together.Statement.{statement}
+use Rattle.root.proofs.rounds.put_together.Tie as tie
+
+module _ (s : tie.Start) where
+  weight-small : s .pre .weight < 2 ^ 12
+  weight-small = omega (arith, s .pre .small)
+
+  back : toZ w64 (ofZ w64 (s .args .exponent)) ≡ s .args .exponent
+  back =
+      read-back (s .args .exponent)
+      (subst (λ (z : ℤ). mag z < 2 ^ 63) (sym (s .pre .is)) (lt-of-le-of-lt (sub-mag (s .pre .weight) 1074 4096 (omega (arith, weight-small)) (omega arith)) (lit< tt)))
+
+  -- the exponent with its bias
+  abbrev biased : ℤ
+  biased = toZ w64 (ofZ w64 (s .args .exponent)) +ℤ pos 1074
+
+  biased-is : biased ≡ pos (s .pre .weight)
+  biased-is = ap (λ (z : ℤ). z +ℤ pos 1074) (back ∙ s .pre .is) ∙ bias-back (s .pre .weight) 1074
+
+  small : mag biased < 2 ^ 63
+  small = subst (λ (z : ℤ). mag z < 2 ^ 63) (sym biased-is) (omega (arith, weight-small))
+
+  natural : natAbs (toZ w64 (ofZ w64 biased)) ≡ natAbs (s .args .exponent +ℤ pos 1074)
+  natural = ap natAbs (read-back biased small ∙ ap (λ (z : ℤ). z +ℤ pos 1074) back)
+
+  is-weight : natAbs (toZ w64 (ofZ w64 biased)) ≡ s .pre .weight
+  is-weight = ap natAbs (read-back biased small ∙ biased-is)
+
+add-result : tie.Need-add-result
+add-result c = record { sfits = small c }
+
+cast-result : tie.Need-cast-result
+cast-result c = cast-up (biased c) (small c) (subst (λ (z : ℤ). T (nonNeg z)) (sym (biased-is c)) tt) .0
+
+mul-result : tie.Need-mul-result
+mul-result c = omega (arith, is-weight c, c .pre .small)
+
+add-result-2 : tie.Need-add-result-2
+add-result-2 c = omega (arith, is-weight c, c .pre .small)
+
+returns : tie.Need-returns
+returns c = ap (λ (n : ℕ). n * 2 ^ 52 + c .args .digits) (natural c)
+
+pub put-together-spec : {M : Type 1} → statement M
+put-together-spec = tie.close (tie.spec add-result cast-result mul-result add-result-2 returns)

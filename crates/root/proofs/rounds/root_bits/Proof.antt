@@ -1,0 +1,38 @@
+-- `root::rounds::root_bits` meets its contract: each step hands on what the next one takes, and the parts of the root, put together, are its pattern (`Written`).
+use mathlib.Core.Path.{sym, ap, _∙_, subst}
+use Prim.Native.Nat.{ℕ}
+use borrow.Author.Needs.{needs}
+use lib.Ieee.{binary64, ofBits}
+use Rattle.root.specs.declared.rounds.Parts.{Parts}
+use Rattle.root.specs.Root.{rootOf}
+use Rattle.root.specs.Of.{packed, Packable, Ranged, Scaled, Written}
+use Rattle.root.proofs.Written.{apart-ranged, Handed, handed}
+use Rattle.root.proofs.rounds.root_bits.Statement.{statement}
+use Rattle.root.proofs.rounds.root_bits.Tie as tie
+
+take-apart-requires : tie.Need-take-apart-requires
+take-apart-requires c κs = search needs
+
+scale-requires : tie.Need-scale-requires
+scale-requires c κs = let s = c .before in subst (λ (x : Parts). Ranged x 53) (sym (c .take-apart .ensures)) (apart-ranged (s .args .bits) (s .pre .0) (s .pre .1))
+
+rounds-requires : tie.Need-rounds-requires
+rounds-requires c κs = search needs
+
+parts : (c : tie.After-rounds) → Handed (c .before .before .before .args .bits) (c .before .scale .result) (c .rounds .result)
+parts c =
+    let s = c .before .before .before in
+    let x = c .before .scale in
+    handed (s .args .bits) (s .pre .0) (s .pre .1) (x .result) (subst (λ (y : Parts). Scaled 53 y (x .result)) (c .before .before .take-apart .ensures) (x .ensures)) (c .rounds .result) (c .rounds .ensures)
+
+put-together-requires : tie.Need-put-together-requires
+put-together-requires c κs = let h = parts (c .before) in subst (Packable (c .before .rounds .result)) (sym (h .back)) (h .packable)
+
+returns : tie.Need-returns
+returns c =
+    let a = c .before .before in
+    let h = parts a in
+    subst (λ (n : ℕ). Written binary64 n (rootOf binary64 (ofBits binary64 (a .before .before .before .args .bits)))) (sym (c .put-together .ensures ∙ ap (packed (a .rounds .result)) (h .back))) (h .written)
+
+pub root-bits-spec : {M : Type 1} → statement M
+root-bits-spec = tie.close (tie.spec take-apart-requires scale-requires rounds-requires put-together-requires returns)

@@ -1,0 +1,103 @@
+-- `root::rounds::scale` meets its contract, by the laws of `Parted`: each signed number is small, and the shift leaves room for the digits.
+use Prim.Native.Nat.{ℕ, _+_, _-_, _*_, _^_, _≤_, _<_}
+use native.Mathlib.Omega.{arith}
+use mathlib.Core.Path.{_≡_, sym, ap, subst}
+use borrow.Author.Needs.{needs}
+use lib.Dec.{T}
+use lib.IntN.{ℤ, natAbs}
+use lib.Signed.{mag, nonNeg}
+use mir.Syntax.{w64}
+use mir.Val.{toZ, ofZ}
+use Rattle.root.proofs.Units.{size-pos}
+use Rattle.root.proofs.Whole.{cast-up, returned}
+use Rattle.root.proofs.Parted.{few-digits, count-leading, left-over, digits-are, raised-small, lowered-small, halved-is, doubled-small, excess, excess-is}
+use Rattle.root.proofs.rounds.scale.Statement.{statement}
+use Rattle.root.proofs.rounds.scale.Tie as tie
+
+-- the shift before the digits are moved to the top
+abbrev j : tie.Start → ℕ
+j s = left-over (s .args .x) (s .args .p) (s .pre) .j
+
+room : (s : tie.Start) → (2 * s .args .p ≤ j s + 64) × (j s + 64 - 2 * s .args .p < 64) × (j s ≤ 120)
+room s =
+    let l = left-over (s .args .x) (s .args .p) (s .pre) in
+    let some = size-pos (s .args .x .digits) (s .pre .some) in
+    let few = few-digits (s .args .x) (s .args .p) (s .pre) in
+    omega (arith, l .least, l .most, s .pre .short)
+
+excess-small : (s : tie.Start) → mag (excess (s .args .x) (s .args .p) (s .pre)) < 2 ^ 63
+excess-small s = subst (λ (z : ℤ). mag z < 2 ^ 63) (sym (excess-is (s .args .x) (s .args .p) (s .pre))) (omega (arith, room s .2))
+
+is-j : (s : tie.Start) → natAbs (toZ w64 (ofZ w64 (excess (s .args .x) (s .args .p) (s .pre)))) ≡ j s
+is-j s = ap natAbs (returned _ _ (excess-is (s .args .x) (s .args .p) (s .pre)) (omega (arith, room s .2)))
+
+cast-size : tie.Need-cast-size
+cast-size c = let s = c .before in omega (arith, count-leading (s .args .x) (s .args .p) (s .pre))
+
+sub-size : tie.Need-sub-size
+sub-size c = let s = c .before in omega (arith, count-leading (s .args .x) (s .args .p) (s .pre))
+
+add-half : tie.Need-add-half
+add-half c = search needs
+
+cast-half : tie.Need-cast-half
+cast-half c = search needs
+
+add-half-2 : tie.Need-add-half-2
+add-half-2 c = let s = c .before .before .before in record { sfits = omega (arith, raised-small (s .args .x) (s .args .p) (s .pre)) }
+
+mul-half : tie.Need-mul-half
+mul-half c = let s = c .before .before .before in omega (arith, s .pre .short)
+
+cast-half-2 : tie.Need-cast-half-2
+cast-half-2 c = let s = c .before .before .before in record { sfits = omega (arith, s .pre .short) }
+
+sub-half : tie.Need-sub-half
+sub-half c = let s = c .before .before .before in record { sfits = omega (arith, lowered-small (s .args .x) (s .args .p) (s .pre)) }
+
+mul-t7 : tie.Need-mul-t7
+mul-t7 c = let s = c .before .before .before in record { sfits = omega (arith, doubled-small (s .args .x) (s .args .p) (s .pre)) }
+
+sub-t11 : tie.Need-sub-t11
+sub-t11 c = let s = c .before .before .before .before .before in record { sfits = excess-small s }
+
+cast-t6 : tie.Need-cast-t6
+cast-t6 c = let s = c .before .before .before .before .before in cast-up (excess (s .args .x) (s .args .p) (s .pre)) (excess-small s) (subst (λ (z : ℤ). T (nonNeg z)) (sym (excess-is (s .args .x) (s .args .p) (s .pre))) tt) .0
+
+add-t9 : tie.Need-add-t9
+add-t9 c = let s = c .before .before .before .before .before in omega (arith, is-j s, room s .2)
+
+mul-t12 : tie.Need-mul-t12
+mul-t12 c = search needs
+
+sub-t13 : tie.Need-sub-t13
+sub-t13 c = let s = c .before .before .before .before .before in omega (arith, is-j s, room s .0)
+
+shl-t14 : tie.Need-shl-t14
+shl-t14 c = let s = c .before .before .before .before .before .before in omega (arith, is-j s, room s .1)
+
+returns : tie.Need-returns
+returns c =
+    let s = c .before .before .before .before .before .before in
+    record { whole = rw (is-j s) (digits-are (s .args .x) (s .args .p) (s .pre)); exponent = halved-is (s .args .x) (s .args .p) (s .pre) }
+
+pub scale-spec : {M : Type 1} → statement M
+scale-spec =
+    tie.close
+    (tie.spec
+    cast-size
+    sub-size
+    add-half
+    cast-half
+    add-half-2
+    mul-half
+    cast-half-2
+    sub-half
+    mul-t7
+    sub-t11
+    cast-t6
+    add-t9
+    mul-t12
+    sub-t13
+    shl-t14
+    returns)

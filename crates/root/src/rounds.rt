@@ -1,0 +1,85 @@
+// The root that a trainee steps through, from the bits of a number to the bits of its root: take apart, scale, rounds, round to nearest, put together.
+ghost use mathlib.Core.Path.{_≡_};
+ghost use mathlib.Core.Bool.{cond};
+ghost use Prim.Native.Nat.{_+_, _*_, _/_, _^_, _≤_, _<_};
+ghost use lib.Dec.{ltb};
+ghost use lib.Ieee.{binary64, ofBits};
+ghost use Rattle.root.specs.Root.{nearRoot, rootOf};
+ghost use Rattle.root.specs.Of.{packed, Packable, Ranged, Scaled, unpacked, Written};
+
+// The number digits * 2^exponent; the exponent is unbiased, and as low as -1074 where a number is read.
+pub(crate) struct Parts {
+    pub(crate) digits: u64,
+    pub(crate) exponent: i64,
+}
+
+// The parts of a finite number above zero, from its bits. A normal number has a leading digit that is not written.
+pub(crate) fn take_apart(bits: u64) -> Parts
+    requires { ⌜ bits < 0x7ff0_0000_0000_0000 ⌝ }
+    ensures { λ r. ⌜ r ≡ unpacked binary64 bits ⌝ }
+{
+    let normal = (0x10_0000_0000_0000 <= bits) as u64;
+    Parts {
+        digits: bits % 0x10_0000_0000_0000 + normal * 0x10_0000_0000_0000,
+        exponent: (bits / 0x10_0000_0000_0000 - normal) as i64 - 1074,
+    }
+}
+
+// Scaled to 2p - 1 or 2p digits, which stand at the top of 64, and half of the even exponent that is left; it may be negative.
+pub(crate) fn scale(x: Parts, p: u64) -> Parts
+    requires { ⌜ Ranged x p ⌝ }
+    ensures { λ r. ⌜ Scaled p x r ⌝ }
+{
+    let size = 64 - u64::leading_zeros(x.digits) as u64;
+    let half = (x.exponent + (size + 1) as i64 - (2 * p) as i64) >> 1;
+    Parts {
+        digits: x.digits << ((x.exponent - 2 * half) as u64 + 64 - 2 * p),
+        exponent: half,
+    }
+}
+
+// The whole number nearest to the root of left * 4^n / 2^64, two digits of the root a round: the next four digits come down, in the first round of an odd n
+// two (the pair before them is 00), and the digit 0 to 3 is the greatest whose digit * (8 * root + digit) fits. No round branches on it.
+pub(crate) fn rounds(mut left: u64, n: u64) -> u64
+    requires { ⌜ n ≤ 60 ⌝ }
+    ensures { λ r. ⌜ r ≡ nearRoot n (left * 4 ^ n / 2 ^ 64) ⌝ }
+{
+    let mut root = 0u64;
+    let mut rest = 0u64;
+    for k in 0..(n + 1) / 2 {
+        let down = 4 - 2 * (n % 2) * (k == 0) as u64;
+        let next = 16 * rest + (left >> (64 - down));
+        let digit = (8 * root + 1 <= next) as u64
+            + (16 * root + 4 <= next) as u64
+            + (24 * root + 9 <= next) as u64;
+        rest = next - digit * (8 * root + digit);
+        root = 4 * root + digit;
+        left = left << down;
+    }
+    nearest(root, rest)
+}
+
+// The whole number nearest to a root, from its whole part or the number before it, and what is left beside the square of that.
+pub(crate) fn nearest(root: u64, rest: u64) -> u64
+    requires { ⌜ root < 2 ^ 63 ⌝ }
+    ensures { λ r. ⌜ r ≡ cond (ltb root rest) (root + 1) root ⌝ }
+{
+    root + (root < rest) as u64
+}
+
+// The bits of digits * 2^exponent: the leading digit adds one to the exponent's field.
+pub(crate) fn put_together(digits: u64, exponent: i64) -> u64
+    requires { ⌜ Packable digits exponent ⌝ }
+    ensures { λ r. ⌜ r ≡ packed digits exponent ⌝ }
+{
+    (exponent + 1074) as u64 * 0x10_0000_0000_0000 + digits
+}
+
+// The bits of the root, from those of a finite number above zero.
+pub(crate) fn root_bits(bits: u64) -> u64
+    requires { ⌜ (0 < bits) × (bits < 0x7ff0_0000_0000_0000) ⌝ }
+    ensures { λ r. ⌜ Written binary64 r (rootOf binary64 (ofBits binary64 bits)) ⌝ }
+{
+    let x = scale(take_apart(bits), 53);
+    put_together(rounds(x.digits, 53), x.exponent)
+}
