@@ -2,6 +2,7 @@
 -- arguments are the same, and so are two states of what it is lent to write. `Post` is the contract as the prover reads it.
 use mathlib.Core.Path.{_≡_, sym, _∙_}
 use Rattle.root.proofs.sqrt.Reads as root-sqrt
+use Rattle.root.proofs.sqrt_by_rounds.Reads as root-sqrt-by-rounds
 use Rattle.fmath.proofs.finite.Reads as finite
 use Rattle.fmath.proofs.above_zero.Reads as above-zero
 use Rattle.fmath.proofs.not_below_zero.Reads as not-below-zero
@@ -135,6 +136,9 @@ BothLent {L} {A} {R} {E} Post first second = (l : L) (a : A) (r s : R) (x y : E)
 
 pub one-root-sqrt : One root-sqrt.Post (λ r x. r)
 one-root-sqrt l a r s x y = unique
+
+pub one-root-sqrt-by-rounds : One root-sqrt-by-rounds.Post (λ r x. r)
+one-root-sqrt-by-rounds l a r s x y = unique
 
 -- ---- fmath (R1)
 

@@ -10,7 +10,7 @@ use lib.Dec.{T, leb, leb→le, nleb→lt}
 use lib.Pow.{pow-pos}
 use mir.Val.{boolByte}
 use Rattle.root.specs.Root.{floorRoot}
-use Rattle.root.specs.Round.{greatest, found, rounds}
+use Rattle.root.specs.Round.{greatest, found, rounds, Promised}
 use Rattle.root.proofs.Floor.{Floor, floor-is, floor-unique, sq-one}
 
 -- the square of the root with one digit more
@@ -171,3 +171,6 @@ given (suc k) x h = given-more k x h (given k (x / 16) (sixteenth k x h))
 -- so little is left, and the root has at most c digits where x has at most 2c
 pub given-floor : (k x : ℕ) → x < 16 ^ k → Floor (rounds k x .root) x
 given-floor k x h = subst (λ (r : ℕ). Floor r x) (sym (given k x h .root-is)) (floor-is (2 * k) x (subst (λ (y : ℕ). x < y) (sixteens k) h))
+
+pub promised : Promised
+promised = record { two-steps = two-steps; root-is = λ k x h. given k x h .root-is; rest-is = λ k x h. given k x h .beside }

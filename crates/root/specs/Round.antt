@@ -1,8 +1,10 @@
 -- The root of a whole number by rounds (R1.7), as a trainee steps through it: each round brings down four binary digits of x and gives two of the root.
-use Prim.Native.Nat.{ℕ, zero, suc, _+_, _-_, _*_, _/_, _%_}
+use mathlib.Core.Path.{_≡_}
+use Prim.Native.Nat.{ℕ, zero, suc, _+_, _-_, _*_, _/_, _%_, _^_, _<_}
 use mathlib.Core.Bool.{cond}
 use mathlib.Core.List.{List, [], _∷_, _++_}
 use lib.Dec.{leb}
+use Rattle.root.specs.Root.{floorRoot}
 
 -- what stands after a round: what it had to take from, the digit that it found, the root so far, and what is left beside the root's square
 pub record Round : Type 0 where
@@ -31,3 +33,11 @@ rounds (suc k) x = let r = rounds k (x / 16) in found (r .root) (16 * r .rest + 
 unfoldable pub allRounds : ℕ → ℕ → List Round
 allRounds zero x = []
 allRounds (suc k) x = allRounds k (x / 16) ++ (rounds (suc k) x ∷ [])
+
+-- What the rounds have to do with the rule, for every number of digits. The proof is `proofs/TwoSteps.promised`.
+pub record Promised : Type 0 where
+  -- two steps of the rule are one round, from the root of all but the last four digits
+  pub two-steps : (k x : ℕ) → x < 4 ^ suc (suc k) → let r = floorRoot k (x / 16) in floorRoot (suc (suc k)) x ≡ found r (x - 16 * (r * r)) .root
+  -- so k rounds give the rule's 2k digits, and what is left beside the square of the root
+  pub root-is : (k x : ℕ) → x < 16 ^ k → rounds k x .root ≡ floorRoot (2 * k) x
+  pub rest-is : (k x : ℕ) → x < 16 ^ k → rounds k x .root * rounds k x .root + rounds k x .rest ≡ x

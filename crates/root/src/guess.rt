@@ -112,6 +112,6 @@ pub(crate) fn root_bits(bits: u64) -> u64
     requires { ⌜ (0 < bits) × (bits < 0x7ff0_0000_0000_0000) ⌝ }
     ensures { λ r. ⌜ Written binary64 r (rootOf binary64 (ofBits binary64 bits)) ⌝ }
 {
-    let x = scale(take_apart(bits), 53);
-    put_together(nearest_root(x.digits), x.exponent)
+    let scaled = scale(take_apart(bits), 53);
+    put_together(nearest_root(scaled.digits), scaled.exponent)
 }

@@ -25,29 +25,29 @@ pub(crate) fn take_apart(bits: u64) -> Parts
     }
 }
 
-// Scaled to 2p - 1 or 2p digits, which stand at the top of 64, and half of the even exponent that is left; it may be negative.
-pub(crate) fn scale(x: Parts, p: u64) -> Parts
-    requires { ⌜ Ranged x p ⌝ }
-    ensures { λ r. ⌜ Scaled p x r ⌝ }
+// Scaled to twice as many digits as the root has, or one less; they stand at the top of 64. Half of the even exponent that is left is the root's, and may be negative.
+pub(crate) fn scale(number: Parts, precision: u64) -> Parts
+    requires { ⌜ Ranged number precision ⌝ }
+    ensures { λ r. ⌜ Scaled precision number r ⌝ }
 {
-    let size = 64 - u64::leading_zeros(x.digits) as u64;
-    let half = (x.exponent + (size + 1) as i64 - (2 * p) as i64) >> 1;
+    let size = 64 - u64::leading_zeros(number.digits) as u64;
+    let half = (number.exponent + (size + 1) as i64 - (2 * precision) as i64) >> 1;
     Parts {
-        digits: x.digits << ((x.exponent - 2 * half) as u64 + 64 - 2 * p),
+        digits: number.digits << ((number.exponent - 2 * half) as u64 + 64 - 2 * precision),
         exponent: half,
     }
 }
 
-// The whole number nearest to the root of left * 4^n / 2^64, two digits of the root a round: the next four digits come down, in the first round of an odd n
-// two (the pair before them is 00), and the digit 0 to 3 is the greatest whose digit * (8 * root + digit) fits. No round branches on it.
-pub(crate) fn rounds(mut left: u64, n: u64) -> u64
-    requires { ⌜ n ≤ 60 ⌝ }
-    ensures { λ r. ⌜ r ≡ nearRoot n (left * 4 ^ n / 2 ^ 64) ⌝ }
+// The whole number nearest to the root of left * 4^precision / 2^64, two digits of the root a round: the next four digits come down, in the first round of an odd
+// precision two (the pair before them is 00), and the digit 0 to 3 is the greatest whose digit * (8 * root + digit) fits. No round branches on it.
+pub(crate) fn rounds(mut left: u64, precision: u64) -> u64
+    requires { ⌜ precision ≤ 60 ⌝ }
+    ensures { λ r. ⌜ r ≡ nearRoot precision (left * 4 ^ precision / 2 ^ 64) ⌝ }
 {
     let mut root = 0u64;
     let mut rest = 0u64;
-    for k in 0..(n + 1) / 2 {
-        let down = 4 - 2 * (n % 2) * (k == 0) as u64;
+    for round in 0..(precision + 1) / 2 {
+        let down = 4 - 2 * (precision % 2) * (round == 0) as u64;
         let next = 16 * rest + (left >> (64 - down));
         let digit = (8 * root + 1 <= next) as u64
             + (16 * root + 4 <= next) as u64
@@ -80,6 +80,6 @@ pub(crate) fn root_bits(bits: u64) -> u64
     requires { ⌜ (0 < bits) × (bits < 0x7ff0_0000_0000_0000) ⌝ }
     ensures { λ r. ⌜ Written binary64 r (rootOf binary64 (ofBits binary64 bits)) ⌝ }
 {
-    let x = scale(take_apart(bits), 53);
-    put_together(rounds(x.digits, 53), x.exponent)
+    let scaled = scale(take_apart(bits), 53);
+    put_together(rounds(scaled.digits, 53), scaled.exponent)
 }

@@ -29,10 +29,10 @@ module _ (c : tie.In-loop Inv-loop μ-loop) where
   w = c .before .before .args .left
 
   abbrev o : ℕ
-  o = c .before .before .args .n % 2
+  o = c .before .before .args .precision % 2
 
   abbrev k : ℕ
-  k = c .before .loop .k
+  k = c .before .loop .round
 
   abbrev root : ℕ
   root = c .before .loop .root
@@ -44,7 +44,7 @@ module _ (c : tie.In-loop Inv-loop μ-loop) where
   fits = c .before .before .fits .left .fits
 
   small : root < 2 ^ 58
-  small = lt-of-lt-of-le (root-lt w o k (c .before .loop .left) root (c .before .loop .rest) fits stands) (pow-mono (few k (c .before .before .args .n) (c .loop-test .taken) (c .before .before .pre)))
+  small = lt-of-lt-of-le (root-lt w o k (c .before .loop .left) root (c .before .loop .rest) fits stands) (pow-mono (few k (c .before .before .args .precision) (c .loop-test .taken) (c .before .before .pre)))
     where
       few : (k n : ℕ) → k < (n + 1) / 2 → n ≤ 60 → 2 * k - n % 2 ≤ 58
       few k n a b = omega arith
@@ -53,10 +53,10 @@ module _ (c : tie.In-loop Inv-loop μ-loop) where
   little = rest-le w o k (c .before .loop .left) root (c .before .loop .rest) fits stands
 
   brought : Next w o k
-  brought = next w o k fits (odd-le (c .before .before .args .n))
+  brought = next w o k fits (odd-le (c .before .before .args .precision))
 
   comes : c .before .loop .left / 2 ^ (64 - down o k) < 16
-  comes = comes-lt w o k (c .before .loop .left) root (c .before .loop .rest) fits (odd-le (c .before .before .args .n)) stands
+  comes = comes-lt w o k (c .before .loop .left) root (c .before .loop .rest) fits (odd-le (c .before .before .args .precision)) stands
 
   abbrev takes : ℕ
   takes = from o k (c .before .loop .left) (c .before .loop .rest)
@@ -71,11 +71,11 @@ module _ (c : tie.In-loop Inv-loop μ-loop) where
   digit-fits : digit * (8 * root + digit) ≤ takes
   digit-fits = subst (λ (d : ℕ). d * (8 * root + d) ≤ takes) (sym (digit-is root takes)) (greatest-is 3 root takes .1)
 
-add-k-end : tie.Need-add-k-end Inv-loop μ-loop
-add-k-end c = search needs
+add-round-end : tie.Need-add-round-end Inv-loop μ-loop
+add-round-end c = search needs
 
 loop-holds : tie.Need-loop-holds Inv-loop μ-loop
-loop-holds c = (omega arith, refl, starts (c .args .left) (c .args .n % 2) (c .fits .left .fits))
+loop-holds c = (omega arith, refl, starts (c .args .left) (c .args .precision % 2) (c .fits .left .fits))
 
 mul-down : tie.Need-mul-down Inv-loop μ-loop
 mul-down c = omega arith
@@ -84,10 +84,10 @@ cast-down : tie.Need-cast-down Inv-loop μ-loop
 cast-down c = search needs
 
 mul-down-2 : tie.Need-mul-down-2 Inv-loop μ-loop
-mul-down-2 c = omega (arith, down-lt (o c) (eqb (k c) 0) (odd-le (c .before .before .args .n)))
+mul-down-2 c = omega (arith, down-lt (o c) (eqb (k c) 0) (odd-le (c .before .before .args .precision)))
 
 sub-down : tie.Need-sub-down Inv-loop μ-loop
-sub-down c = omega (arith, down-lt (o c) (eqb (k c) 0) (odd-le (c .before .before .args .n)))
+sub-down c = omega (arith, down-lt (o c) (eqb (k c) 0) (odd-le (c .before .before .args .precision)))
 
 mul-next : tie.Need-mul-next Inv-loop μ-loop
 mul-next c = omega (arith, small c, little c)
@@ -155,8 +155,8 @@ add-root c = omega (arith, small c, digit-le c)
 shl-left : tie.Need-shl-left Inv-loop μ-loop
 shl-left c = omega (arith, brought c .down-le)
 
-add-k : tie.Need-add-k Inv-loop μ-loop
-add-k c = omega arith
+add-round : tie.Need-add-round Inv-loop μ-loop
+add-round c = omega arith
 
 loop-less : tie.Need-loop-less Inv-loop μ-loop
 loop-less c = omega arith
@@ -165,23 +165,23 @@ loop-again : tie.Need-loop-again Inv-loop μ-loop
 unfolding found
 loop-again c =
     let l = c .before .loop in
-    let s = again (w c) (o c) (k c) (l .left) (root c) (l .rest) (fits c) (odd-le (c .before .before .args .n)) (stands c) in
+    let s = again (w c) (o c) (k c) (l .left) (root c) (l .rest) (fits c) (odd-le (c .before .before .args .precision)) (stands c) in
     (omega arith, refl, rw (digit-is (root c) (takes c), add-one (k c)) s)
 
 -- after the last round
 module _ (c : tie.After-loop Inv-loop μ-loop) where
-  all-done : 2 * c .before .loop .k - c .before .before .args .n % 2 ≡ c .before .before .args .n
+  all-done : 2 * c .before .loop .round - c .before .before .args .precision % 2 ≡ c .before .before .args .precision
   all-done = omega arith
 
-  end-stands : let s = c .before .before .args in let l = c .before .loop in Stands (s .left) (s .n % 2) (l .k) (l .left) (l .root) (l .rest)
+  end-stands : let s = c .before .before .args in let l = c .before .loop in Stands (s .left) (s .precision % 2) (l .round) (l .left) (l .root) (l .rest)
   end-stands = c .before .loop .inv .2
 
   end-small : c .before .loop .root < 2 ^ 60
   end-small =
       let s = c .before .before in
       let l = c .before .loop in
-      let few : 2 * l .k - s .args .n % 2 ≤ 60 = omega (arith, all-done, s .pre) in
-      lt-of-lt-of-le (root-lt (s .args .left) (s .args .n % 2) (l .k) (l .left) (l .root) (l .rest) (s .fits .left .fits) end-stands) (pow-mono few)
+      let few : 2 * l .round - s .args .precision % 2 ≤ 60 = omega (arith, all-done, s .pre) in
+      lt-of-lt-of-le (root-lt (s .args .left) (s .args .precision % 2) (l .round) (l .left) (l .root) (l .rest) (s .fits .left .fits) end-stands) (pow-mono few)
 
 nearest-requires : tie.Need-nearest-requires Inv-loop μ-loop
 nearest-requires c κs = omega (arith, end-small c)
@@ -190,7 +190,7 @@ returns : tie.Need-returns Inv-loop μ-loop
 returns c =
     let s = c .before .before .before in
     let l = c .before .before .loop in
-    c .nearest .ensures ∙ sym (last (s .args .left) (s .args .n % 2) (l .k) (l .left) (l .root) (l .rest) (s .fits .left .fits) (end-stands (c .before)) (s .args .n) (all-done (c .before)))
+    c .nearest .ensures ∙ sym (last (s .args .left) (s .args .precision % 2) (l .round) (l .left) (l .root) (l .rest) (s .fits .left .fits) (end-stands (c .before)) (s .args .precision) (all-done (c .before)))
 
 pub rounds-spec : {M : Type 1} → statement M
 rounds-spec =
@@ -198,7 +198,7 @@ rounds-spec =
     (tie.spec
     Inv-loop
     μ-loop
-    add-k-end
+    add-round-end
     loop-holds
     mul-down
     cast-down
@@ -226,7 +226,7 @@ rounds-spec =
     mul-root
     add-root
     shl-left
-    add-k
+    add-round
     loop-less
     loop-again
     nearest-requires

@@ -16,26 +16,26 @@ use Rattle.root.proofs.rounds.scale.Tie as tie
 
 -- the shift before the digits are moved to the top
 abbrev j : tie.Start → ℕ
-j s = left-over (s .args .x) (s .args .p) (s .pre) .j
+j s = left-over (s .args .number) (s .args .precision) (s .pre) .j
 
-room : (s : tie.Start) → (2 * s .args .p ≤ j s + 64) × (j s + 64 - 2 * s .args .p < 64) × (j s ≤ 120)
+room : (s : tie.Start) → (2 * s .args .precision ≤ j s + 64) × (j s + 64 - 2 * s .args .precision < 64) × (j s ≤ 120)
 room s =
-    let l = left-over (s .args .x) (s .args .p) (s .pre) in
-    let some = size-pos (s .args .x .digits) (s .pre .some) in
-    let few = few-digits (s .args .x) (s .args .p) (s .pre) in
+    let l = left-over (s .args .number) (s .args .precision) (s .pre) in
+    let some = size-pos (s .args .number .digits) (s .pre .some) in
+    let few = few-digits (s .args .number) (s .args .precision) (s .pre) in
     omega (arith, l .least, l .most, s .pre .short)
 
-excess-small : (s : tie.Start) → mag (excess (s .args .x) (s .args .p) (s .pre)) < 2 ^ 63
-excess-small s = subst (λ (z : ℤ). mag z < 2 ^ 63) (sym (excess-is (s .args .x) (s .args .p) (s .pre))) (omega (arith, room s .2))
+excess-small : (s : tie.Start) → mag (excess (s .args .number) (s .args .precision) (s .pre)) < 2 ^ 63
+excess-small s = subst (λ (z : ℤ). mag z < 2 ^ 63) (sym (excess-is (s .args .number) (s .args .precision) (s .pre))) (omega (arith, room s .2))
 
-is-j : (s : tie.Start) → natAbs (toZ w64 (ofZ w64 (excess (s .args .x) (s .args .p) (s .pre)))) ≡ j s
-is-j s = ap natAbs (returned _ _ (excess-is (s .args .x) (s .args .p) (s .pre)) (omega (arith, room s .2)))
+is-j : (s : tie.Start) → natAbs (toZ w64 (ofZ w64 (excess (s .args .number) (s .args .precision) (s .pre)))) ≡ j s
+is-j s = ap natAbs (returned _ _ (excess-is (s .args .number) (s .args .precision) (s .pre)) (omega (arith, room s .2)))
 
 cast-size : tie.Need-cast-size
-cast-size c = let s = c .before in omega (arith, count-leading (s .args .x) (s .args .p) (s .pre))
+cast-size c = let s = c .before in omega (arith, count-leading (s .args .number) (s .args .precision) (s .pre))
 
 sub-size : tie.Need-sub-size
-sub-size c = let s = c .before in omega (arith, count-leading (s .args .x) (s .args .p) (s .pre))
+sub-size c = let s = c .before in omega (arith, count-leading (s .args .number) (s .args .precision) (s .pre))
 
 add-half : tie.Need-add-half
 add-half c = search needs
@@ -44,7 +44,7 @@ cast-half : tie.Need-cast-half
 cast-half c = search needs
 
 add-half-2 : tie.Need-add-half-2
-add-half-2 c = let s = c .before .before .before in record { sfits = omega (arith, raised-small (s .args .x) (s .args .p) (s .pre)) }
+add-half-2 c = let s = c .before .before .before in record { sfits = omega (arith, raised-small (s .args .number) (s .args .precision) (s .pre)) }
 
 mul-half : tie.Need-mul-half
 mul-half c = let s = c .before .before .before in omega (arith, s .pre .short)
@@ -53,16 +53,16 @@ cast-half-2 : tie.Need-cast-half-2
 cast-half-2 c = let s = c .before .before .before in record { sfits = omega (arith, s .pre .short) }
 
 sub-half : tie.Need-sub-half
-sub-half c = let s = c .before .before .before in record { sfits = omega (arith, lowered-small (s .args .x) (s .args .p) (s .pre)) }
+sub-half c = let s = c .before .before .before in record { sfits = omega (arith, lowered-small (s .args .number) (s .args .precision) (s .pre)) }
 
 mul-t7 : tie.Need-mul-t7
-mul-t7 c = let s = c .before .before .before in record { sfits = omega (arith, doubled-small (s .args .x) (s .args .p) (s .pre)) }
+mul-t7 c = let s = c .before .before .before in record { sfits = omega (arith, doubled-small (s .args .number) (s .args .precision) (s .pre)) }
 
 sub-t11 : tie.Need-sub-t11
 sub-t11 c = let s = c .before .before .before .before .before in record { sfits = excess-small s }
 
 cast-t6 : tie.Need-cast-t6
-cast-t6 c = let s = c .before .before .before .before .before in cast-up (excess (s .args .x) (s .args .p) (s .pre)) (excess-small s) (subst (λ (z : ℤ). T (nonNeg z)) (sym (excess-is (s .args .x) (s .args .p) (s .pre))) tt) .0
+cast-t6 c = let s = c .before .before .before .before .before in cast-up (excess (s .args .number) (s .args .precision) (s .pre)) (excess-small s) (subst (λ (z : ℤ). T (nonNeg z)) (sym (excess-is (s .args .number) (s .args .precision) (s .pre))) tt) .0
 
 add-t9 : tie.Need-add-t9
 add-t9 c = let s = c .before .before .before .before .before in omega (arith, is-j s, room s .2)
@@ -79,7 +79,7 @@ shl-t14 c = let s = c .before .before .before .before .before .before in omega (
 returns : tie.Need-returns
 returns c =
     let s = c .before .before .before .before .before .before in
-    record { whole = rw (is-j s) (digits-are (s .args .x) (s .args .p) (s .pre)); exponent = halved-is (s .args .x) (s .args .p) (s .pre) }
+    record { whole = rw (is-j s) (digits-are (s .args .number) (s .args .precision) (s .pre)); exponent = halved-is (s .args .number) (s .args .precision) (s .pre) }
 
 pub scale-spec : {M : Type 1} → statement M
 scale-spec =
