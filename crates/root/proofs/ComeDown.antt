@@ -10,7 +10,7 @@ use lib.Pow.{pow-add, pow-pos}
 use borrow.Author.Tests.{ne-eqb}
 use mir.Val.{boolByte}
 use Rattle.root.specs.Root.{nearRoot}
-use Rattle.root.specs.Round.{Round, found, rounds}
+use Rattle.root.specs.Round.{Round, greatest, found, rounds}
 use Rattle.root.proofs.Floor.{Floor, sq-le, sq-one, scaled-lt, near-beside}
 use Rattle.root.proofs.TwoSteps.{given, given-floor, sixteens}
 use Rattle.root.proofs.Units.{squares}
@@ -38,7 +38,7 @@ starts w o h = record { left-is = rw (none o) (omega arith); root-is = refl; res
 -- ---- what comes down
 
 pub record Next (w o k : ℕ) : Type 0 where
-  pub down-le : (2 ≤ down o k) × (down o k ≤ 4)
+  pub few : (2 ≤ down o k) × (down o k ≤ 4)
   pub before : rounds k (moved w o (suc k) / 2 ^ 64 / 16) ≡ rounds k (moved w o k / 2 ^ 64)
   pub four : moved w o (suc k) / 2 ^ 64 % 16 ≡ moved w o k % 2 ^ 64 / 2 ^ (64 - down o k)
   pub left : moved w o k % 2 ^ 64 * 2 ^ down o k % 2 ^ 64 ≡ moved w o (suc k) % 2 ^ 64
@@ -54,7 +54,7 @@ four-down : (w o k : ℕ) → down o k ≡ 4 → 2 * suc k - o ≡ 2 * k - o + 2
 four-down w o k d e =
     let m : moved w o (suc k) ≡ moved w o k * 16 = ap (λ (y : ℕ). w * 4 ^ y) e ∙ ap (λ (y : ℕ). w * y) (pow-add 4 (2 * k - o) 2) ∙ sym (mul-assoc w (4 ^ (2 * k - o)) 16) in
     let s = sixteen-down (moved w o k) (moved w o (suc k)) m in
-    record { down-le = rw d (omega arith, omega arith); before = ap (rounds k) (s .0); four = rw d (s .1); left = rw d (s .2) }
+    record { few = rw d (omega arith, omega arith); before = ap (rounds k) (s .0); four = rw d (s .1); left = rw d (s .2) }
 
 pub next : (w o k : ℕ) → w < 2 ^ 64 → o ≤ 1 → Next w o k
 unfolding rounds
@@ -66,7 +66,7 @@ next w zero k h l = four-down w zero k (still k) (all k)
     all : (k : ℕ) → 2 * suc k - 0 ≡ 2 * k - 0 + 2
     all k = omega arith
 next w (suc zero) zero h l =
-    record { down-le = (omega arith, omega arith); before = refl; four = omega arith; left = omega arith }
+    record { few = (omega arith, omega arith); before = refl; four = omega arith; left = omega arith }
 next w (suc zero) (suc k) h l = four-down w 1 (suc k) (rw (ne-eqb (suc k) 0 (λ e. omega arith))) (all k)
   where
     all : (k : ℕ) → 2 * suc (suc k) - 1 ≡ 2 * suc k - 1 + 2
@@ -78,28 +78,29 @@ next w (suc (suc o)) k h l = absurd (two o l)
 
 -- ---- a round of the loop
 
-pub down-lt : (o : ℕ) (b : Bool) → o ≤ 1 → 2 * o * boolByte b ≤ 2
-down-lt o true l = omega arith
-down-lt o false l = omega arith
+pub down-le : (o : ℕ) (b : Bool) → o ≤ 1 → 2 * o * boolByte b ≤ 2
+down-le o true l = omega arith
+down-le o false l = omega arith
 
 pub comes-lt : (w o k left root rest : ℕ) → w < 2 ^ 64 → o ≤ 1 → Stands w o k left root rest → left / 2 ^ (64 - down o k) < 16
 comes-lt w o k left root rest h l s =
-    subst (λ (y : ℕ). y < 16) (next w o k h l .four ∙ ap (λ (y : ℕ). y / 2 ^ (64 - down o k)) (sym (s .left-is))) (sixteenth (moved w o (suc k) / 2 ^ 64))
+    subst (λ (y : ℕ). y < 16) (next w o k h l .four ∙ ap (λ (y : ℕ). y / 2 ^ (64 - down o k)) (sym (s .left-is))) (last-four (moved w o (suc k) / 2 ^ 64))
   where
-    sixteenth : (x : ℕ) → x % 16 < 16
-    sixteenth x = omega arith
+    last-four : (x : ℕ) → x % 16 < 16
+    last-four x = omega arith
 
 -- what it takes from
 abbrev pub from : (o k left rest : ℕ) → ℕ
 from o k left rest = 16 * rest + left / 2 ^ (64 - down o k)
 
-pub again : (w o k left root rest : ℕ) → w < 2 ^ 64 → o ≤ 1 → Stands w o k left root rest → let r = found root (from o k left rest) in Stands w o (suc k) (left * 2 ^ down o k % 2 ^ 64) (r .root) (r .rest)
-unfolding rounds
-again w o k left root rest h l s =
+-- d is the digit that is found
+pub again : (w o k left root rest d : ℕ) → w < 2 ^ 64 → o ≤ 1 → Stands w o k left root rest → let next = from o k left rest in d ≡ greatest 3 root next → Stands w o (suc k) (left * 2 ^ down o k % 2 ^ 64) (4 * root + d) (next - d * (8 * root + d))
+unfolding rounds found
+again w o k left root rest d h l s e =
     record {
       left-is = ap (λ (y : ℕ). y * 2 ^ down o k % 2 ^ 64) (s .left-is) ∙ n .left;
-      root-is = ap (λ (r : Round). r .root) same;
-      rest-is = ap (λ (r : Round). r .rest) same;
+      root-is = ap (λ (y : ℕ). 4 * root + y) e ∙ ap (λ (r : Round). r .root) same;
+      rest-is = ap (λ (y : ℕ). from o k left rest - y * (8 * root + y)) e ∙ ap (λ (r : Round). r .rest) same;
     }
   where
     n : Next w o k

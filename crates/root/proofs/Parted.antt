@@ -46,11 +46,11 @@ module _ (x : Parts) (p : ℕ) (r : Ranged x p) where
       subst (λ (z : ℤ). z -ℤ pos 2 *ℤ rootExponent p (x .digits) z ≡ pos (left-over .j)) (sym (r .exponent))
       (left-is p (x .digits) (r .k) (r .l) (r .some) few-digits (r .precise) (r .room))
 
-  pub digits-are : x .digits * 2 ^ (left-over .j + 64 - 2 * p) % 2 ^ 64 * 4 ^ p / 2 ^ 64 ≡ scaled p (x .digits) (x .exponent)
+  pub digits-are : x .digits * 2 ^ (left-over .j + 64 - 2 * p) % 2 ^ 64 * 4 ^ p ≡ scaled p (x .digits) (x .exponent) * 2 ^ 64
   unfolding left-over
   digits-are =
       shifted-is p (x .digits) (r .k) (r .l) (r .some) few-digits (r .precise) (r .room) (r .short)
-      ∙ ap (scaled p (x .digits)) (sym (r .exponent))
+      ∙ ap (λ (z : ℤ). scaled p (x .digits) z * 2 ^ 64) (sym (r .exponent))
 
   -- ---- the signed numbers on the way, as they are read back from their bits
 

@@ -54,6 +54,14 @@ digit-is r next =
     go false true c al ah bl bh cl = let p = ah tt in let q = bl tt in omega arith
     go false false true al ah bl bh cl = let p = ah tt in let q = cl tt in omega arith
 
+-- a digit is at most 3, whatever the tests say
+pub digit-le : (a b c : Bool) → boolByte a + boolByte b + boolByte c ≤ 3
+digit-le a b c = let x = flag a in let y = flag b in let z = flag c in omega arith
+  where
+    flag : (b : Bool) → boolByte b ≤ 1
+    flag true = omega arith
+    flag false = omega arith
+
 -- it is at most d, its subtrahend fits, and that of the next digit does not
 abbrev Greatest : (d r next g : ℕ) → Type 0
 Greatest d r next g = (g ≤ d) × (g * (8 * r + g) ≤ next) × (g < d → next < (g + 1) * (8 * r + (g + 1)))
@@ -106,13 +114,13 @@ floor-round r x h = go (greatest 3 r (x - 16 * (r * r))) (greatest-is 3 r (x - 1
 sixteen : (k : ℕ) → 4 ^ suc (suc k) ≡ 4 ^ k * 16
 sixteen k = pow-suc 4 (suc k) ∙ ap (λ (y : ℕ). y * 4) (pow-suc 4 k) ∙ mul-assoc (4 ^ k) 4 4
 
-quarters : (k x : ℕ) → x < 4 ^ suc (suc k) → x / 16 < 4 ^ k
-quarters k x h = div-lt-iff-lt-mul {k = 16} {x = x} {y = 4 ^ k} (pow-pos 4) .1 (subst (λ (y : ℕ). x < y) (sixteen k) h)
+in-pairs : (k x : ℕ) → x < 4 ^ suc (suc k) → x / 16 < 4 ^ k
+in-pairs k x h = div-lt-iff-lt-mul {k = 16} {x = x} {y = 4 ^ k} (pow-pos 4) .1 (subst (λ (y : ℕ). x < y) (sixteen k) h)
 
 -- two steps of `floorRoot` are one round
 pub two-steps : (k x : ℕ) → x < 4 ^ suc (suc k) → let r = floorRoot k (x / 16) in floorRoot (suc (suc k)) x ≡ found r (x - 16 * (r * r)) .root
 unfolding found
-two-steps k x h = floor-unique _ _ x (floor-is (suc (suc k)) x h) (floor-round (floorRoot k (x / 16)) x (floor-is k (x / 16) (quarters k x h)))
+two-steps k x h = floor-unique _ _ x (floor-is (suc (suc k)) x h) (floor-round (floorRoot k (x / 16)) x (floor-is k (x / 16) (in-pairs k x h)))
 
 -- what a round leaves beside the square of its root
 round-beside : (r next : ℕ) → found r next .root * found r next .root + found r next .rest ≡ 16 * (r * r) + next
@@ -168,7 +176,7 @@ given zero x h = record { root-is = refl; beside = none x h }
     none x h = omega arith
 given (suc k) x h = given-more k x h (given k (x / 16) (sixteenth k x h))
 
--- so little is left, and the root has at most c digits where x has at most 2c
+-- they give the whole part of the root
 pub given-floor : (k x : ℕ) → x < 16 ^ k → Floor (rounds k x .root) x
 given-floor k x h = subst (λ (r : ℕ). Floor r x) (sym (given k x h .root-is)) (floor-is (2 * k) x (subst (λ (y : ℕ). x < y) (sixteens k) h))
 

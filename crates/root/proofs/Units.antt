@@ -193,14 +193,16 @@ module _ (p q k l : ℕ) (some : 0 < q) (few : size q ≤ p) (precise : 0 < p) (
       let n : k + 2 * l - (l + 2 * i) ≡ c .j = omega arith in
       rw (exponent-is, excess-sub k l i l, sub-pos (k + 2 * l) (l + 2 * i) (omega arith), n)
 
-  pub shifted-is : p ≤ 60 → q * 2 ^ (left-in .j + 64 - 2 * p) % 2 ^ 64 * 4 ^ p / 2 ^ 64 ≡ scaled p q (subℕ k l)
+  pub shifted-is : p ≤ 60 → q * 2 ^ (left-in .j + 64 - 2 * p) % 2 ^ 64 * 4 ^ p ≡ scaled p q (subℕ k l) * 2 ^ 64
   shifted-is h =
       let c = left-in in
       let s = c .j + 64 - 2 * p in
-      let w = c .whole in
       let least = c .least in
       let most = c .most in
       let room : size q + s ≤ 64 = omega arith in
-      ap (λ (n : ℕ). n * 4 ^ p / 2 ^ 64) (shl-exact (size q) s 64 (size-lt q) room)
-      ∙ sym (kept-is p q (k + l) s (omega arith))
-      ∙ sym scaled-is
+      let moved : s + (p + p) ≡ c .j + 64 = omega arith in
+      ap (λ (n : ℕ). n * 4 ^ p) (shl-exact (size q) s 64 (size-lt q) room)
+      ∙ mul-assoc q (2 ^ s) (4 ^ p)
+      ∙ ap (λ (y : ℕ). q * y) (ap (λ (y : ℕ). 2 ^ s * y) (four-pow p) ∙ sym (pow-add 2 s (p + p)) ∙ ap (λ (y : ℕ). 2 ^ y) moved ∙ pow-add 2 (c .j) 64)
+      ∙ sym (mul-assoc q (2 ^ c .j) (2 ^ 64))
+      ∙ ap (λ (y : ℕ). y * 2 ^ 64) (sym (scaled-is ∙ c .is))

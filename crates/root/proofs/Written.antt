@@ -17,11 +17,11 @@ use lib.Ieee.Bits.{ofBits-fits}
 use lib.Ieee.Digits.{size-le}
 use lib.Ieee.Exact.{HasValue, odd-sign}
 use Rattle.root.specs.declared.rounds.Parts.{Parts}
-use Rattle.root.specs.Root.{nearRoot, rootExponent, scaled, rootOf}
-use Rattle.root.specs.Of.{Packable, packed, Ranged, Scaled, unpacked, Written}
+use Rattle.root.specs.Root.{nearRoot, rootExponent, scaled, number, rootOf}
+use Rattle.root.specs.Of.{Packable, Ranged, Scaled, unpacked, Written}
 use Rattle.root.proofs.Whole.{sub-pos, sub-mag, plus-nat, read-back}
 use Rattle.root.proofs.Units.{pairs, kept, pairs-is, exponent-is, scaled-is}
-use Rattle.root.proofs.Rule.{prec-pos, wide, root-ge, root-lt, root-is}
+use Rattle.root.proofs.Rule.{number-is, prec-pos, wide, root-ge, root-lt, root-is}
 use Rattle.root.proofs.Patterns.{subnormal, normal}
 
 two-hid : (f : Format) → 2 ^ prec f ≡ hid f + hid f
@@ -64,18 +64,24 @@ module _ (f : Format) (q k : ℕ) (Q : 0 < q) (B : q < 2 ^ prec f) where
   pub weight-small : suc k < ones f → suc weight < ones f
   weight-small K = subst (λ (y : ℕ). suc y < ones f) (sym (pairs-is (prec f) q (k + low f) Q)) (weight-lt f (size q) k (size-le q (prec f) B) K)
 
-  pub put-together : (x : Float) → suc k < ones f → T (fits f x) → HasValue x false (q * 2 ^ k) (2 ^ low f) → Written f (weight * hid f + nearRoot (prec f) whole) (rootOf f x)
-  put-together x K w v =
+  -- digits and exponent of the root, put together
+  pub packs : suc k < ones f → Packable f (nearRoot (prec f) whole) (subℕ weight (low f))
+  packs K =
       let r = nearRoot (prec f) whole in
-      let lo : hid f ≤ r = root-ge f q k Q B in
-      let hi : r < hid f + hid f = subst (λ (y : ℕ). r < y) (two-hid f) (root-lt f q k Q B) in
-      let m = weight-small K in (
-        normal f r weight lo hi m ∙ sym (root-is f q k Q B x w v),
-        lt-of-lt-of-le (below (weight * hid f) (hid f) r (suc (suc weight) * hid f) (suc-mul (suc weight) (hid f) ∙ ap (λ (y : ℕ). y + hid f) (suc-mul weight (hid f))) hi) (mul-le-mul-right (hid f) m),
-      )
-    where
-      below : (a h r c : ℕ) → c ≡ a + h + h → r < h + h → a + r < c
-      below a h r c e l = omega arith
+      record { leading = root-ge f q k Q B; few = subst (λ (y : ℕ). r < y) (two-hid f) (root-lt f q k Q B); weight = weight; is = refl; middle = weight-small K }
+
+  pub number-at : (x : Float) → T (fits f x) → HasValue x false (q * 2 ^ k) (2 ^ low f) → number (prec f) (nearRoot (prec f) whole) (subℕ weight (low f)) ≡ rootOf f x
+  number-at x w v = number-is (prec f) (nearRoot (prec f) whole) weight (low f) ∙ sym (root-is f q k Q B x w v)
+
+-- the pattern of such digits and exponent
+pub packed : (f : Format) (r w : ℕ) → hid f ≤ r → r < hid f + hid f → suc w < ones f → Written f (w * hid f + r) (number (prec f) r (subℕ w (low f)))
+packed f r w lo hi m = (
+  normal f r w lo hi m ∙ sym (number-is (prec f) r w (low f)),
+  lt-of-lt-of-le (below (w * hid f) (hid f) r (suc (suc w) * hid f) (suc-mul (suc w) (hid f) ∙ ap (λ (y : ℕ). y + hid f) (suc-mul w (hid f))) hi) (mul-le-mul-right (hid f) m),
+)
+  where
+    below : (a h r c : ℕ) → c ≡ a + h + h → r < h + h → a + r < c
+    below a h r c e l = omega arith
 
 -- ---- the parts that a pattern has
 
@@ -169,11 +175,11 @@ bias-back i l = plus-nat i l l ∙ sub-pos (i + l) l (omega arith) ∙ ap pos (o
 -- ---- from bits to bits at binary64
 
 -- what `root_bits` hands on to be put together for the number with the pattern b, where X is scaled in x and r is its root: an exponent that is read back from its bits,
--- and parts that make the root's pattern
+-- and parts that are the root's
 pub record Handed (b : ℕ) (x : Parts) (r : ℕ) : Type 0 where
   pub back : toZ w64 (ofZ w64 (x .exponent)) ≡ x .exponent
-  pub packable : Packable r (x .exponent)
-  pub written : Written binary64 (packed r (x .exponent)) (rootOf binary64 (ofBits binary64 b))
+  pub packable : Packable binary64 r (x .exponent)
+  pub root : number 53 r (x .exponent) ≡ rootOf binary64 (ofBits binary64 b)
 
 module _ (b : ℕ) (p : 0 < b) (l : b < ones binary64 * hid binary64) where
   u : Unpacked binary64 b
@@ -186,8 +192,8 @@ module _ (b : ℕ) (p : 0 < b) (l : b < ones binary64 * hid binary64) where
   handed x s r e =
       record {
         back = read-back (x .exponent) (subst (λ (z : ℤ). mag z < 2 ^ 63) (sym exponent-w) (lt-of-le-of-lt (sub-mag w 1074 4096 (omega (arith, w-small)) (omega arith)) (lit< tt)));
-        packable = record { weight = w; is = exponent-w; small = omega (arith, pattern .1) };
-        written = subst (λ (y : ℕ). Written binary64 (y * 2 ^ 52 + r) (rootOf binary64 (ofBits binary64 b))) (sym (ap (λ (z : ℤ). natAbs (z +ℤ pos 1074)) exponent-w ∙ ap natAbs (bias-back w 1074))) pattern;
+        packable = subst (λ (z : ℤ). Packable binary64 r z) (sym exponent-w) (subst (λ (y : ℕ). Packable binary64 y (subℕ w 1074)) (sym root-w) (packs binary64 (u .q) (u .k) (u .some) (u .few) (u .middle)));
+        root = ap (λ (z : ℤ). number 53 r z) exponent-w ∙ ap (λ (y : ℕ). number 53 y (subℕ w 1074)) root-w ∙ number-at binary64 (u .q) (u .k) (u .some) (u .few) (ofBits binary64 b) (ofBits-fits binary64 b) (u .value);
       }
     where
       w : ℕ
@@ -199,10 +205,8 @@ module _ (b : ℕ) (p : 0 < b) (l : b < ones binary64 * hid binary64) where
       exponent-w : x .exponent ≡ subℕ w 1074
       exponent-w = s .exponent ∙ ap (λ (y : Parts). rootExponent 53 (y .digits) (y .exponent)) (u .is) ∙ exponent-at binary64 (u .q) (u .k) (u .some) (u .few)
 
-      root-w : r ≡ nearRoot 53 (whole binary64 (u .q) (u .k) (u .some) (u .few))
-      root-w = e ∙ ap (nearRoot 53) (s .whole ∙ ap (λ (y : Parts). scaled 53 (y .digits) (y .exponent)) (u .is) ∙ whole-at binary64 (u .q) (u .k) (u .some) (u .few))
+      exact : (n y : ℕ) → n ≡ y * 2 ^ 64 → n / 2 ^ 64 ≡ y
+      exact n y h = omega arith
 
-      pattern : Written binary64 (w * 2 ^ 52 + r) (rootOf binary64 (ofBits binary64 b))
-      pattern =
-          subst (λ (y : ℕ). Written binary64 (w * 2 ^ 52 + y) (rootOf binary64 (ofBits binary64 b))) (sym root-w)
-          (put-together binary64 (u .q) (u .k) (u .some) (u .few) (ofBits binary64 b) (u .middle) (ofBits-fits binary64 b) (u .value))
+      root-w : r ≡ nearRoot 53 (whole binary64 (u .q) (u .k) (u .some) (u .few))
+      root-w = e ∙ ap (nearRoot 53) (exact _ _ (s .whole) ∙ ap (λ (y : Parts). scaled 53 (y .digits) (y .exponent)) (u .is) ∙ whole-at binary64 (u .q) (u .k) (u .some) (u .few))

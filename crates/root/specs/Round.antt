@@ -24,7 +24,7 @@ found root next =
     let d = greatest 3 root next in
     record { next = next; digit = d; root = 4 * root + d; rest = next - d * (8 * root + d) }
 
--- the round after k others, for an x below 16 ^ k: x / 16 is what they have seen
+-- the last of k rounds, for an x below 16 ^ k: those before it have seen x / 16
 unfoldable pub rounds : ℕ → ℕ → Round
 rounds zero x = record { next = 0; digit = 0; root = 0; rest = 0 }
 rounds (suc k) x = let r = rounds k (x / 16) in found (r .root) (16 * r .rest + x % 16)

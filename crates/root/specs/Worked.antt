@@ -7,7 +7,7 @@ use lib.IntN.{pos, negsuc}
 use lib.Ieee.{nan, fin, binary32, binary64, ofBits, toBits, size, odd}
 use Rattle.root.specs.Root.{floorRoot, nearRoot, half, rootExponent, scaled, number, rootOf}
 use Rattle.root.specs.Round.{Round, greatest, found, rounds, allRounds}
-use Rattle.root.specs.Of.{unpacked, packed}
+use Rattle.root.specs.Of.{unpacked}
 
 of-25-single : rootOf binary32 (fin false 25 (pos 0)) ≡ fin false 5 (pos 0)
 unfolding rootOf nearRoot floorRoot scaled rootExponent half number size odd
@@ -40,7 +40,7 @@ of-minus-one = refl
 of-2-apart : unpacked binary64 0x4000_0000_0000_0000 ≡ record { digits = 0x10_0000_0000_0000; exponent = negsuc 50 }
 of-2-apart = refl
 
--- X is 2 ^ 105, which scale hands on as 2 ^ 63 * 4 ^ 53 / 2 ^ 64, with half of the even exponent -104
+-- X is 2 ^ 105, which `scale` gives as 2 ^ 63, at the top of 64; 2 is X * 4 ^ -52
 of-2-scaled : scaled 53 0x10_0000_0000_0000 (negsuc 50) ≡ 0x200_0000_0000_0000_0000_0000_0000
 unfolding scaled rootExponent half size
 of-2-scaled = refl
@@ -88,5 +88,6 @@ of-2-nearest : nearRoot 53 0x200_0000_0000_0000_0000_0000_0000 ≡ 6369051672525
 unfolding nearRoot floorRoot
 of-2-nearest = refl
 
-of-2-together : packed 6369051672525773 (negsuc 51) ≡ 0x3ff6_a09e_667f_3bcd
+of-2-together : toBits binary64 (number 53 6369051672525773 (negsuc 51)) ≡ 0x3ff6_a09e_667f_3bcd
+unfolding number size odd toBits
 of-2-together = refl

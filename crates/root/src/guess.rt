@@ -107,11 +107,14 @@ fn nearest_root(w: u64) -> u64
     rounds(w, 53)
 }
 
-// The bits of the root, from those of a finite number above zero.
+// The bits of the root, from those of a finite number above zero. A subnormal one is left to the rounds, so that the compiler knows how many digits any other has.
 pub(crate) fn root_bits(bits: u64) -> u64
     requires { ⌜ (0 < bits) × (bits < 0x7ff0_0000_0000_0000) ⌝ }
     ensures { λ r. ⌜ Written binary64 r (rootOf binary64 (ofBits binary64 bits)) ⌝ }
 {
+    if bits < 0x10_0000_0000_0000 {
+        return crate::rounds::root_bits(bits);
+    }
     let scaled = scale(take_apart(bits), 53);
     put_together(nearest_root(scaled.digits), scaled.exponent)
 }

@@ -3,17 +3,17 @@ ghost use mathlib.Core.Path.{_≡_};
 ghost use mathlib.Core.Bool.{cond};
 ghost use Prim.Native.Nat.{_+_, _*_, _/_, _^_, _≤_, _<_};
 ghost use lib.Dec.{ltb};
-ghost use lib.Ieee.{binary64, ofBits};
-ghost use Rattle.root.specs.Root.{nearRoot, rootOf};
-ghost use Rattle.root.specs.Of.{packed, Packable, Ranged, Scaled, unpacked, Written};
+ghost use lib.Ieee.{binary64, ofBits, prec};
+ghost use Rattle.root.specs.Root.{nearRoot, number, rootOf};
+ghost use Rattle.root.specs.Of.{Packable, Ranged, Scaled, unpacked, Written};
 
-// The number digits * 2^exponent; the exponent is unbiased, and as low as -1074 where a number is read.
+// The number digits * 2^exponent, the exponent as low as -1074 where a number is read. Of what `scale` gives: the bits of X at the top of 64, and the root's exponent.
 pub(crate) struct Parts {
     pub(crate) digits: u64,
     pub(crate) exponent: i64,
 }
 
-// The parts of a finite number above zero, from its bits. A normal number has a leading digit that is not written.
+// The parts of a finite number above zero, from its bits. A normal number has a leading one that is not written.
 pub(crate) fn take_apart(bits: u64) -> Parts
     requires { ⌜ bits < 0x7ff0_0000_0000_0000 ⌝ }
     ensures { λ r. ⌜ r ≡ unpacked binary64 bits ⌝ }
@@ -25,21 +25,22 @@ pub(crate) fn take_apart(bits: u64) -> Parts
     }
 }
 
-// Scaled to twice as many digits as the root has, or one less; they stand at the top of 64. Half of the even exponent that is left is the root's, and may be negative.
+// The number as X * 4^e, where X has twice as many bits as the root is to have, or one less: X at the top of 64 bits, and e, the root's exponent, which may be negative.
 pub(crate) fn scale(number: Parts, precision: u64) -> Parts
     requires { ⌜ Ranged number precision ⌝ }
     ensures { λ r. ⌜ Scaled precision number r ⌝ }
 {
     let size = 64 - u64::leading_zeros(number.digits) as u64;
-    let half = (number.exponent + (size + 1) as i64 - (2 * precision) as i64) >> 1;
+    let root_exponent = (number.exponent + (size + 1) as i64 - (2 * precision) as i64) >> 1;
     Parts {
-        digits: number.digits << ((number.exponent - 2 * half) as u64 + 64 - 2 * precision),
-        exponent: half,
+        digits: number.digits
+            << ((number.exponent - 2 * root_exponent) as u64 + 64 - 2 * precision),
+        exponent: root_exponent,
     }
 }
 
-// The whole number nearest to the root of left * 4^precision / 2^64, two digits of the root a round: the next four digits come down, in the first round of an odd
-// precision two (the pair before them is 00), and the digit 0 to 3 is the greatest whose digit * (8 * root + digit) fits. No round branches on it.
+// The whole number nearest to the root of left * 4^precision / 2^64, two bits of the root a round: the next four bits come down (two in the first round where
+// precision is odd: the pair before them is 00), and the digit 0 to 3 is the greatest whose digit * (8 * root + digit) fits. No round branches on it.
 pub(crate) fn rounds(mut left: u64, precision: u64) -> u64
     requires { ⌜ precision ≤ 60 ⌝ }
     ensures { λ r. ⌜ r ≡ nearRoot precision (left * 4 ^ precision / 2 ^ 64) ⌝ }
@@ -59,7 +60,7 @@ pub(crate) fn rounds(mut left: u64, precision: u64) -> u64
     nearest(root, rest)
 }
 
-// The whole number nearest to a root, from its whole part or the number before it, and what is left beside the square of that.
+// The root, or the next number where more is left than the root.
 pub(crate) fn nearest(root: u64, rest: u64) -> u64
     requires { ⌜ root < 2 ^ 63 ⌝ }
     ensures { λ r. ⌜ r ≡ cond (ltb root rest) (root + 1) root ⌝ }
@@ -67,10 +68,10 @@ pub(crate) fn nearest(root: u64, rest: u64) -> u64
     root + (root < rest) as u64
 }
 
-// The bits of digits * 2^exponent: the leading digit adds one to the exponent's field.
+// The bits of digits * 2^exponent, for digits with their leading one, which adds one to the exponent's field.
 pub(crate) fn put_together(digits: u64, exponent: i64) -> u64
-    requires { ⌜ Packable digits exponent ⌝ }
-    ensures { λ r. ⌜ r ≡ packed digits exponent ⌝ }
+    requires { ⌜ Packable binary64 digits exponent ⌝ }
+    ensures { λ r. ⌜ Written binary64 r (number (prec binary64) digits exponent) ⌝ }
 {
     (exponent + 1074) as u64 * 0x10_0000_0000_0000 + digits
 }

@@ -1,11 +1,10 @@
 -- `root::rounds::root_bits` meets its contract: each step hands on what the next one takes, and the parts of the root, put together, are its pattern (`Written`).
 use mathlib.Core.Path.{sym, ap, _∙_, subst}
-use Prim.Native.Nat.{ℕ}
 use borrow.Author.Needs.{needs}
-use lib.Ieee.{binary64, ofBits}
+use lib.Ieee.{binary64}
 use Rattle.root.specs.declared.rounds.Parts.{Parts}
-use Rattle.root.specs.Root.{rootOf}
-use Rattle.root.specs.Of.{packed, Packable, Ranged, Scaled, Written}
+use Rattle.root.specs.Root.{number}
+use Rattle.root.specs.Of.{Packable, Ranged, Scaled}
 use Rattle.root.proofs.Written.{apart-ranged, Handed, handed}
 use Rattle.root.proofs.rounds.root_bits.Statement.{statement}
 use Rattle.root.proofs.rounds.root_bits.Tie as tie
@@ -26,13 +25,13 @@ parts c =
     handed (s .args .bits) (s .pre .0) (s .pre .1) (x .result) (subst (λ (y : Parts). Scaled 53 y (x .result)) (c .before .before .take-apart .ensures) (x .ensures)) (c .rounds .result) (c .rounds .ensures)
 
 put-together-requires : tie.Need-put-together-requires
-put-together-requires c κs = let h = parts (c .before) in subst (Packable (c .before .rounds .result)) (sym (h .back)) (h .packable)
+put-together-requires c κs = let h = parts (c .before) in subst (Packable binary64 (c .before .rounds .result)) (sym (h .back)) (h .packable)
 
 returns : tie.Need-returns
 returns c =
     let a = c .before .before in
     let h = parts a in
-    subst (λ (n : ℕ). Written binary64 n (rootOf binary64 (ofBits binary64 (a .before .before .before .args .bits)))) (sym (c .put-together .ensures ∙ ap (packed (a .rounds .result)) (h .back))) (h .written)
+    (c .put-together .ensures .0 ∙ ap (number 53 (a .rounds .result)) (h .back) ∙ h .root, c .put-together .ensures .1)
 
 pub root-bits-spec : {M : Type 1} → statement M
 root-bits-spec = tie.close (tie.spec take-apart-requires scale-requires rounds-requires put-together-requires returns)

@@ -8,9 +8,8 @@ use lib.Dec.{leb, eqb}
 use lib.Pow.{pow-mono}
 use mir.Val.{boolByte}
 use borrow.Author.Needs.{needs}
-use Rattle.root.specs.Round.{found}
-use Rattle.root.proofs.TwoSteps.{digit-is, greatest-is}
-use Rattle.root.proofs.ComeDown.{Stands, starts, down, from, Next, next, down-lt, comes-lt, again, root-lt, rest-le, last}
+use Rattle.root.proofs.TwoSteps.{digit-is, digit-le, greatest-is}
+use Rattle.root.proofs.ComeDown.{Stands, starts, down, from, Next, next, down-le, comes-lt, again, root-lt, rest-le, last}
 use Rattle.root.proofs.rounds.rounds.Statement.{statement}
 use Rattle.root.proofs.rounds.rounds.Tie as tie
 
@@ -65,8 +64,8 @@ module _ (c : tie.In-loop Inv-loop μ-loop) where
   abbrev digit : ℕ
   digit = boolByte (leb (8 * root + 1) takes) + boolByte (leb (16 * root + 4) takes) + boolByte (leb (24 * root + 9) takes)
 
-  digit-le : digit ≤ 3
-  digit-le = subst (λ (d : ℕ). d ≤ 3) (sym (digit-is root takes)) (greatest-is 3 root takes .0)
+  small-digit : digit ≤ 3
+  small-digit = digit-le (leb (8 * root + 1) takes) (leb (16 * root + 4) takes) (leb (24 * root + 9) takes)
 
   digit-fits : digit * (8 * root + digit) ≤ takes
   digit-fits = subst (λ (d : ℕ). d * (8 * root + d) ≤ takes) (sym (digit-is root takes)) (greatest-is 3 root takes .1)
@@ -84,19 +83,19 @@ cast-down : tie.Need-cast-down Inv-loop μ-loop
 cast-down c = search needs
 
 mul-down-2 : tie.Need-mul-down-2 Inv-loop μ-loop
-mul-down-2 c = omega (arith, down-lt (o c) (eqb (k c) 0) (odd-le (c .before .before .args .precision)))
+mul-down-2 c = omega (arith, down-le (o c) (eqb (k c) 0) (odd-le (c .before .before .args .precision)))
 
 sub-down : tie.Need-sub-down Inv-loop μ-loop
-sub-down c = omega (arith, down-lt (o c) (eqb (k c) 0) (odd-le (c .before .before .args .precision)))
+sub-down c = omega (arith, down-le (o c) (eqb (k c) 0) (odd-le (c .before .before .args .precision)))
 
 mul-next : tie.Need-mul-next Inv-loop μ-loop
 mul-next c = omega (arith, small c, little c)
 
 sub-next : tie.Need-sub-next Inv-loop μ-loop
-sub-next c = omega (arith, brought c .down-le)
+sub-next c = omega (arith, brought c .few)
 
 shr-next : tie.Need-shr-next Inv-loop μ-loop
-shr-next c = omega (arith, brought c .down-le)
+shr-next c = omega (arith, brought c .few)
 
 add-next : tie.Need-add-next Inv-loop μ-loop
 add-next c = omega (arith, small c, little c, comes c)
@@ -120,7 +119,7 @@ cast-digit-2 : tie.Need-cast-digit-2 Inv-loop μ-loop
 cast-digit-2 c = search needs
 
 add-digit-3 : tie.Need-add-digit-3 Inv-loop μ-loop
-add-digit-3 c = omega (arith, digit-le c)
+add-digit-3 c = omega (arith, small-digit c)
 
 mul-digit-3 : tie.Need-mul-digit-3 Inv-loop μ-loop
 mul-digit-3 c = omega (arith, small c)
@@ -132,13 +131,13 @@ cast-digit-3 : tie.Need-cast-digit-3 Inv-loop μ-loop
 cast-digit-3 c = search needs
 
 add-digit-5 : tie.Need-add-digit-5 Inv-loop μ-loop
-add-digit-5 c = omega (arith, digit-le c)
+add-digit-5 c = omega (arith, small-digit c)
 
 mul-rest : tie.Need-mul-rest Inv-loop μ-loop
 mul-rest c = omega (arith, small c)
 
 add-rest : tie.Need-add-rest Inv-loop μ-loop
-add-rest c = omega (arith, small c, digit-le c)
+add-rest c = omega (arith, small c, small-digit c)
 
 mul-rest-2 : tie.Need-mul-rest-2 Inv-loop μ-loop
 mul-rest-2 c = omega (arith, small c, little c, comes c, digit-fits c)
@@ -150,10 +149,10 @@ mul-root : tie.Need-mul-root Inv-loop μ-loop
 mul-root c = omega (arith, small c)
 
 add-root : tie.Need-add-root Inv-loop μ-loop
-add-root c = omega (arith, small c, digit-le c)
+add-root c = omega (arith, small c, small-digit c)
 
 shl-left : tie.Need-shl-left Inv-loop μ-loop
-shl-left c = omega (arith, brought c .down-le)
+shl-left c = omega (arith, brought c .few)
 
 add-round : tie.Need-add-round Inv-loop μ-loop
 add-round c = omega arith
@@ -162,11 +161,10 @@ loop-less : tie.Need-loop-less Inv-loop μ-loop
 loop-less c = omega arith
 
 loop-again : tie.Need-loop-again Inv-loop μ-loop
-unfolding found
 loop-again c =
     let l = c .before .loop in
-    let s = again (w c) (o c) (k c) (l .left) (root c) (l .rest) (fits c) (odd-le (c .before .before .args .precision)) (stands c) in
-    (omega arith, refl, rw (digit-is (root c) (takes c), add-one (k c)) s)
+    let s = again (w c) (o c) (k c) (l .left) (root c) (l .rest) (digit c) (fits c) (odd-le (c .before .before .args .precision)) (stands c) (digit-is (root c) (takes c)) in
+    (omega arith, refl, subst (λ (j : ℕ). Stands (w c) (o c) j (l .left * 2 ^ down (o c) (k c) % 2 ^ 64) (4 * root c + digit c) (takes c - digit c * (8 * root c + digit c))) (sym (add-one (k c))) s)
 
 -- after the last round
 module _ (c : tie.After-loop Inv-loop μ-loop) where

@@ -37,23 +37,23 @@ cast-size c = let s = c .before in omega (arith, count-leading (s .args .number)
 sub-size : tie.Need-sub-size
 sub-size c = let s = c .before in omega (arith, count-leading (s .args .number) (s .args .precision) (s .pre))
 
-add-half : tie.Need-add-half
-add-half c = search needs
+add-root-exponent : tie.Need-add-root-exponent
+add-root-exponent c = search needs
 
-cast-half : tie.Need-cast-half
-cast-half c = search needs
+cast-root-exponent : tie.Need-cast-root-exponent
+cast-root-exponent c = search needs
 
-add-half-2 : tie.Need-add-half-2
-add-half-2 c = let s = c .before .before .before in record { sfits = omega (arith, raised-small (s .args .number) (s .args .precision) (s .pre)) }
+add-root-exponent-2 : tie.Need-add-root-exponent-2
+add-root-exponent-2 c = let s = c .before .before .before in record { sfits = omega (arith, raised-small (s .args .number) (s .args .precision) (s .pre)) }
 
-mul-half : tie.Need-mul-half
-mul-half c = let s = c .before .before .before in omega (arith, s .pre .short)
+mul-root-exponent : tie.Need-mul-root-exponent
+mul-root-exponent c = let s = c .before .before .before in omega (arith, s .pre .short)
 
-cast-half-2 : tie.Need-cast-half-2
-cast-half-2 c = let s = c .before .before .before in record { sfits = omega (arith, s .pre .short) }
+cast-root-exponent-2 : tie.Need-cast-root-exponent-2
+cast-root-exponent-2 c = let s = c .before .before .before in record { sfits = omega (arith, s .pre .short) }
 
-sub-half : tie.Need-sub-half
-sub-half c = let s = c .before .before .before in record { sfits = omega (arith, lowered-small (s .args .number) (s .args .precision) (s .pre)) }
+sub-root-exponent : tie.Need-sub-root-exponent
+sub-root-exponent c = let s = c .before .before .before in record { sfits = omega (arith, lowered-small (s .args .number) (s .args .precision) (s .pre)) }
 
 mul-t7 : tie.Need-mul-t7
 mul-t7 c = let s = c .before .before .before in record { sfits = omega (arith, doubled-small (s .args .number) (s .args .precision) (s .pre)) }
@@ -87,12 +87,12 @@ scale-spec =
     (tie.spec
     cast-size
     sub-size
-    add-half
-    cast-half
-    add-half-2
-    mul-half
-    cast-half-2
-    sub-half
+    add-root-exponent
+    cast-root-exponent
+    add-root-exponent-2
+    mul-root-exponent
+    cast-root-exponent-2
+    sub-root-exponent
     mul-t7
     sub-t11
     cast-t6
