@@ -31,11 +31,10 @@ pub(crate) fn scale(number: Parts, precision: u64) -> Parts
     ensures { λ r. ⌜ Scaled precision number r ⌝ }
 {
     let size = 64 - u64::leading_zeros(number.digits) as u64;
-    let root_exponent = (number.exponent + (size + 1) as i64 - (2 * precision) as i64) >> 1;
+    let exponent = (number.exponent + (size + 1) as i64 - (2 * precision) as i64) >> 1;
     Parts {
-        digits: number.digits
-            << ((number.exponent - 2 * root_exponent) as u64 + 64 - 2 * precision),
-        exponent: root_exponent,
+        digits: number.digits << ((number.exponent - 2 * exponent) as u64 + 64 - 2 * precision),
+        exponent: exponent,
     }
 }
 

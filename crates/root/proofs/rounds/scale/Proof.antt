@@ -37,23 +37,23 @@ cast-size c = let s = c .before in omega (arith, count-leading (s .args .number)
 sub-size : tie.Need-sub-size
 sub-size c = let s = c .before in omega (arith, count-leading (s .args .number) (s .args .precision) (s .pre))
 
-add-root-exponent : tie.Need-add-root-exponent
-add-root-exponent c = search needs
+add-exponent : tie.Need-add-exponent
+add-exponent c = search needs
 
-cast-root-exponent : tie.Need-cast-root-exponent
-cast-root-exponent c = search needs
+cast-exponent : tie.Need-cast-exponent
+cast-exponent c = search needs
 
-add-root-exponent-2 : tie.Need-add-root-exponent-2
-add-root-exponent-2 c = let s = c .before .before .before in record { sfits = omega (arith, raised-small (s .args .number) (s .args .precision) (s .pre)) }
+add-exponent-2 : tie.Need-add-exponent-2
+add-exponent-2 c = let s = c .before .before .before in record { sfits = omega (arith, raised-small (s .args .number) (s .args .precision) (s .pre)) }
 
-mul-root-exponent : tie.Need-mul-root-exponent
-mul-root-exponent c = let s = c .before .before .before in omega (arith, s .pre .short)
+mul-exponent : tie.Need-mul-exponent
+mul-exponent c = let s = c .before .before .before in omega (arith, s .pre .short)
 
-cast-root-exponent-2 : tie.Need-cast-root-exponent-2
-cast-root-exponent-2 c = let s = c .before .before .before in record { sfits = omega (arith, s .pre .short) }
+cast-exponent-2 : tie.Need-cast-exponent-2
+cast-exponent-2 c = let s = c .before .before .before in record { sfits = omega (arith, s .pre .short) }
 
-sub-root-exponent : tie.Need-sub-root-exponent
-sub-root-exponent c = let s = c .before .before .before in record { sfits = omega (arith, lowered-small (s .args .number) (s .args .precision) (s .pre)) }
+sub-exponent : tie.Need-sub-exponent
+sub-exponent c = let s = c .before .before .before in record { sfits = omega (arith, lowered-small (s .args .number) (s .args .precision) (s .pre)) }
 
 mul-t7 : tie.Need-mul-t7
 mul-t7 c = let s = c .before .before .before in record { sfits = omega (arith, doubled-small (s .args .number) (s .args .precision) (s .pre)) }
@@ -87,12 +87,12 @@ scale-spec =
     (tie.spec
     cast-size
     sub-size
-    add-root-exponent
-    cast-root-exponent
-    add-root-exponent-2
-    mul-root-exponent
-    cast-root-exponent-2
-    sub-root-exponent
+    add-exponent
+    cast-exponent
+    add-exponent-2
+    mul-exponent
+    cast-exponent-2
+    sub-exponent
     mul-t7
     sub-t11
     cast-t6
