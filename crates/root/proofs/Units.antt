@@ -9,7 +9,6 @@ use lib.Pow.{pow-add, pow-pos, pow-mono, shl-lt, shl-exact}
 use lib.Count.{leadingZeros, leading-top}
 use lib.Ieee.{size}
 use lib.Ieee.Digits.{size-lt, size-le, size-reaches}
-use lib.Ieee.Nearest.{div-same}
 use lib.IntN.{pos, subℕ, _-ℤ_, _*ℤ_}
 use Rattle.root.specs.Root.{half, rootExponent, scaled}
 use Rattle.root.proofs.Floor.{sq-twice}
@@ -67,19 +66,6 @@ four-pos i = one-le-pow i 4 (pow-pos 2)
 pub pairs-is : (p q d : ℕ) → 0 < q → pairs p (q * 2 ^ d) ≡ (size q + d + 1 - 2 * p) / 2
 unfolding pairs
 pairs-is p q d h = ap (λ (z : ℕ). (z + 1 - 2 * p) / 2) (size-shift q d h)
-
--- ---- what is left, as a number with its digits at the top of 64: w is q * 2 ^ s
-pub kept-is : (p q d s : ℕ) → s + (p + p) + (pairs p (q * 2 ^ d) + pairs p (q * 2 ^ d)) ≡ d + 64 → kept p (q * 2 ^ d) ≡ q * 2 ^ s * 4 ^ p / 2 ^ 64
-unfolding kept
-kept-is p q d s e =
-    let i = pairs p (q * 2 ^ d) in
-    div-same (q * 2 ^ d) (4 ^ i) (q * 2 ^ s * 4 ^ p) (2 ^ 64) (four-pos i) (pow-pos 64)
-    (mul-assoc q (2 ^ d) (2 ^ 64)
-    ∙ ap (λ (y : ℕ). q * y) (sym (pow-add 2 d 64) ∙ ap (λ (y : ℕ). 2 ^ y) (sym e) ∙ pow-add 2 (s + (p + p)) (i + i) ∙ ap (λ (y : ℕ). y * 2 ^ (i + i)) (pow-add 2 s (p + p)))
-    ∙ sym (mul-assoc q (2 ^ s * 2 ^ (p + p)) (2 ^ (i + i)))
-    ∙ ap (λ (y : ℕ). y * 2 ^ (i + i)) (sym (mul-assoc q (2 ^ s) (2 ^ (p + p))))
-    ∙ ap (λ (y : ℕ). q * 2 ^ s * y * 2 ^ (i + i)) (sym (four-pow p))
-    ∙ ap (λ (y : ℕ). q * 2 ^ s * 4 ^ p * y) (sym (four-pow i)))
 
 -- ---- what is left, as q * 2 ^ j, and how large that is. `i + i` digits are lost
 pub record Left (p q d : ℕ) : Type 0 where

@@ -5,7 +5,7 @@ use native.Mathlib.Nat.{lt-of-lt-of-le, lt-of-le-of-lt, mul-le-mul-right, suc-mu
 use native.Mathlib.Omega.{arith}
 use mathlib.Core.Bool.{Bool, true, false}
 use lib.Dec.{eqb}
-use lib.IntN.{ℤ, pos, natAbs, subℕ, _+ℤ_}
+use lib.IntN.{ℤ, pos, subℕ, _+ℤ_}
 use borrow.Author.Tests.{eqb-true, eqb-false}
 use lib.Dec.{T, lit≤, lit<}
 use lib.Signed.{mag}
