@@ -12,7 +12,11 @@ mod rounds;
 fn has_digits(x: f64) -> bool
     ensures { λ r. ⌜ r ≡ positive x ⌝ }
 {
-    (0.0 < x) & (x < 1.0 / 0.0)
+    if 0.0 < x {
+        f64::to_bits(x) < 0x7ff0_0000_0000_0000
+    } else {
+        false
+    }
 }
 
 // The root of any other number: of a zero that zero, else a NaN.
