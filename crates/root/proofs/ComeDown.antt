@@ -23,6 +23,7 @@ moved w o k = w * 4 ^ (2 * k - o)
 abbrev pub down : ℕ → ℕ → ℕ
 down o k = 4 - 2 * o * boolByte (eqb k 0)
 
+-- what the loop's three numbers are after k rounds
 pub record Stands (w o k left root rest : ℕ) : Type 0 where
   pub left-is : left ≡ moved w o k % 2 ^ 64
   pub root-is : root ≡ rounds k (moved w o k / 2 ^ 64) .root
@@ -37,6 +38,7 @@ starts w o h = record { left-is = rw (none o) (omega arith); root-is = refl; res
 
 -- ---- what comes down
 
+-- round k: how many digits come down, what the rounds before have seen, what comes down, and what is left of the word
 pub record Next (w o k : ℕ) : Type 0 where
   pub few : (2 ≤ down o k) × (down o k ≤ 4)
   pub before : rounds k (moved w o (suc k) / 2 ^ 64 / 16) ≡ rounds k (moved w o k / 2 ^ 64)
@@ -78,10 +80,12 @@ next w (suc (suc o)) k h l = absurd (two o l)
 
 -- ---- a round of the loop
 
+-- how many fewer than four come down
 pub down-le : (o : ℕ) (b : Bool) → o ≤ 1 → 2 * o * boolByte b ≤ 2
 down-le o true l = omega arith
 down-le o false l = omega arith
 
+-- what comes down is below 16
 pub comes-lt : (w o k left root rest : ℕ) → w < 2 ^ 64 → o ≤ 1 → Stands w o k left root rest → left / 2 ^ (64 - down o k) < 16
 comes-lt w o k left root rest h l s =
     subst (λ (y : ℕ). y < 16) (next w o k h l .four ∙ ap (λ (y : ℕ). y / 2 ^ (64 - down o k)) (sym (s .left-is))) (last-four (moved w o (suc k) / 2 ^ 64))
@@ -93,7 +97,7 @@ comes-lt w o k left root rest h l s =
 abbrev pub from : (o k left rest : ℕ) → ℕ
 from o k left rest = 16 * rest + left / 2 ^ (64 - down o k)
 
--- d is the digit that is found
+-- after the round, where d is the digit that it finds
 pub again : (w o k left root rest d : ℕ) → w < 2 ^ 64 → o ≤ 1 → Stands w o k left root rest → let next = from o k left rest in d ≡ greatest 3 root next → Stands w o (suc k) (left * 2 ^ down o k % 2 ^ 64) (4 * root + d) (next - d * (8 * root + d))
 unfolding rounds found
 again w o k left root rest d h l s e =
