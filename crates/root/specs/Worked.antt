@@ -91,3 +91,20 @@ of-2-nearest = refl
 of-2-together : toBits binary64 (number 53 6369051672525773 (negsuc 51)) ≡ 0x3ff6_a09e_667f_3bcd
 unfolding number size odd toBits
 of-2-together = refl
+
+-- at 24 digits, which is even, X is 2 ^ 47, and the first round brings down four
+of-2-rounds-single : allRounds 12 0x8000_0000_0000 ≡
+    row 8 2 2 4 ∷
+    row 64 3 11 7 ∷
+    row 112 1 45 23 ∷
+    row 368 1 181 7 ∷
+    row 112 0 724 112 ∷
+    row 1792 0 2896 1792 ∷
+    row 28672 1 11585 5503 ∷
+    row 88048 0 46340 88048 ∷
+    row 1408768 3 185363 296599 ∷
+    row 4745584 3 741455 296863 ∷
+    row 4749808 0 2965820 4749808 ∷
+    row 75996928 3 11863283 4817239 ∷ []
+unfolding allRounds rounds found greatest
+of-2-rounds-single = refl
