@@ -1,5 +1,5 @@
--- Two steps of `floorRoot` are one round: the digit 0 to 3 that the two digits make is the greatest whose subtrahend fits, since (4 * r + d) ^ 2 is 16 * r * r and
--- that subtrahend. So k rounds give the whole part of the root, and what is left beside its square. Nothing here is about a width or a format.
+-- Two steps of `floorRoot` are one round: both give the whole part of the root, and there is one. For the round, since (4 * r + d) ^ 2 is 16 * r * r and the subtrahend
+-- of d, so that the greatest digit that fits has the greatest such square up to x. Nothing here is about a width or a format.
 use mathlib.Core.Path.{_≡_, refl, sym, ap, _∙_, subst}
 use Prim.Native.Nat.{ℕ, zero, suc, _+_, _-_, _*_, _/_, _%_, _^_, _≤_, _<_}
 use native.Mathlib.Nat.{lt-of-not-le, mul-add, add-mul, mul-comm, mul-assoc, mul-left-comm, div-lt-iff-lt-mul, pow-suc}
