@@ -4,15 +4,12 @@ use Prim.Native.Nat.{ℕ, zero, suc, _+_, _-_, _*_, _/_, _%_, _^_, _≤_, _<_}
 use native.Mathlib.Nat.{lt-of-lt-of-le, lt-of-le-of-lt, mul-le-mul-right, suc-mul}
 use native.Mathlib.Omega.{arith}
 use mathlib.Core.Bool.{Bool, true, false}
-use lib.Dec.{eqb}
+use lib.Dec.{T, eqb, lit≤, lit<}
 use lib.IntN.{ℤ, pos, subℕ, _+ℤ_}
 use borrow.Author.Tests.{eqb-true, eqb-false}
-use lib.Dec.{T, lit≤, lit<}
-use lib.Signed.{mag}
 use mir.Syntax.{w64}
 use mir.Val.{toZ, ofZ}
-use lib.Ieee.{fits}
-use lib.Ieee.{Float, Format, binary32, binary64, prec, low, size, hid, ones, ofBits}
+use lib.Ieee.{Float, Format, binary32, binary64, prec, low, size, hid, ones, fits, ofBits}
 use lib.Ieee.Bits.{ofBits-fits}
 use lib.Ieee.Digits.{size-le}
 use lib.Ieee.Exact.{HasValue, odd-sign}
@@ -139,7 +136,15 @@ unpack f b p h = go (eqb (b / hid f) 0) refl
         some-field zero h = absurd (h refl)
         some-field (suc x) h = omega arith
 
--- digits and exponents that are written so are ones that the root takes
+-- digits and exponents that are written so are small, and ones that the root takes
+lowest : (f : Format) → low f ≤ 4096
+lowest binary32 = lit≤ tt
+lowest binary64 = lit≤ tt
+
+highest : (f : Format) (k : ℕ) → suc k < ones f → k ≤ 4096
+highest binary32 k h = omega arith
+highest binary64 k h = omega arith
+
 pub ranged : (f : Format) (q k : ℕ) → 0 < q → q < 2 ^ prec f → suc k < ones f → Ranged (placed f q k) (prec f)
 ranged f q k Q B K =
     record {
@@ -150,7 +155,7 @@ ranged f q k Q B K =
       k = k;
       l = low f;
       exponent = refl;
-      above = small f K;
+      above = highest f k K;
       below = lowest f;
       room = wide f;
     }
@@ -159,54 +164,47 @@ ranged f q k Q B K =
     short binary32 = lit≤ tt
     short binary64 = lit≤ tt
 
-    lowest : (f : Format) → low f ≤ 4096
-    lowest binary32 = lit≤ tt
-    lowest binary64 = lit≤ tt
-
-    small : (f : Format) → suc k < ones f → k ≤ 4096
-    small binary32 h = omega arith
-    small binary64 h = omega arith
+-- such an exponent is read back from its bits
+pub placed-back : (f : Format) (k : ℕ) → suc k < ones f → toZ w64 (ofZ w64 (subℕ k (low f))) ≡ subℕ k (low f)
+placed-back f k h = read-back (subℕ k (low f)) (lt-of-le-of-lt (sub-mag k (low f) 4096 (highest f k h) (lowest f)) (lit< tt))
 
 -- ---- the bias taken off and put on
 
 pub bias-back : (i l : ℕ) → subℕ i l +ℤ pos l ≡ pos i
 bias-back i l = plus-nat i l l ∙ sub-pos (i + l) l (omega arith) ∙ ap pos (omega arith)
 
--- ---- from bits to bits at binary64
+-- ---- from bits to bits
 
 -- what `root_bits` hands on to be put together for the number with the pattern b, where X is scaled in x and r is its root: an exponent that is read back from its bits,
 -- and parts that are the root's
-pub record Handed (b : ℕ) (x : Parts) (r : ℕ) : Type 0 where
+pub record Handed (f : Format) (b : ℕ) (x : Parts) (r : ℕ) : Type 0 where
   pub back : toZ w64 (ofZ w64 (x .exponent)) ≡ x .exponent
-  pub packable : Packable binary64 r (x .exponent)
-  pub root : number 53 r (x .exponent) ≡ rootOf binary64 (ofBits binary64 b)
+  pub packable : Packable f r (x .exponent)
+  pub root : number (prec f) r (x .exponent) ≡ rootOf f (ofBits f b)
 
-module _ (b : ℕ) (p : 0 < b) (l : b < ones binary64 * hid binary64) where
-  u : Unpacked binary64 b
-  u = unpack binary64 b p l
+module _ (f : Format) (b : ℕ) (p : 0 < b) (l : b < ones f * hid f) where
+  u : Unpacked f b
+  u = unpack f b p l
 
-  pub apart-ranged : Ranged (unpacked binary64 b) 53
-  apart-ranged = subst (λ (y : Parts). Ranged y 53) (sym (u .is)) (ranged binary64 (u .q) (u .k) (u .some) (u .few) (u .middle))
+  pub apart-ranged : Ranged (unpacked f b) (prec f)
+  apart-ranged = subst (λ (y : Parts). Ranged y (prec f)) (sym (u .is)) (ranged f (u .q) (u .k) (u .some) (u .few) (u .middle))
 
-  pub handed : (x : Parts) → Scaled 53 (unpacked binary64 b) x → (r : ℕ) → r ≡ nearRoot 53 (x .digits * 4 ^ 53 / 2 ^ 64) → Handed b x r
+  pub handed : (x : Parts) → Scaled (prec f) (unpacked f b) x → (r : ℕ) → r ≡ nearRoot (prec f) (x .digits * 4 ^ prec f / 2 ^ 64) → Handed f b x r
   handed x s r e =
       record {
-        back = read-back (x .exponent) (subst (λ (z : ℤ). mag z < 2 ^ 63) (sym exponent-w) (lt-of-le-of-lt (sub-mag w 1074 4096 (omega (arith, w-small)) (omega arith)) (lit< tt)));
-        packable = subst (λ (z : ℤ). Packable binary64 r z) (sym exponent-w) (subst (λ (y : ℕ). Packable binary64 y (subℕ w 1074)) (sym root-w) (packs binary64 (u .q) (u .k) (u .some) (u .few) (u .middle)));
-        root = ap (λ (z : ℤ). number 53 r z) exponent-w ∙ ap (λ (y : ℕ). number 53 y (subℕ w 1074)) root-w ∙ number-at binary64 (u .q) (u .k) (u .some) (u .few) (ofBits binary64 b) (ofBits-fits binary64 b) (u .value);
+        back = subst (λ (z : ℤ). toZ w64 (ofZ w64 z) ≡ z) (sym exponent-w) (placed-back f w (weight-small f (u .q) (u .k) (u .some) (u .few) (u .middle)));
+        packable = subst (Packable f r) (sym exponent-w) (subst (λ (y : ℕ). Packable f y (subℕ w (low f))) (sym root-w) (packs f (u .q) (u .k) (u .some) (u .few) (u .middle)));
+        root = ap (number (prec f) r) exponent-w ∙ ap (λ (y : ℕ). number (prec f) y (subℕ w (low f))) root-w ∙ number-at f (u .q) (u .k) (u .some) (u .few) (ofBits f b) (ofBits-fits f b) (u .value);
       }
     where
       w : ℕ
-      w = weight binary64 (u .q) (u .k) (u .some) (u .few)
+      w = weight f (u .q) (u .k) (u .some) (u .few)
 
-      w-small : suc w < ones binary64
-      w-small = weight-small binary64 (u .q) (u .k) (u .some) (u .few) (u .middle)
-
-      exponent-w : x .exponent ≡ subℕ w 1074
-      exponent-w = s .exponent ∙ ap (λ (y : Parts). rootExponent 53 (y .digits) (y .exponent)) (u .is) ∙ exponent-at binary64 (u .q) (u .k) (u .some) (u .few)
+      exponent-w : x .exponent ≡ subℕ w (low f)
+      exponent-w = s .exponent ∙ ap (λ (y : Parts). rootExponent (prec f) (y .digits) (y .exponent)) (u .is) ∙ exponent-at f (u .q) (u .k) (u .some) (u .few)
 
       exact : (n y : ℕ) → n ≡ y * 2 ^ 64 → n / 2 ^ 64 ≡ y
       exact n y h = omega arith
 
-      root-w : r ≡ nearRoot 53 (whole binary64 (u .q) (u .k) (u .some) (u .few))
-      root-w = e ∙ ap (nearRoot 53) (exact _ _ (s .whole) ∙ ap (λ (y : Parts). scaled 53 (y .digits) (y .exponent)) (u .is) ∙ whole-at binary64 (u .q) (u .k) (u .some) (u .few))
+      root-w : r ≡ nearRoot (prec f) (whole f (u .q) (u .k) (u .some) (u .few))
+      root-w = e ∙ ap (nearRoot (prec f)) (exact _ _ (s .whole) ∙ ap (λ (y : Parts). scaled (prec f) (y .digits) (y .exponent)) (u .is) ∙ whole-at f (u .q) (u .k) (u .some) (u .few))

@@ -1,7 +1,7 @@
 -- `root::has_digits` meets its contract: what is above zero is an infinity, or its pattern lies below the infinity's.
 use mathlib.Core.Path.{_≡_, refl, sym, _∙_, subst}
 use mathlib.Core.Logic.{_⊎_, inl, inr}
-use mathlib.Core.Bool.{Bool, true, false, not, false≢true}
+use mathlib.Core.Bool.{true, false, not, false≢true}
 use Prim.Native.Nat.{zero, suc, _*_}
 use native.Mathlib.Nat.{zero-mul, mul-one, mul-pos, zero-lt-suc}
 use borrow.Author.Tests.{lt-ltb}

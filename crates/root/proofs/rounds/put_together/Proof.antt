@@ -1,9 +1,8 @@
 -- `root::rounds::put_together` meets its contract: the exponent with its bias is a natural number.
 use Prim.Native.Nat.{ℕ, _+_, _*_, _^_, _<_}
-use native.Mathlib.Nat.{lt-of-le-of-lt}
 use native.Mathlib.Omega.{arith}
 use mathlib.Core.Path.{_≡_, sym, ap, _∙_, subst}
-use lib.Dec.{T, lit<}
+use lib.Dec.{T}
 use lib.IntN.{ℤ, pos, natAbs, _+ℤ_}
 use lib.Signed.{mag, nonNeg}
 use lib.Ieee.{binary64}
@@ -11,8 +10,8 @@ use mir.Syntax.{w64}
 use mir.Val.{toZ, ofZ}
 use Rattle.root.specs.Root.{number}
 use Rattle.root.specs.Of.{Written}
-use Rattle.root.proofs.Whole.{sub-mag, read-back, cast-up}
-use Rattle.root.proofs.Written.{packed, bias-back}
+use Rattle.root.proofs.Whole.{read-back, cast-up}
+use Rattle.root.proofs.Written.{packed, placed-back, bias-back}
 use Rattle.root.proofs.rounds.put_together.Statement.{statement}
 use Rattle.root.proofs.rounds.put_together.Tie as tie
 
@@ -25,9 +24,7 @@ module _ (s : tie.Start) where
   pattern = subst (λ (z : ℤ). Written binary64 (w * 2 ^ 52 + s .args .digits) (number 53 (s .args .digits) z)) (sym (s .pre .is)) (packed binary64 (s .args .digits) w (s .pre .leading) (s .pre .few) (s .pre .middle))
 
   back : toZ w64 (ofZ w64 (s .args .exponent)) ≡ s .args .exponent
-  back =
-      read-back (s .args .exponent)
-      (subst (λ (z : ℤ). mag z < 2 ^ 63) (sym (s .pre .is)) (lt-of-le-of-lt (sub-mag w 1074 4096 (omega (arith, s .pre .middle)) (omega arith)) (lit< tt)))
+  back = subst (λ (z : ℤ). toZ w64 (ofZ w64 z) ≡ z) (sym (s .pre .is)) (placed-back binary64 w (s .pre .middle))
 
   -- the exponent with its bias
   abbrev biased : ℤ

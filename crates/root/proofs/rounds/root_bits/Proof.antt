@@ -13,16 +13,16 @@ take-apart-requires : tie.Need-take-apart-requires
 take-apart-requires c κs = search needs
 
 scale-requires : tie.Need-scale-requires
-scale-requires c κs = let s = c .before in subst (λ (x : Parts). Ranged x 53) (sym (c .take-apart .ensures)) (apart-ranged (s .args .bits) (s .pre .0) (s .pre .1))
+scale-requires c κs = let s = c .before in subst (λ (x : Parts). Ranged x 53) (sym (c .take-apart .ensures)) (apart-ranged binary64 (s .args .bits) (s .pre .0) (s .pre .1))
 
 rounds-requires : tie.Need-rounds-requires
 rounds-requires c κs = search needs
 
-parts : (c : tie.After-rounds) → Handed (c .before .before .before .args .bits) (c .before .scale .result) (c .rounds .result)
+parts : (c : tie.After-rounds) → Handed binary64 (c .before .before .before .args .bits) (c .before .scale .result) (c .rounds .result)
 parts c =
     let s = c .before .before .before in
     let x = c .before .scale in
-    handed (s .args .bits) (s .pre .0) (s .pre .1) (x .result) (subst (λ (y : Parts). Scaled 53 y (x .result)) (c .before .before .take-apart .ensures) (x .ensures)) (c .rounds .result) (c .rounds .ensures)
+    handed binary64 (s .args .bits) (s .pre .0) (s .pre .1) (x .result) (subst (λ (y : Parts). Scaled 53 y (x .result)) (c .before .before .take-apart .ensures) (x .ensures)) (c .rounds .result) (c .rounds .ensures)
 
 put-together-requires : tie.Need-put-together-requires
 put-together-requires c κs = let h = parts (c .before) in subst (Packable binary64 (c .before .rounds .result)) (sym (h .back)) (h .packable)
