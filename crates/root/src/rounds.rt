@@ -59,7 +59,7 @@ pub(crate) fn rounds(mut left: u64, precision: u64) -> u64
     nearest(root, rest)
 }
 
-// The root, or the next number where more is left than the root.
+// The root, or the next number where the rest is more than the root.
 pub(crate) fn nearest(root: u64, rest: u64) -> u64
     requires { ⌜ root < 2 ^ 63 ⌝ }
     ensures { λ r. ⌜ r ≡ cond (ltb root rest) (root + 1) root ⌝ }

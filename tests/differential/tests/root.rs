@@ -1,5 +1,6 @@
-//! The linked root on both sides of each of its conditions, bit for bit the processor's, and 13 where there is none. Subnormal numbers go by the rounds, all others
-//! by a guess that is confirmed.
+//! The linked root on both sides of each edge between kinds of number (zero, subnormal, normal, infinity, NaN) and beside
+//! squares: bit for bit the processor's, and 13 where there is none. Subnormal numbers go by the rounds, all others by a
+//! guess that is confirmed.
 
 use lictor::{fmath::sqrt, Refusal};
 
@@ -13,8 +14,17 @@ fn held(bits: u64) {
 #[test]
 fn what_has_no_digits() {
     for sign in [0, 1 << 63] {
-        // zero and the least number; the largest and the infinity; the first NaN, the last of its half, the first quiet one, the last
-        for bits in [0, 1, 0x7fef_ffff_ffff_ffff, 0x7ff0_0000_0000_0000, 0x7ff0_0000_0000_0001, 0x7ff7_ffff_ffff_ffff, 0x7ff8_0000_0000_0000, 0x7fff_ffff_ffff_ffff] {
+        // zero, the least number, the largest, the infinity; the first NaN, the last signalling one, the first quiet one, the last
+        for bits in [
+            0,
+            1,
+            0x7fef_ffff_ffff_ffff,
+            0x7ff0_0000_0000_0000,
+            0x7ff0_0000_0000_0001,
+            0x7ff7_ffff_ffff_ffff,
+            0x7ff8_0000_0000_0000,
+            0x7fff_ffff_ffff_ffff,
+        ] {
             held(sign | bits);
         }
     }
@@ -40,7 +50,7 @@ fn from_subnormal_to_normal_and_odd_and_even_exponents() {
 
 #[test]
 fn beside_squares() {
-    for root in (1..4096).chain((1 << 26) - 2048..1 << 26) {
+    for root in (1_u64..4096).chain((1 << 26) - 2048..1 << 26) {
         let square = ((root * root) as f64).to_bits();
         for bits in square - 2..=square + 2 {
             held(bits);
