@@ -18,7 +18,7 @@ struct guard {
     double slacks[64];
 };
 
-/* what was measured and what was planned at a tick; this arm has no camera */
+/* what was measured and what was planned at tick t, numbered from 1; this arm has no camera */
 struct measured {
     uint32_t t;
     double pos[2], vel[2];
@@ -94,11 +94,11 @@ int main(void) {
         return 1;
     }
     if (refused("the configuration", configure(&g))) return 1;
-    for (uint32_t t = 0; t < 6; t++) {
+    for (uint32_t t = 1; t <= 6; t++) {
         double rows[8] = {0.0}, row[2];
-        struct measured m = {t, {pos[t], 0.0}, {vel[t], 0.0}, {rows, 8, t, t, 4, 2, 1}};
+        struct measured m = {t, {pos[t - 1], 0.0}, {vel[t - 1], 0.0}, {rows, 8, t, t, 4, 2, 1}};
         const char *deed = "";
-        for (int i = 0; i < 4; i++) rows[2 * i] = first[t] + step[t] * i;
+        for (int i = 0; i < 4; i++) rows[2 * i] = first[t - 1] + step[t - 1] * i;
         uint64_t number = tick(&g, &m, &deed, row);
         if (number == LICTOR_ACCEPTED) {
             printf("tick %u: %s %g %g\n", (unsigned)t, deed, row[0], row[1]);

@@ -36,10 +36,10 @@
 /* ---- the version of this file, and so of the archive that it was installed with */
 
 #define LICTOR_VERSION_MAJOR 0
-#define LICTOR_VERSION_MINOR 1
+#define LICTOR_VERSION_MINOR 2
 #define LICTOR_VERSION_PATCH 0
-#define LICTOR_VERSION "0.1.0"
-/* for comparisons: LICTOR_VERSION_NUMBER >= 100 is 0.1.0 or later */
+#define LICTOR_VERSION "0.2.0"
+/* for comparisons: LICTOR_VERSION_NUMBER >= 200 is 0.2.0 or later */
 #define LICTOR_VERSION_NUMBER (LICTOR_VERSION_MAJOR * 10000 + LICTOR_VERSION_MINOR * 100 + LICTOR_VERSION_PATCH)
 
 /* ---- what a compiler is told: a result that is dropped and a null pointer are mistakes */
@@ -454,7 +454,8 @@ uint64_t lictor_trip(const double center[192], const double scale[192], double t
                      const uint32_t terms[8], const struct lictor_scores *scores, const struct lictor_marks *marks,
                      uint64_t *trips);
 
-/* The time bin of tick t, of 16 over the horizon. LICTOR_STEPS for a horizon of 0 ticks. */
+/* The time bin of tick t, of 16 over the horizon: (t - 1) x 16 / horizon_ticks rounded down, at most 15. Ticks are numbered from 1;
+   tick 0, which has no chunk, is in bin 0 too. LICTOR_STEPS for a horizon of 0 ticks. */
 LICTOR_MUST_USE LICTOR_NOT_NULL
 uint64_t lictor_time_bin(uint32_t t, uint32_t horizon_ticks, uint64_t *bin);
 

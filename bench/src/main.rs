@@ -75,6 +75,7 @@ fn main() {
     features(&port, true);
     features(&port, false);
     gate(&port);
+    time_bin(&port);
     tick(&port);
     judging(&port);
 }
@@ -241,6 +242,13 @@ fn gate(port: &Port) {
         })
     });
     line("standardise and aggregate", 1000, Some(rust), ported);
+}
+
+/// The Rust numbers ticks from 0, and is asked for the tick before.
+fn time_bin(port: &Port) {
+    let rust = calls(1000, || rust::bin_of(black_box(42), black_box(300), 16));
+    let ported = port.time_bin.map(|_| calls(1000, || lictor::conformal::time_bin(black_box(43), black_box(300))));
+    line("time bin", 1000, Some(rust), ported);
 }
 
 /// A whole control tick: the position recorded, the chunk scored and gated, checked, its forecast of 4,096 substeps, and the row

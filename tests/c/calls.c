@@ -368,8 +368,12 @@ static void gate(void) {
     EXPECT(lictor_trip(center, scale, INFINITY, 3, 2, terms, &s, &m, &trips) == LICTOR_MISFIT && trips == 1);
     m.fired = 0, m.valid = UINT64_C(1) << 32;
     EXPECT(lictor_aggregate(center, scale, 2.0, 3, 2, terms, &s, &m) == LICTOR_MISFIT && s.s == -INFINITY);
-    EXPECT(lictor_time_bin(13, 200, &bin) == LICTOR_ACCEPTED && bin == 1);
-    EXPECT(lictor_time_bin(13, 0, &bin) == LICTOR_STEPS && bin == 1);
+    EXPECT(lictor_time_bin(14, 200, &bin) == LICTOR_ACCEPTED && bin == 1);
+    EXPECT(lictor_time_bin(14, 0, &bin) == LICTOR_STEPS && bin == 1);
+    EXPECT(lictor_time_bin(13, 200, &bin) == LICTOR_ACCEPTED && bin == 0);
+    EXPECT(lictor_time_bin(200, 200, &bin) == LICTOR_ACCEPTED && bin == 15);
+    EXPECT(lictor_time_bin(0, 200, &bin) == LICTOR_ACCEPTED && bin == 0);
+    EXPECT(lictor_time_bin(UINT32_MAX, UINT32_MAX, &bin) == LICTOR_ACCEPTED && bin == 15);
 }
 
 int main(void) {

@@ -239,7 +239,7 @@ static void words(void) {
         for (uint64_t j = 0; known && j < i; j++) EXPECT(strcmp(lictor_refusal_text(i), lictor_refusal_text(j)) != 0);
     }
     snprintf(version, sizeof version, "%d.%d.%d", LICTOR_VERSION_MAJOR, LICTOR_VERSION_MINOR, LICTOR_VERSION_PATCH);
-    EXPECT(strcmp(version, LICTOR_VERSION) == 0 && LICTOR_VERSION_NUMBER >= 100);
+    EXPECT(strcmp(version, LICTOR_VERSION) == 0 && LICTOR_VERSION_NUMBER >= 200);
 }
 
 int main(void) {

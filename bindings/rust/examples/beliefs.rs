@@ -45,7 +45,7 @@ fn main() -> Result<(), Refusal> {
     assert_eq!(longer.trips, trip::SPEED);
 
     // The forecast inspects where the arm stands now? It stands a metre outside the box, and the forecast is feasible.
-    let rows = ChunkView::new(0, 0, 2, 1, &[0.0, 0.0]);
+    let rows = ChunkView::new(0, 1, 2, 1, &[0.0, 0.0]);
     let told = brake::brake_feasible(&arm, &[2.0, 0.0], &origin, rows, 0, &mut [0.0; 4])?;
     assert!(told.feasible);
     println!("none of the four beliefs holds");

@@ -24,7 +24,7 @@ struct Guard {
     slacks: [f64; 64],
 }
 
-/// What was measured, and where in the episode; this arm has no camera.
+/// What was measured at tick `t`, numbered from 1; this arm has no camera.
 struct Measured<'a> {
     t: u32,
     pos: &'a [f64],
@@ -108,7 +108,7 @@ fn main() -> Answer<()> {
         (straight(0.75, 0.0), [0.25, 0.0], 0.0),
         (straight(0.25, 0.0), [f64::NAN, 0.0], 0.0),
     ];
-    for (t, (data, pos, vel)) in (0..).zip(&plans) {
+    for (t, (data, pos, vel)) in (1..).zip(&plans) {
         let measured = Measured { t, pos, vel: &[*vel, 0.0] };
         let planned = ChunkView::new(t, t, 2, 1, data);
         match guard.tick(&measured, planned) {

@@ -32,7 +32,7 @@ pub struct BrakeOut {
 /// # let builder = Config::builder().axes(1).dt(1.0).v_max(1.0).a_max(9.0).j_max(9.0).reach_max(99.0).brake(brake);
 /// use lictor::{brake::brake_feasible, chunk::ChunkView, Refusal};
 /// let config = builder.walls([-1.0; 8], [1.0; 8]).build()?;
-/// let (planned, mut slacks) = (ChunkView::new(0, 0, 1, 1, &[1.0]), [0.0; 4]);
+/// let (planned, mut slacks) = (ChunkView::new(0, 1, 1, 1, &[1.0]), [0.0; 4]);
 /// let forecast = brake_feasible(&config, &[0.0], &[0.0], planned, 0, &mut slacks)?;
 /// assert_eq!((forecast.count, forecast.feasible, forecast.margin), (4, false, -0.25));
 /// assert_eq!(slacks[0], 0.5);

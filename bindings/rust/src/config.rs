@@ -303,13 +303,13 @@ impl Config {
         }
     }
 
-    /// The time bin of tick `t` in an episode of the configuration's `horizon_ticks`.
+    /// The time bin of tick `t`, numbered from 1, in an episode of the configuration's `horizon_ticks`.
     ///
     /// ```
     /// # use lictor::{config::{Config, ConfigBuilder, FuseConfig}, Refusal};
     /// let of = |horizon_ticks| Config::unjudged(&FuseConfig { horizon_ticks, ..ConfigBuilder::START });
-    /// assert_eq!(of(200).time_bin(13), Ok(1));
-    /// assert_eq!(of(0).time_bin(13), Err(Refusal::Steps));
+    /// assert_eq!(of(200).time_bin(14), Ok(1));
+    /// assert_eq!(of(0).time_bin(14), Err(Refusal::Steps));
     /// ```
     ///
     /// # Errors

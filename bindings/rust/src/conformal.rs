@@ -159,10 +159,12 @@ pub fn trip(cal: &Calibration, sc: &Scores) -> Answer<bool> {
     given(number, trips == 1)
 }
 
-/// The time bin of tick `t`, of 16 over the horizon.
+/// The time bin of tick `t`, of 16 over the horizon: (t - 1) x 16 / `horizon_ticks` rounded down, at most 15. Ticks are numbered
+/// from 1; tick 0, which has no chunk, is in bin 0 too.
 ///
 /// ```
-/// assert_eq!(lictor::conformal::time_bin(13, 200), Ok(1));
+/// # use lictor::conformal::time_bin;
+/// assert_eq!([0, 1, 13, 14, 200].map(|t| time_bin(t, 200)), [Ok(0), Ok(0), Ok(0), Ok(1), Ok(15)]);
 /// ```
 ///
 /// # Errors

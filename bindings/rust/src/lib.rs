@@ -22,7 +22,7 @@
 //!     .brake(brake)
 //!     .build()?;
 //! // can the arm, which stands still at 0, follow one row to 1 and still stop inside its box?
-//! let planned = ChunkView::new(0, 0, 1, 1, &[1.0]);
+//! let planned = ChunkView::new(0, 1, 1, 1, &[1.0]);
 //! let forecast = brake::brake_feasible(&config, &[0.0], &[0.0], planned, 0, &mut [0.0; 4])?;
 //! assert!(forecast.feasible);
 //! assert_eq!((forecast.margin, forecast.stop_dist), (0.75, 1.25));

@@ -36,7 +36,7 @@ impl Tier0Out {
 /// use lictor::{chunk::ChunkView, config::trip, tier0};
 /// let config = builder.v_max(5.0).armed(trip::SPEED).build()?; // a step of 5
 /// let mut out = [0.0; 2];
-/// let found = tier0::check_chunk(&config, &[0.0, 0.0], &[], ChunkView::new(0, 0, 2, 1, &[6.0, 8.0]), &mut out)?;
+/// let found = tier0::check_chunk(&config, &[0.0, 0.0], &[], ChunkView::new(0, 1, 2, 1, &[6.0, 8.0]), &mut out)?;
 /// assert_eq!((found.trips, found.peak_speed), (trip::SPEED, 10.0));
 /// assert!(out[0] < 3.0 && 2.999 < out[0]); // pulled back to a step just below 5
 /// # Ok::<(), lictor::Refusal>(())

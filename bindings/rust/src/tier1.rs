@@ -107,7 +107,7 @@ struct Parts<'a> {
 /// use lictor::{chunk::ChunkView, conformal::{feature, Scores}, tier1::{features, Tier1}};
 /// let config = builder.build()?;
 /// let (mut state, mut scores) = (Tier1::new(), Scores::default());
-/// let planned = ChunkView::new(0, 0, 1, 1, &[2.0, 3.0, 4.0, 5.0]);
+/// let planned = ChunkView::new(0, 1, 1, 1, &[2.0, 3.0, 4.0, 5.0]);
 /// features(&config, &mut state, &[0.0], &[9.0], Some(planned), &mut scores)?;
 /// assert_eq!(scores.f[feature::REACH], 2.0);
 /// assert_eq!(scores.f[feature::EXT0], 9.0);

@@ -127,7 +127,7 @@ fn kind_clamp_and_armed_come_to_the_library() {
 fn the_calibration_is_handed_over_once() {
     let config = arm().calibration(CALIBRATION, 200).build().unwrap();
     assert_eq!(config.calibration(), Some(&CALIBRATION));
-    assert_eq!(config.time_bin(13), conformal::time_bin(13, 200));
+    assert_eq!(config.time_bin(14), conformal::time_bin(14, 200));
     let mut scores = Scores { valid: 1, ..Scores::default() };
     scores.f[0] = 3.0;
     conformal::standardise(config.calibration().unwrap(), 0, &mut scores).unwrap();

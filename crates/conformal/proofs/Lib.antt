@@ -1,3 +1,4 @@
 pub mod Turns
 pub mod Picked
+pub mod Bins
 pub mod Promises

@@ -57,5 +57,9 @@ tripped cal t sc = verdict (judged cal t sc true) (trips (cal .tau) (sc .s))
 abbrev pub binned : ℕ → ℕ → TimeBin
 binned n bin = if eqb n 0 then Bin bin else NoBin (refusedFor n)
 
+-- a bin on a horizon, which has to have ticks
+abbrev pub onHorizon : ℕ → ℕ → TimeBin
+onHorizon horizon bin = binned (refusal ((steps when eqb horizon 0) ∷ [])) bin
+
 unfoldable pub timeBinOf : ℕ → ℕ → TimeBin
-timeBinOf t horizon = binned (refusal ((steps when eqb horizon 0) ∷ [])) (binAt t horizon)
+timeBinOf t horizon = onHorizon horizon (binAt t horizon)

@@ -4,3 +4,4 @@ pub mod Refusals
 pub mod Answer
 pub mod Of
 pub mod Promises
+pub mod Worked

@@ -1,5 +1,6 @@
--- What the gate promises beyond its rules: what s is, that an empty term is never live, and what fired says. The proof is `proofs/Promises.promised`.
-use Prim.Native.Nat.{ℕ, _<_, _≤_}
+-- What the gate promises beyond its rules: what s is, that an empty term is never live, what fired says, and which ticks a time bin has. The proof is
+-- `proofs/Promises.promised`.
+use Prim.Native.Nat.{ℕ, _+_, _*_, _/_, _<_, _≤_, min}
 use mathlib.Core.Path.{_≡_}
 use mathlib.Core.Bool.{Bool, true, false, not, _&&_}
 use mathlib.Core.Logic.{_⊎_}
@@ -8,8 +9,10 @@ use lib.Dec.{T}
 use lib.Ieee.{Float, inf, lt, isNan}
 use Rattle.checked.specs.Each.{at}
 use Rattle.bits.specs.Bits.{bit}
-use Rattle.conformal.specs.Rule.{liveTerm, leastOf, termAt, counts, aggregate, firedBits}
+use Rattle.conformal.specs.Rule.{liveTerm, leastOf, termAt, counts, aggregate, firedBits, binAt}
+use Rattle.conformal.specs.Answer.{onHorizon, timeBinOf}
 use Rattle.conformal.specs.declared.GateSpec.{GateSpec}
+use Rattle.conformal.specs.declared.TimeBin.the-variants.{Bin}
 
 -- an index below n of which p and Q hold
 pub record Among (p : ℕ → Bool) (n : ℕ) (Q : ℕ → Type 0) : Type 0 where
@@ -34,6 +37,25 @@ pub record Aggregate (gate : GateSpec) (live : ℕ → Bool) (z : List Float) : 
   pub s-is-attained : Among (counts gate live) 8 (λ (i : ℕ). aggregate gate live z ≡ leastOf z (termAt gate i)) ⊎ (NoneOf (counts gate live) 8 × (aggregate gate live z ≡ inf true))
   pub none-live : NoneOf (counts gate live) 8 → aggregate gate live z ≡ inf true
 
+-- ---- the time bin, over whole numbers
+
+-- the bin where ticks are numbered from 0: t x 16 / horizon_ticks rounded down, at most 15
+abbrev pub fromZero : ℕ → ℕ → ℕ
+fromZero t horizon = min (t * 16 / horizon) 15
+
+pub record TimeBins (horizon : ℕ) : Type 0 where
+  -- every tick has a bin, unless the horizon has no ticks
+  pub answered : (t : ℕ) → 0 < horizon → timeBinOf t horizon ≡ Bin (binAt t horizon)
+  -- tick t + 1 is answered as tick t is where ticks are numbered from 0, and tick 0 as tick 1
+  pub one-later : (t : ℕ) → timeBinOf (t + 1) horizon ≡ onHorizon horizon (fromZero t horizon)
+  pub tick-0 : timeBinOf 0 horizon ≡ timeBinOf 1 horizon
+  -- a later tick is in no earlier bin, and no bin is above 15
+  pub never-decreases : (t u b c : ℕ) → t ≤ u → timeBinOf t horizon ≡ Bin b → timeBinOf u horizon ≡ Bin c → b ≤ c
+  pub at-most-15 : (t b : ℕ) → timeBinOf t horizon ≡ Bin b → b ≤ 15
+  -- rounded down: with t ticks over, b sixteenths of the horizon are over, and b + 1 are not unless b is the last bin
+  pub begun : (t b : ℕ) → timeBinOf (t + 1) horizon ≡ Bin b → b * horizon ≤ t * 16
+  pub not-ended : (t b : ℕ) → timeBinOf (t + 1) horizon ≡ Bin b → b < 15 → t * 16 < (b + 1) * horizon
+
 pub record Promised : Type 0 where
   -- no feature of a term has a z below the term's least, which in a live term is the z of one of them
   pub least-is-least : (z : List Float) → Numbers z → (term j : ℕ) → j < 12 → bit term j ≡ true → lt (at z j) (leastOf z term) ≡ false
@@ -44,3 +66,4 @@ pub record Promised : Type 0 where
   -- fired has a bit exactly for a live feature with a z above tau
   pub fired-exactly : (live : ℕ → Bool) (tau : Float) (z : List Float) (j : ℕ) → j < 12 → bit (firedBits live tau z) j ≡ (live j && lt tau (at z j))
   pub fired-no-more : (live : ℕ → Bool) (tau : Float) (z : List Float) (j : ℕ) → 12 ≤ j → bit (firedBits live tau z) j ≡ false
+  pub bins : (horizon : ℕ) → TimeBins horizon

@@ -1,8 +1,8 @@
 -- The rules of the gate (R8), over the format: standardise, aggregate, trip and the time bin.
-use Prim.Native.Nat.{ℕ, zero, suc, _+_, _*_, _/_, min}
+use Prim.Native.Nat.{ℕ, zero, suc, _+_, _-_, _*_, _/_, min}
 use mathlib.Core.Bool.{Bool, not, _&&_, _||_, true, false}
 use mathlib.Core.List.{List}
-use lib.Dec.{ltb}
+use lib.Dec.{ltb, eqb}
 use lib.ListN.{getD}
 use lib.Ieee.{Float, Format, inf, lt}
 use Rattle.bits.specs.Choice.{if_then_else_}
@@ -91,6 +91,6 @@ firedBits live tau z = bitsWhere (fires live tau z) 12
 abbrev pub trips : Float → Float → Bool
 trips tau s = lt tau s
 
--- t x 16 / horizon_ticks rounded down, at most 15
+-- ticks are numbered from 1: (t - 1) x 16 / horizon_ticks rounded down, at most 15; t 0, which has no chunk, falls in bin 0
 unfoldable pub binAt : ℕ → ℕ → ℕ
-binAt t horizon = min (t * 16 / horizon) 15
+binAt t horizon = if eqb t 0 then 0 else min ((t - 1) * 16 / horizon) 15

@@ -1,7 +1,7 @@
 // Module 8: scores held against a calibration. Standardise, aggregate over the gate, trip strictly; and the time bin.
 ghost use mathlib.Core.Path.{_≡_};
 ghost use mathlib.Core.Bool.{not};
-ghost use Prim.Native.Nat.{_<_, min};
+ghost use Prim.Native.Nat.{_<_, _-_, min};
 ghost use lib.Ieee.{binary64, isNan};
 ghost use Rattle.bits.specs.Choice.{if_then_else_};
 ghost use Rattle.checked.specs.Least.{lesser, greater};
@@ -384,13 +384,22 @@ pub fn trip(cal: Calibration, center: &[f64; 192], scale: &[f64; 192], scores: S
     }
 }
 
-// The time bin of tick t, of 16 over the horizon; refused for a horizon of 0 ticks.
+// How many ticks are over before tick t, where the first is numbered 1; none before tick 0 either.
+fn ticks_before(t: u32) -> u32
+    ensures { λ r. ⌜ r ≡ t - 1 ⌝ }
+{
+    if t == 0 { 0 } else { t - 1 }
+}
+
+// The time bin of tick t, of 16 over the horizon. Ticks are numbered from 1; tick 0, which has no chunk, is in the first bin too.
+// Refused for a horizon of 0 ticks.
 pub fn time_bin(t: u32, horizon_ticks: u32) -> TimeBin
     ensures { λ r. ⌜ r ≡ timeBinOf t «horizon_ticks» ⌝ }
 {
     if horizon_ticks == 0 {
         return TimeBin::NoBin(Refusal::of(Refusal::STEPS));
     }
-    let bin = (t as u64) * 16 / (horizon_ticks as u64);
+    let before = ticks_before(t);
+    let bin = (before as u64) * 16 / (horizon_ticks as u64);
     TimeBin::Bin(last_bin(bin as usize))
 }

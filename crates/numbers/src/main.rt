@@ -47,6 +47,7 @@ fn line(asked: &[u8], number: u64) {
 fn main() {
     line(b"horizon_ticks 200, t 12: bin ", bin_of(12));
     line(b"horizon_ticks 200, t 13: bin ", bin_of(13));
+    line(b"horizon_ticks 200, t 14: bin ", bin_of(14));
     line(b"horizon_ticks 200, t 200: bin ", bin_of(200));
     line(b"commit 64, brake_steps 0, substeps 64: ", number_of(0));
     line(b"commit 64, brake_steps 1, substeps 64: ", number_of(1));

@@ -519,7 +519,8 @@ pub fn check(port: &Port) -> Result<String, String> {
     };
     let table = table();
     let values: usize = table.iter().map(|c| c.cases.len()).sum();
-    let mut said = format!("edges: {} conditions, {values} values, each answered by the scope document's number", table.len());
+    let mut said =
+        format!("edges: {} conditions, {values} values, each answered by the scope document's number", table.len());
     let mut wrong = Vec::new();
     for (side, judges) in [("model", judges(&model)), ("port", judges(port))] {
         for judge in &judges {

@@ -87,6 +87,27 @@ fn a_trip_on_the_limit() {
     failure(Port { trip: Some(touched), ..Port::default() }, "trip");
 }
 
+/// A time bin made from t and the horizon; a horizon of 0 ticks is refused as ever.
+macro_rules! binned {
+    ($bin:expr) => {
+        |t: u32, horizon_ticks: u32| {
+            let bin: fn(u64, u64) -> u64 = $bin;
+            model::conformal::time_bin(t, horizon_ticks).map(|_| bin(t as u64, horizon_ticks as u64) as usize)
+        }
+    };
+}
+
+#[test]
+fn a_time_bin_beside_the_right_one() {
+    let said = |time_bin| failure(Port { time_bin: Some(time_bin), ..Port::default() }, "time_bin");
+    said(binned!(|t, h| (t * 16 / h).min(15)));
+    said(binned!(|t, h| ((t.max(1) - 1) * 16).div_ceil(h).min(15)));
+    let wrapped = said(binned!(|t, h| ((t as u32).wrapping_sub(1) as u64 * 16 / h).min(15)));
+    assert!(wrapped.contains("counts [15], not [0]") && wrapped.contains("t: 0,"));
+    let too_many = said(binned!(|t, h| ((t.max(1) - 1) * 16 / h).min(16)));
+    assert!(too_many.contains("counts [16], not [15]"));
+}
+
 #[test]
 fn the_leash_to_the_raw_row() {
     let raw = |cfg: &FuseConfig, pos: &[f64], aux: &[f64], ch: ChunkView<'_>, out: &mut [f64]| {

@@ -551,9 +551,20 @@ fn a_configuration_made_by_hand() {
     assert_eq!(checked(&unread, &[0.0], &[], rows(1, &[9.0])), (WORKSPACE, refused(2)));
 }
 
+/// The first of 200 ticks at which the two are in different bins, and the least input at which they are; asked for the tick
+/// before, the Rust is in the port's.
+#[test]
+fn ticks_numbered_from_one() {
+    let rust = |t, horizon_ticks| oracle::rust::bin_of(t, horizon_ticks, BINS as u16);
+    assert_eq!((rust(13, 200), conformal::time_bin(13, 200)), (1, Ok(0)));
+    assert!((0..13).all(|t| Ok(rust(t, 200)) == conformal::time_bin(t, 200)));
+    assert_eq!((rust(1, 1), conformal::time_bin(1, 1)), (15, Ok(0)));
+    assert!((1..=400).all(|t| Ok(rust(t - 1, 200)) == conformal::time_bin(t, 200)));
+}
+
 #[test]
 fn no_ticks_and_a_hundred_bins() {
-    assert_eq!(oracle::time_bin(0, 0), 0);
+    assert_eq!(oracle::rust::bin_of(0, 0, BINS as u16), 0);
     assert_eq!(conformal::time_bin(0, 0), refused(3));
     assert_eq!((oracle::rust::T_GRID, BINS), (100, 16));
 }

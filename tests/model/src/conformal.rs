@@ -48,8 +48,12 @@ pub fn trip(cal: &Calibration, sc: &Scores) -> Result<bool, Refusal> {
     Ok(sc.s > cal.tau)
 }
 
-/// t x 16 / horizon_ticks rounded down, at most 15.
+/// (t - 1) x 16 / horizon_ticks rounded down, at most 15; t 0 falls in bin 0.
 pub fn time_bin(t: u32, horizon_ticks: u32) -> Result<usize, Refusal> {
     judged(&[when(horizon_ticks == 0, STEPS)])?;
-    Ok((t as u64 * BINS as u64 / horizon_ticks as u64).min(BINS as u64 - 1) as usize)
+    let bin = match t {
+        0 => 0,
+        _ => ((t - 1) as u64 * BINS as u64 / horizon_ticks as u64).min(BINS as u64 - 1),
+    };
+    Ok(bin as usize)
 }

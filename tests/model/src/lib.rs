@@ -1,5 +1,5 @@
-//! The scope document's rules and its table of refusals, written from the document and not from the port. Each entry
-//! answers `Result<Answer, Refusal>` and leaves every buffer as the document says. Nothing here is made for speed.
+//! The rules and the table of refusals of the scope document and of the requests after it, written from these and not from the
+//! port. Each entry answers `Result<Answer, Refusal>` and leaves every buffer as they say. Nothing here is made for speed.
 // the rules speak of coordinates by their number
 #![allow(clippy::needless_range_loop)]
 

@@ -72,7 +72,7 @@ fn the_window_and_the_gate() {
 
 #[test]
 fn the_time_bins_and_the_steps() {
-    assert_eq!([12, 13, 200].map(|t| conformal::time_bin(t, 200)), [Ok(0), Ok(1), Ok(15)]);
+    assert_eq!([12, 13, 14, 200].map(|t| conformal::time_bin(t, 200)), [Ok(0), Ok(0), Ok(1), Ok(15)]);
     let mut cfg = card(2.0, 0);
     (cfg.brake.commit, cfg.brake.substeps) = (64, 64);
     assert_eq!(envelope::judge(&cfg), None);

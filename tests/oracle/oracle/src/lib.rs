@@ -17,7 +17,7 @@ pub use compile::{compile, compile_calibrated, compile_with_ticks};
 
 /// The published items themselves.
 pub mod rust {
-    pub use lictor_core::{fmath, ChunkBuf, Feat, FuseConfig, T_GRID};
+    pub use lictor_core::{bin_of, fmath, ChunkBuf, Feat, FuseConfig, T_GRID};
     pub use lictor_detect::{brake, conformal, tier0, tier1, window};
 }
 
@@ -232,8 +232,9 @@ pub fn trip(cal: &Calibration, sc: &Scores) -> bool {
     conformal::trip(&calibration(cal), &carry::scores(sc))
 }
 
+/// The Rust numbers ticks from 0 and the port from 1, so the Rust is asked for t - 1, and for 0 at t 0.
 pub fn time_bin(t: u32, horizon_ticks: u32) -> usize {
-    lictor_core::bin_of(t, horizon_ticks, model::BINS as u16)
+    rust::bin_of(t.saturating_sub(1), horizon_ticks, model::BINS as u16)
 }
 
 #[cfg(test)]
