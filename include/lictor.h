@@ -36,10 +36,10 @@
 /* ---- the version of this file, and so of the archive that it was installed with */
 
 #define LICTOR_VERSION_MAJOR 0
-#define LICTOR_VERSION_MINOR 2
+#define LICTOR_VERSION_MINOR 3
 #define LICTOR_VERSION_PATCH 0
-#define LICTOR_VERSION "0.2.0"
-/* for comparisons: LICTOR_VERSION_NUMBER >= 200 is 0.2.0 or later */
+#define LICTOR_VERSION "0.3.0"
+/* for comparisons: LICTOR_VERSION_NUMBER >= 300 is 0.3.0 or later */
 #define LICTOR_VERSION_NUMBER (LICTOR_VERSION_MAJOR * 10000 + LICTOR_VERSION_MINOR * 100 + LICTOR_VERSION_PATCH)
 
 /* ---- what a compiler is told: a result that is dropped and a null pointer are mistakes */
@@ -84,6 +84,8 @@ enum lictor_refusal {
     LICTOR_STEPS = 3,
     /* the contact's two channels are equal, or one is at or above aux_count */
     LICTOR_CHANNELS = 4,
+    /* a calibration's mask or one of its counted terms has the bit of LICTOR_STALL, which is not computed */
+    LICTOR_WITHDRAWN = 17,
     /* a chunk, in the order of judging: no rows or no width, over 64 rows, over 8 wide, executes more rows than it has, other
        than rows times width numbers */
     LICTOR_EMPTY = 5,
@@ -113,6 +115,7 @@ static inline const char *lictor_refusal_text(uint64_t number) {
     case LICTOR_NUMBER: return "a configuration number is not finite or out of its range";
     case LICTOR_STEPS: return "a count of steps or ticks is out of range";
     case LICTOR_CHANNELS: return "the contact's channels are equal or past the declared ones";
+    case LICTOR_WITHDRAWN: return "the calibration's mask or a counted term names Stall, which is not computed";
     case LICTOR_EMPTY: return "the chunk is empty";
     case LICTOR_TOO_LONG: return "the chunk has too many rows";
     case LICTOR_TOO_WIDE: return "the chunk's rows are too wide";
@@ -322,7 +325,7 @@ struct lictor_derived {
 };
 
 /* Judges a configuration and derives from it. The tables hold feature j of time bin b at b x 12 + j. LICTOR_MISFIT,
-   LICTOR_SIZE, LICTOR_NUMBER, LICTOR_STEPS, LICTOR_CHANNELS. */
+   LICTOR_SIZE, LICTOR_NUMBER, LICTOR_STEPS, LICTOR_CHANNELS, LICTOR_WITHDRAWN. */
 LICTOR_MUST_USE LICTOR_NOT_NULL
 uint64_t lictor_derive(const struct lictor_numbers *numbers, const struct lictor_counts *counts,
                        const double center[192], const double scale[192], struct lictor_derived *derived);
@@ -349,7 +352,7 @@ uint64_t lictor_check_chunk(const struct lictor_numbers *numbers, const struct l
                             size_t out_count, struct lictor_check_marks *marks, double *peak_speed);
 
 /* Checks one action against the one before it, without LICTOR_TRIP_ACCEL and LICTOR_TRIP_JERK. Writes the first dim numbers
-   of out, the marks, and the speed. LICTOR_MISFIT, LICTOR_SIZE to LICTOR_CHANNELS, LICTOR_SHORT to LICTOR_COMPUTED. */
+   of out, the marks, and the speed. LICTOR_MISFIT, LICTOR_SIZE to LICTOR_WITHDRAWN, LICTOR_SHORT to LICTOR_COMPUTED. */
 LICTOR_MUST_USE LICTOR_NOT_NULL
 uint64_t lictor_check_action(const struct lictor_numbers *numbers, const struct lictor_counts *counts,
                              const double center[192], const double scale[192], const double *position,
@@ -359,7 +362,7 @@ uint64_t lictor_check_action(const struct lictor_numbers *numbers, const struct 
 
 /* ---- scores: the features of a tick, and what the gate makes of them */
 
-/* feature bits, by position */
+/* feature bits, by position; LICTOR_STALL is not computed: it is 0.0, never valid, and refused in a calibration (LICTOR_WITHDRAWN) */
 #define LICTOR_TCE 0
 #define LICTOR_ACC 1
 #define LICTOR_ACM_NEG 2
@@ -386,8 +389,8 @@ struct lictor_marks {
 
    A held feature (LICTOR_TCE to LICTOR_SPEED_PEAK) is of the last chunk: LICTOR_TCE and LICTOR_ACC where two of its rows or
    more overlap with those of the chunk before, which was as wide and not emitted later; LICTOR_ACM_NEG of 2 rows or more,
-   LICTOR_NJR of 4; LICTOR_REACH where the position has a coordinate. LICTOR_PATH_INEFF and LICTOR_STALL are of the trail, once it
-   holds 20 samples. LICTOR_EXT0 and those after it are the caller's own. */
+   LICTOR_NJR of 4; LICTOR_REACH where the position has a coordinate. LICTOR_PATH_INEFF is of the trail, once it holds 20
+   samples. LICTOR_EXT0 and those after it are the caller's own. */
 
 struct lictor_held_marks {
     uint64_t have_prev;  /* a flag: 1 where a chunk came before, else 0 */
@@ -435,14 +438,14 @@ uint64_t lictor_features(const struct lictor_numbers *numbers, const struct lict
 /* ---- the gate: scores held against a calibration (its tables, tau, mask of features, and the first n_terms of its terms) */
 
 /* Puts f in units of the calibration, in z; a bin above 15 is 15. LICTOR_MISFIT, LICTOR_SIZE, LICTOR_NUMBER,
-   LICTOR_NOT_FINITE, LICTOR_COMPUTED. */
+   LICTOR_WITHDRAWN, LICTOR_NOT_FINITE, LICTOR_COMPUTED. */
 LICTOR_MUST_USE LICTOR_NOT_NULL
 uint64_t lictor_standardise(const double center[192], const double scale[192], double tau, uint32_t mask,
                             uint8_t n_terms, const uint32_t terms[8], size_t bin, struct lictor_scores *scores,
                             struct lictor_marks *marks);
 
 /* Sets s and fired from z; s is negative infinity where no term is live. LICTOR_MISFIT, LICTOR_SIZE, LICTOR_NUMBER,
-   LICTOR_NOT_FINITE. */
+   LICTOR_WITHDRAWN, LICTOR_NOT_FINITE. */
 LICTOR_MUST_USE LICTOR_NOT_NULL
 uint64_t lictor_aggregate(const double center[192], const double scale[192], double tau, uint32_t mask,
                           uint8_t n_terms, const uint32_t terms[8], struct lictor_scores *scores,
@@ -484,7 +487,7 @@ uint64_t lictor_brake_feasible(const struct lictor_numbers *numbers, const struc
                                struct lictor_forecast_distances *distances, uint64_t *place);
 
 /* The row that brakes, over the first dim numbers of out: the position inside its box, or the velocity ramped down. A position
-   or velocity may be short: what is missing counts as 0. LICTOR_MISFIT, LICTOR_SIZE to LICTOR_CHANNELS, LICTOR_SHORT to
+   or velocity may be short: what is missing counts as 0. LICTOR_MISFIT, LICTOR_SIZE to LICTOR_WITHDRAWN, LICTOR_SHORT to
    LICTOR_COMPUTED. */
 LICTOR_MUST_USE LICTOR_NOT_NULL
 uint64_t lictor_brake_action(const struct lictor_numbers *numbers, const struct lictor_counts *counts,
@@ -493,7 +496,7 @@ uint64_t lictor_brake_action(const struct lictor_numbers *numbers, const struct 
                              size_t out_count);
 
 /* The row that holds, over the first dim numbers of out: the latched position inside its box, or no velocity.
-   LICTOR_MISFIT, LICTOR_SIZE to LICTOR_CHANNELS, LICTOR_SHORT to LICTOR_COMPUTED, the last never at a box. */
+   LICTOR_MISFIT, LICTOR_SIZE to LICTOR_WITHDRAWN, LICTOR_SHORT to LICTOR_COMPUTED, the last never at a box. */
 LICTOR_MUST_USE LICTOR_NOT_NULL
 uint64_t lictor_hold_action(const struct lictor_numbers *numbers, const struct lictor_counts *counts,
                             const double center[192], const double scale[192], const double *position,

@@ -145,13 +145,15 @@ static void widths(void) {
         {AT(brake_steps), 4096, 0}, {AT(brake_steps), 4097, 3}, {AT(brake_steps), 65535, 3},
         {AT(brake_steps), 65536, 3}, {AT(brake_steps), bits, 3}, {AT(brake_steps), most, 3},
         {AT(react_ticks), 65535, 0}, {AT(react_ticks), 65536, 255}, {AT(react_ticks), most, 255},
-        {AT(terms[0]), 4095, 0}, {AT(terms[0]), 4096, 1}, {AT(terms[0]), bits - 1, 1}, {AT(terms[0]), bits, 1},
+        {AT(terms[0]), 64, 0}, {AT(terms[0]), 127, 0}, {AT(terms[0]), 128, 17}, {AT(terms[0]), 256, 0}, {AT(terms[0]), 0xf7f, 0},
+        {AT(terms[0]), 4095, 17}, {AT(terms[1]), 128, 0}, {AT(terms[7]), 128, 0}, {AT(terms[0]), 4096, 1}, {AT(terms[0]), 4224, 1}, {AT(terms[0]), bits - 1, 1}, {AT(terms[0]), bits, 1},
         {AT(terms[0]), bits + 1, 1}, {AT(terms[0]), most, 1}, {AT(terms[1]), 4096, 0}, {AT(terms[1]), bits, 0},
         {AT(terms[1]), most, 0}, {AT(terms[7]), 4096, 0}, {AT(terms[7]), bits, 0}, {AT(terms[7]), most, 0},
         {AT(armed), bits - 1, 0}, {AT(armed), bits, 255}, {AT(armed), most, 255},
         {AT(aux_count), 1, 4}, {AT(aux_count), bits, 0}, {AT(aux_count), most, 0},
         {AT(calibrated), 2, 255}, {AT(calibrated), bits, 255},
-        {AT(mask), 4095, 0}, {AT(mask), 4096, 1}, {AT(mask), bits - 1, 1}, {AT(mask), bits, 1}, {AT(mask), most, 1},
+        {AT(mask), 64, 0}, {AT(mask), 127, 0}, {AT(mask), 128, 17}, {AT(mask), 256, 0}, {AT(mask), 0xf7f, 0}, {AT(mask), 4095, 17},
+        {AT(mask), 4096, 1}, {AT(mask), 4224, 1}, {AT(mask), bits + 128, 1}, {AT(mask), bits - 1, 1}, {AT(mask), bits, 1}, {AT(mask), most, 1},
         {AT(n_terms), 8, 0}, {AT(n_terms), 9, 1}, {AT(n_terms), 255, 1}, {AT(n_terms), 256, 1}, {AT(n_terms), 257, 1},
         {AT(n_terms), bits + 1, 1}, {AT(n_terms), most, 1},
         {AT(horizon_ticks), 0, 3}, {AT(horizon_ticks), bits - 1, 0}, {AT(horizon_ticks), bits, 255},
@@ -193,6 +195,15 @@ static void widths(void) {
     }
     c = good, c.n_terms = 2, c.terms[1] = bits;
     DUE(1);
+    /* the bit of LICTOR_STALL in a counted term and past the count; the steps and the channels come before it */
+    c = good, c.n_terms = 8, c.terms[7] = 128;
+    DUE(17);
+    c.n_terms = 7;
+    DUE(0);
+    c = good, c.mask = 128, c.contact_a1 = 0;
+    DUE(4);
+    c.substeps = 0;
+    DUE(3);
     c = good, c.substeps = 0, c.brake_steps = 65536;
     DUE(3);
     c = good, c.kind = 5, c.dim = 0;
@@ -303,14 +314,17 @@ static void features(void) {
     EXPECT(TICK(0, 9, 2, 0) == LICTOR_TOO_LONG && t.header.horizon == 65536);
     t.header.horizon = 4;
     for (int i = 0; i < 20; i++) EXPECT(lictor_trail_push(t.trail, &t.samples, still, 1, 1) == LICTOR_ACCEPTED);
-    EXPECT(TICK(0, 9, 2, 0) == LICTOR_ACCEPTED && m.valid == 63 + 64 + 128 + 256 && s.f[LICTOR_TCE] == 1.0);
-    EXPECT(s.f[LICTOR_PATH_INEFF] == 1.0 && s.f[LICTOR_STALL] == 1.0 && t.header.t_emit == 1);
+    EXPECT(TICK(0, 9, 2, 0) == LICTOR_ACCEPTED && m.valid == 63 + 64 + 256 && s.f[LICTOR_TCE] == 1.0);
+    EXPECT(s.f[LICTOR_PATH_INEFF] == 1.0 && s.f[LICTOR_STALL] == 0.0 && t.header.t_emit == 1);
+    /* scores that hold Stall: what came in is replaced */
+    m.valid |= 128, s.f[LICTOR_STALL] = 1.0;
+    EXPECT(TICK(0, 9, 2, 0) == LICTOR_ACCEPTED && m.valid == 63 + 64 + 256 && s.f[LICTOR_STALL] == 0.0);
     t.kept.have_prev = 2;
     EXPECT(TICK(0, 0, 1, 0) == LICTOR_MISFIT && lictor_tier1_reset(LICTOR_TIER1_PARTS(&t)) == LICTOR_MISFIT);
     t.kept.have_prev = 1, t.samples.head = 32;
     EXPECT(TICK(0, 0, 1, 0) == LICTOR_SIZE && lictor_tier1_reset(LICTOR_TIER1_PARTS(&t)) == LICTOR_SIZE && t.held[0] == 1.0);
     t.samples.head = 20, c.dim = 2, n.norm_scale[1] = 1.0;
-    EXPECT(TICK(1, 2, 1, 0) == LICTOR_WIDTH && m.valid == 63 + 64 + 128 + 256 && t.header.t_emit == 1);
+    EXPECT(TICK(1, 2, 1, 0) == LICTOR_WIDTH && m.valid == 63 + 64 + 256 && t.header.t_emit == 1);
     EXPECT(lictor_tier1_reset(LICTOR_TIER1_PARTS(&t)) == LICTOR_ACCEPTED && t.header.filled == 0 && t.samples.len == 0);
     EXPECT(t.kept.have_prev == 0 && t.kept.held_valid == 0 && t.held[LICTOR_REACH] == 0.0 && t.before[3] == 5.0);
 #undef TICK
@@ -362,7 +376,19 @@ static void gate(void) {
     EXPECT(lictor_trip(center, scale, 2.0, 3, 2, terms, &s, &m, &trips) == LICTOR_ACCEPTED && trips == 0);
     EXPECT(lictor_trip(center, scale, 1.0, 3, 2, terms, &s, &m, &trips) == LICTOR_ACCEPTED && trips == 1);
     EXPECT(lictor_aggregate(center, scale, 2.0, 3, 0, terms, &s, &m) == LICTOR_ACCEPTED && s.s == -INFINITY);
-    m.fired = UINT32_MAX;
+    /* Stall in the mask or in a counted term, after the numbers and before the scores; scores that hold it have a z of 0.0 and no mark */
+    const uint32_t stalled[8] = {1, 1 << LICTOR_STALL, 0, 0, 0, 0, 0, 0};
+    EXPECT(lictor_trip(center, scale, 1.0, 128, 0, terms, &s, &m, &trips) == LICTOR_WITHDRAWN && trips == 1);
+    EXPECT(lictor_trip(center, scale, 1.0, 1, 2, stalled, &s, &m, &trips) == LICTOR_WITHDRAWN && trips == 1);
+    EXPECT(lictor_trip(center, scale, INFINITY, 128, 0, terms, &s, &m, &trips) == LICTOR_NUMBER && trips == 1);
+    EXPECT(lictor_trip(center, scale, 1.0, 4224, 0, terms, &s, &m, &trips) == LICTOR_SIZE && trips == 1);
+    s.f[LICTOR_STALL] = NAN;
+    EXPECT(lictor_standardise(center, scale, 1.0, 3, 2, stalled, 0, &s, &m) == LICTOR_WITHDRAWN && s.z[0] == 2.0);
+    EXPECT(lictor_standardise(center, scale, 1.0, 3, 1, stalled, 0, &s, &m) == LICTOR_NOT_FINITE && s.z[0] == 2.0);
+    s.f[LICTOR_STALL] = s.z[LICTOR_STALL] = 9.0, m.valid = 4095;
+    EXPECT(lictor_aggregate(center, scale, 1.5, 0xf7f, 1, stalled, &s, &m) == LICTOR_ACCEPTED && s.s == 2.0 && m.fired == 1);
+    EXPECT(lictor_standardise(center, scale, 1.5, 0xf7f, 1, stalled, 0, &s, &m) == LICTOR_ACCEPTED && s.z[LICTOR_STALL] == 0.0);
+    s.s = -INFINITY, m.valid = 3, m.fired = UINT32_MAX;
     EXPECT(lictor_trip(center, scale, INFINITY, 3, 2, terms, &s, &m, &trips) == LICTOR_NUMBER && trips == 1);
     m.fired = UINT64_C(1) << 32;
     EXPECT(lictor_trip(center, scale, INFINITY, 3, 2, terms, &s, &m, &trips) == LICTOR_MISFIT && trips == 1);

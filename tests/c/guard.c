@@ -42,7 +42,7 @@ static struct lictor_config arm(void) {
     c.counts.dim = c.counts.pos_dim = AXES, c.counts.armed = LICTOR_TRIP_ALL, c.counts.clamp = LICTOR_CLAMP_PROJECT;
     c.counts.substeps = 2, c.counts.commit = 3, c.counts.brake_steps = 2, c.counts.react_ticks = 1;
     c.counts.aux_count = 2, c.counts.contact_a1 = 1;
-    c.counts.calibrated = 1, c.counts.mask = 4095, c.counts.n_terms = 2, c.counts.terms[0] = 3, c.counts.terms[1] = 60;
+    c.counts.calibrated = 1, c.counts.mask = 0xf7f, c.counts.n_terms = 2, c.counts.terms[0] = 3, c.counts.terms[1] = 60;
     c.counts.horizon_ticks = 200;
     return c;
 }
@@ -86,9 +86,10 @@ static void forms(void) {
         if (below(30) == 0) c.numbers.margin = -1.0;
         if (below(30) == 0) c.counts.kind = 5;
         if (below(30) == 0) c.scale[100] = 0.0;
+        if (below(30) == 0) c.counts.mask |= 1 << LICTOR_STALL;
         b = a;
 #define PARTS LICTOR_CONFIG_PARTS(&c)
-#define GATE c.center, c.scale, c.numbers.tau, 4095, 2, terms
+#define GATE c.center, c.scale, c.numbers.tau, (uint32_t)c.counts.mask, 2, terms
         SAME(lictor_derive(PARTS, &a.derived), lictor_guard_derive(&c, &b.derived));
         SAME(lictor_features(PARTS, LICTOR_TIER1_PARTS(&a.state), a.pos, pos, a.ext, ext, 1, t + 7, t, ROWS, AXES, chunk.exec_steps,
                              a.rows, ROWS * AXES, &a.scores, &a.marks),
@@ -205,6 +206,13 @@ static void widths(void) {
     GATE(LICTOR_SIZE);
     c = arm(), c.counts.terms[2] = wide + 1;
     GATE(LICTOR_ACCEPTED);
+    /* the bit of LICTOR_STALL: in the mask, in a counted term whatever the flag, and in one past the count */
+    c = arm(), c.counts.mask |= 1 << LICTOR_STALL;
+    GATE(LICTOR_WITHDRAWN);
+    c = arm(), c.counts.terms[1] |= 1 << LICTOR_STALL, c.counts.calibrated = 0;
+    GATE(LICTOR_WITHDRAWN);
+    c = arm(), c.counts.terms[2] |= 1 << LICTOR_STALL;
+    GATE(LICTOR_ACCEPTED);
     c = arm(), c.counts.n_terms = 8, c.counts.terms[7] = wide + 1;
     GATE(LICTOR_SIZE);
     memset(&c, 0, sizeof c);
@@ -234,12 +242,12 @@ static void words(void) {
     const char *unknown = lictor_refusal_text(14);
     char version[32];
     for (uint64_t i = 0; i < 300; i++) {
-        const int known = i <= LICTOR_COMPUTED || i == LICTOR_MISFIT;
+        const int known = i <= LICTOR_COMPUTED || i == LICTOR_WITHDRAWN || i == LICTOR_MISFIT;
         EXPECT((strcmp(lictor_refusal_text(i), unknown) != 0) == known);
         for (uint64_t j = 0; known && j < i; j++) EXPECT(strcmp(lictor_refusal_text(i), lictor_refusal_text(j)) != 0);
     }
     snprintf(version, sizeof version, "%d.%d.%d", LICTOR_VERSION_MAJOR, LICTOR_VERSION_MINOR, LICTOR_VERSION_PATCH);
-    EXPECT(strcmp(version, LICTOR_VERSION) == 0 && LICTOR_VERSION_NUMBER >= 200);
+    EXPECT(strcmp(version, LICTOR_VERSION) == 0 && LICTOR_VERSION_NUMBER >= 300);
 }
 
 int main(void) {

@@ -76,11 +76,11 @@ static void trail(void) {
 }
 
 static void gate(void) {
-    const uint32_t terms[8] = {1, 2, 4, 8, 16, 32, 64, 128};
+    const uint32_t terms[8] = {1, 2, 4, 8, 16, 32, 64, 256};
     uint64_t trips;
-    if (lictor_standardise(center, scale, 1.0, 4095, 8, terms, 0, &s, &m)) abort();
-    if (lictor_aggregate(center, scale, 1.0, 4095, 8, terms, &s, &m)) abort();
-    if (lictor_trip(center, scale, 1.0, 4095, 8, terms, &s, &m, &trips)) abort();
+    if (lictor_standardise(center, scale, 1.0, 0xf7f, 8, terms, 0, &s, &m)) abort();
+    if (lictor_aggregate(center, scale, 1.0, 0xf7f, 8, terms, &s, &m)) abort();
+    if (lictor_trip(center, scale, 1.0, 0xf7f, 8, terms, &s, &m, &trips)) abort();
 }
 
 static unsigned char *top;
@@ -125,7 +125,7 @@ int main(void) {
     for (int i = 0; i < 192; i++) scale[i] = 1.0;
     for (int i = 0; i < 512; i++) rows[i] = 0.001 * (i % 11);
     c.dim = c.pos_dim = 8, c.clamp = LICTOR_CLAMP_PROJECT, c.substeps = 32, c.commit = 64, c.brake_steps = 64;
-    c.armed = 63, c.calibrated = 1, c.mask = 4095, c.n_terms = 8, c.horizon_ticks = 200;
+    c.armed = 63, c.calibrated = 1, c.mask = 0xf7f, c.n_terms = 8, c.horizon_ticks = 200;
     /* every brake and every kind of action, with a slow zone and without */
     for (unsigned setting = 0; setting < 50; setting++) {
         c.brake = setting / 2 % 5, c.kind = setting / 10, c.contact = setting % 2;

@@ -21,7 +21,8 @@ pub mod feature {
     pub const SPEED_PEAK: usize = 5;
     /// How much of the way of the trail led nowhere.
     pub const PATH_INEFF: usize = 6;
-    /// How little the trail came forward.
+    /// Stall, which is not computed: 0.0, never valid, and refused in a calibration with
+    /// [`Withdrawn`](crate::Refusal::Withdrawn).
     pub const STALL: usize = 7;
     /// The first of the caller's own scalars.
     pub const EXT0: usize = 8;

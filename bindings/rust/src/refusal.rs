@@ -22,6 +22,8 @@ pub enum Refusal {
     Steps,
     /// 4: the contact's two channels are equal, or one is at or above `aux_count`.
     Channels,
+    /// 17: a calibration's mask or one of its counted terms names Stall, which is not computed.
+    Withdrawn,
     /// 5: a chunk has no rows or no width.
     Empty,
     /// 6: a chunk has over 64 rows.
@@ -58,11 +60,12 @@ pub type Answer<T> = Result<T, Refusal>;
 
 impl Refusal {
     /// The refusals that have a number of their own, in the order of judging, the boundary's last; a place is 0.
-    pub const ALL: [Self; 14] = [
+    pub const ALL: [Self; 15] = [
         Self::Size,
         Self::Number,
         Self::Steps,
         Self::Channels,
+        Self::Withdrawn,
         Self::Empty,
         Self::TooLong,
         Self::TooWide,
@@ -87,6 +90,7 @@ impl Refusal {
             Self::Number => 2,
             Self::Steps => 3,
             Self::Channels => 4,
+            Self::Withdrawn => 17,
             Self::Empty => 5,
             Self::TooLong => 6,
             Self::TooWide => 7,
@@ -127,6 +131,7 @@ impl Refusal {
             Self::Number => "a configuration number is not finite or out of its range",
             Self::Steps => "a count of steps or ticks is out of range",
             Self::Channels => "the contact's channels are equal or past the declared ones",
+            Self::Withdrawn => "the calibration's mask or a counted term names Stall, which is not computed",
             Self::Empty => "the chunk is empty",
             Self::TooLong => "the chunk has too many rows",
             Self::TooWide => "the chunk's rows are too wide",

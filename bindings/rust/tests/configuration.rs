@@ -19,7 +19,7 @@ const BRAKE: BrakeModel = BrakeModel {
 };
 
 const CALIBRATION: Calibration =
-    Calibration { center: [0.0; 192], scale: [1.0; 192], tau: 2.0, mask: 4095, n_terms: 1, terms: [1; 8] };
+    Calibration { center: [0.0; 192], scale: [1.0; 192], tau: 2.0, mask: 0xf7f, n_terms: 1, terms: [1; 8] };
 
 /// An arm on a plane, every part of which is set.
 fn arm() -> ConfigBuilder {

@@ -1,4 +1,4 @@
--- What the gate promises: least and greatest pick one of two at each step, and `fired` is built bit by bit. The time bins are in `Bins`.
+-- What the gate promises: least and greatest pick one of two at each step, and `fired` is built bit by bit. The time bins are in `Bins`, Stall in `Stall`.
 use Prim.Native.Nat.{ℕ, zero, suc, _<_}
 use mathlib.Core.Path.{_≡_, refl, sym, _∙_}
 use mathlib.Core.Bool.{Bool, true, false, false≢true}
@@ -17,6 +17,7 @@ use Rattle.conformal.specs.Promises.{Among, NoneOf, Numbers, Aggregate, 
 use Rattle.conformal.specs.declared.GateSpec.{GateSpec}
 use Rattle.bits.proofs.Bits.{bit-where, no-bit-past}
 use Rattle.conformal.proofs.Bins.{bins}
+use Rattle.conformal.proofs.Stall.{without-stall, past-the-count}
 use Rattle.conformal.proofs.Picked.{join-number, none-beyond, attained, lesser-either, lesser-start, greater-either, greater-start, real-∞}
 
 -- ---- s
@@ -74,5 +75,7 @@ promised = record {
   aggregates = aggregates;
   fired-exactly = λ live tau z. bit-where (fires live tau z) 12;
   fired-no-more = λ live tau z. no-bit-past (fires live tau z) 12;
+  without-stall = without-stall;
+  past-the-count = past-the-count;
   bins = bins;
 }

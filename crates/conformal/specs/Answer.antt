@@ -4,7 +4,7 @@ use mathlib.Core.Bool.{Bool, true, not}
 use mathlib.Core.List.{[], _∷_, List}
 use lib.Dec.{eqb}
 use lib.Ieee.{Float, Format}
-use Rattle.refusal.specs.Order.{size, number, steps, withdrawn, notFinite, computed, _when_, refusal, refusedFor}
+use Rattle.refusal.specs.Order.{Judged, size, number, steps, withdrawn, notFinite, computed, _when_, refusal, refusedFor}
 use Rattle.bits.specs.Choice.{if_then_else_}
 use Rattle.checked.specs.Checked.{Checked}
 use Rattle.conformal.specs.Rule.{Tables, live, standards, aggregate, firedBits, trips, binAt}
@@ -17,15 +17,18 @@ use Rattle.conformal.specs.declared.Verdict.the-variants.{Refused, Trips
 use Rattle.conformal.specs.declared.TimeBin.{TimeBin}
 use Rattle.conformal.specs.declared.TimeBin.the-variants.{NoBin, Bin}
 
--- the number for a calibration and scores, by whether each number that was computed is finite
-unfoldable pub judged : Calibration → Tables → Scores → Bool → ℕ
-judged cal t sc sound =
-    refusal
-    ((size when not (sizesOk cal))
+-- what is judged of a calibration and scores, by whether each number that was computed is finite
+abbrev pub scoresJudged : Calibration → Tables → Scores → Bool → List Judged
+scoresJudged cal t sc sound =
+    (size when not (sizesOk cal))
     ∷ (number when not (numbersOk cal t))
     ∷ (withdrawn when not (featuresOk cal))
     ∷ (notFinite when not (scoresOk sc))
-    ∷ (computed when not sound) ∷ [])
+    ∷ (computed when not sound) ∷ []
+
+-- the number that they are refused with
+unfoldable pub judged : Calibration → Tables → Scores → Bool → ℕ
+judged cal t sc sound = refusal (scoresJudged cal t sc sound)
 
 -- the new scores; where they are refused, the ones that came in
 abbrev pub scored : ℕ → Scores → Scores → Scored

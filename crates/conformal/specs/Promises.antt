@@ -1,4 +1,5 @@
--- What the gate promises beyond its rules: what s is, that an empty term is never live, what fired says, and which ticks a time bin has. The proof is
+-- What the gate promises beyond its rules: what s is, that an empty term is never live, what fired says, that
+-- nothing of Stall passes, and which ticks a time bin has. The proof is
 -- `proofs/Promises.promised`.
 use Prim.Native.Nat.{ℕ, _+_, _*_, _/_, _<_, _≤_, min}
 use mathlib.Core.Path.{_≡_}
@@ -6,12 +7,18 @@ use mathlib.Core.Bool.{Bool, true, false, not, _&&_}
 use mathlib.Core.Logic.{_⊎_}
 use mathlib.Core.List.{List}
 use lib.Dec.{T}
-use lib.Ieee.{Float, inf, lt, isNan}
+use lib.ListN.{getD}
+use lib.Ieee.{Float, Format, inf, lt, isNan}
 use Rattle.checked.specs.Each.{at}
+use Rattle.checked.specs.Finite.{+0}
 use Rattle.bits.specs.Bits.{bit}
-use Rattle.conformal.specs.Rule.{liveTerm, leastOf, termAt, counts, aggregate, firedBits, binAt}
-use Rattle.conformal.specs.Answer.{onHorizon, timeBinOf}
+use Rattle.conformal.specs.Feat.{STALL}
+use Rattle.conformal.specs.Rule.{Tables, liveTerm, leastOf, termAt, counts, aggregate, firedBits, binAt}
+use Rattle.conformal.specs.Answer.{judged, standardised, aggregated, tripped, onHorizon, timeBinOf}
 use Rattle.conformal.specs.declared.GateSpec.{GateSpec}
+use Rattle.conformal.specs.declared.Calibration.{Calibration}
+use Rattle.conformal.specs.declared.Scores.{Scores}
+use Rattle.conformal.specs.declared.Verdict.the-variants.{Trips}
 use Rattle.conformal.specs.declared.TimeBin.the-variants.{Bin}
 
 -- an index below n of which p and Q hold
@@ -36,6 +43,26 @@ pub record Aggregate (gate : GateSpec) (live : ℕ → Bool) (z : List Float) : 
   -- s is the least of a live term, or no term is live and s is negative infinity
   pub s-is-attained : Among (counts gate live) 8 (λ (i : ℕ). aggregate gate live z ≡ leastOf z (termAt gate i)) ⊎ (NoneOf (counts gate live) 8 × (aggregate gate live z ≡ inf true))
   pub none-live : NoneOf (counts gate live) 8 → aggregate gate live z ≡ inf true
+
+-- ---- Stall
+
+-- Stall is neither in the mask nor in a term that counts
+pub record NamesNoStall (cal : Calibration) : Type 0 where
+  pub not-in-mask : bit (cal .mask) STALL ≡ false
+  pub not-in-a-term : (i : ℕ) → i < cal .gate .«n_terms» → bit (termAt (cal .gate) i) STALL ≡ false
+
+pub record WithoutStall (cal : Calibration) (t : Tables) (sc : Scores) : Type 0 where
+  -- a calibration that is accepted names it nowhere
+  pub to-standardise : (f : Format) (bin : ℕ) → standardised f cal t bin sc .refusal .number ≡ 0 → NamesNoStall cal
+  pub to-aggregate : aggregated cal t sc .refusal .number ≡ 0 → NamesNoStall cal
+  pub to-trip : (b : Bool) → tripped cal t sc ≡ Trips b → NamesNoStall cal
+  -- so its z is 0.0 and it does not fire, also where the scores that came in hold it
+  pub z-of-stall : (f : Format) (bin : ℕ) → standardised f cal t bin sc .refusal .number ≡ 0 → at (standardised f cal t bin sc .scores .z) STALL ≡ +0
+  pub stall-not-fired : aggregated cal t sc .refusal .number ≡ 0 → bit (aggregated cal t sc .scores .fired) STALL ≡ false
+
+-- cal with other terms
+abbrev pub withTerms : Calibration → List ℕ → Calibration
+withTerms cal terms = record { mask = cal .mask; gate = record { «n_terms» = cal .gate .«n_terms»; terms = terms }; tau = cal .tau }
 
 -- ---- the time bin, over whole numbers
 
@@ -66,4 +93,8 @@ pub record Promised : Type 0 where
   -- fired has a bit exactly for a live feature with a z above tau
   pub fired-exactly : (live : ℕ → Bool) (tau : Float) (z : List Float) (j : ℕ) → j < 12 → bit (firedBits live tau z) j ≡ (live j && lt tau (at z j))
   pub fired-no-more : (live : ℕ → Bool) (tau : Float) (z : List Float) (j : ℕ) → 12 ≤ j → bit (firedBits live tau z) j ≡ false
+  pub without-stall : (cal : Calibration) (t : Tables) (sc : Scores) → WithoutStall cal t sc
+  -- what stands past the count of terms, be it Stall or a bit above 11, is not looked at
+  pub past-the-count : (cal : Calibration) (terms : List ℕ) → ((i : ℕ) → i < cal .gate .«n_terms» → getD terms i 0 ≡ termAt (cal .gate) i)
+      → (t : Tables) (sc : Scores) (sound : Bool) → judged (withTerms cal terms) t sc sound ≡ judged cal t sc sound
   pub bins : (horizon : ℕ) → TimeBins horizon

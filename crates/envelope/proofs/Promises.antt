@@ -12,19 +12,17 @@ use Rattle.checked.specs.Constants.{1! }
 use Rattle.checked.specs.Each.{at, all, every, table}
 use Rattle.checked.specs.Finite.{finite, aboveZero, allFinite, allAboveZero}
 use Rattle.checked.specs.Least.{least}
+use Rattle.checked.proofs.Each.{all-same, every-at}
 use Rattle.conformal.specs.Rule.{Tables}
+use Rattle.conformal.specs.Promises.{NamesNoStall}
+use Rattle.conformal.proofs.Stall.{names-no-stall}
 use Rattle.envelope.specs.Derive.{kept, lowWalls, highWalls, inverses, isotropic, derivedFrom, derived}
-use Rattle.envelope.specs.Refusals.{sizesOk, numbersFrom, countsOk, stepsOk, normOk, boxOk, configJudged}
+use Rattle.envelope.specs.Refusals.{sizesOk, numbersFrom, countsOk, stepsOk, normOk, boxOk, featuresOk, configJudged}
 use Rattle.envelope.specs.declared.FuseConfig.{FuseConfig}
 use Rattle.envelope.specs.declared.Norm.{Norm}
 use Rattle.envelope.specs.declared.Box.{Box}
 use Rattle.envelope.specs.Promises.{measuredBy, Agree, AgreeWithin, Promised}
 use Rattle.envelope.proofs.Accepted.{accepted}
-
-all-same : (p q : ℕ → Bool) (n : ℕ) → ((i : ℕ) → i < n → p i ≡ q i) → all p n ≡ all q n
-unfolding all
-all-same p q zero h = refl
-all-same p q (suc n) h = rw (all-same p q n (λ i l. h i (omega arith)), h n (omega arith))
 
 table-same : (g k : ℕ → Float) (n : ℕ) → ((i : ℕ) → i < n → g i ≡ k i) → table g n ≡ table k n
 unfolding table
@@ -72,11 +70,17 @@ module _ (f : Format) (c : FuseConfig) (n : Norm) (w : Box) (same : AgreeWithin 
       let hi-same = tested-each (w .hi) (c .walls .hi) (c .«pos_dim») (same .highs) finite in
       rw (unread-past, center-same, scale-same, lo-same, hi-same)
 
+-- with the flag set, the tests of 1 and of 17 are tests of the calibration
+pub no-stall : (c : FuseConfig) → c .calibrated ≡ true → sizesOk c ≡ true → featuresOk c ≡ true → NamesNoStall (c .calib)
+unfolding sizesOk
+no-stall c set sizes features = names-no-stall (c .calib) (rw set at (every-at _ 4 sizes)) (rw set at features)
+
 pub promised : Promised
 unfolding sizesOk numbersFrom stepsOk countsOk every
 promised = record {
   fit-accepted = λ f c t fit. rw (fit .sizes, fit .numbers, fit .counts, fit .apart, fit .features);
   accepted-fit = accepted;
+  names-no-stall = λ f c t e set. let fit = accepted f c t e in no-stall c set (fit .sizes) (fit .features);
   flag-clear = λ f c t u cal ticks e. rw e;
   armed-or-not = λ f c t bits. refl;
   exactly-4096 = λ b sub commit e. rw (sub, commit, e);

@@ -8,6 +8,7 @@ use lib.Ieee.{Float, Format}
 use Rattle.refusal.specs.Order.{refusal}
 use Rattle.checked.specs.Each.{at}
 use Rattle.conformal.specs.Rule.{Tables}
+use Rattle.conformal.specs.Promises.{NamesNoStall}
 use Rattle.conformal.specs.declared.Calibration.{Calibration}
 use Rattle.envelope.specs.Derive.{derived}
 use Rattle.envelope.specs.Refusals.{sizesOk, numbersOk, countsOk, stepsOk, channelsFit, featuresOk, configJudged}
@@ -68,6 +69,8 @@ pub record AgreeWithin (c : FuseConfig) (n : Norm) (w : Box) : Type 0 where
 pub record Promised : Type 0 where
   pub fit-accepted : (f : Format) (c : FuseConfig) (t : Tables) → Fit f c t → refusal (configJudged f c t) ≡ 0
   pub accepted-fit : (f : Format) (c : FuseConfig) (t : Tables) → refusal (configJudged f c t) ≡ 0 → Fit f c t
+  -- with the flag set, an accepted calibration names Stall nowhere
+  pub names-no-stall : (f : Format) (c : FuseConfig) (t : Tables) → refusal (configJudged f c t) ≡ 0 → c .calibrated ≡ true → NamesNoStall (c .calib)
   -- with the flag clear nothing of the calibration or its tables is judged, nor horizon_ticks
   pub flag-clear : (f : Format) (c : FuseConfig) (t u : Tables) (cal : Calibration) (ticks : ℕ) → c .calibrated ≡ false
       → refusal (configJudged f (calibratedBy c cal ticks) u) ≡ refusal (configJudged f c t)

@@ -11,15 +11,16 @@ use lib.Ieee.{Float}
 use Rattle.refusal.specs.Order.{refusal}
 use Rattle.bits.specs.Choice.{if_then_else_}
 use Rattle.checked.specs.Each.{at, all, every, every-from}
-use Rattle.checked.proofs.Each.{and-left, and-right}
+use Rattle.checked.proofs.Each.{and-left, and-right, all-at, every-at}
 use Rattle.chunk.specs.declared.Header.{Header}
 use Rattle.chunk.specs.Refusals.{heldReasons}
-use Rattle.conformal.specs.Refusals.{sizesOk}
+use Rattle.conformal.specs.Refusals.{named, withoutStall, sizesOk, featuresOk}
+use Rattle.conformal.specs.Rule.{termAt}
 use Rattle.envelope.specs.Refusals.{countsOk, channelsOk}
-use Rattle.layout.specs.Places.{count, in8, in16}
+use Rattle.layout.specs.Places.{count, in8, in16, in32}
 use Rattle.layout.specs.Chunk.{chunkOf}
 use Rattle.layout.specs.Trail.{trailOf}
-use Rattle.promises.specs.Counts.{TrailCounts, GateCounts, StepCounts, ChannelCounts, cut, HeaderCounts, HeaderKept, HeaderLetGo}
+use Rattle.promises.specs.Counts.{TrailCounts, GateCounts, FeatureCounts, StepCounts, ChannelCounts, cut, HeaderCounts, HeaderKept, HeaderLetGo}
 use Rattle.layout.specs.Config.{brakeOf, gateOf, calibrationOf, contactOf, channelOf, zoneOf, zoneFits}
 
 -- ---- a test against a number that the field holds is the same of a count x and of the cut one
@@ -80,6 +81,34 @@ gate-counts n c =
       under (count c 17) 4294967295 4096 (omega arith),
       under (count c 18) 4294967295 4096 (omega arith),
       under (count c 19) 4294967295 4096 (omega arith),
+    )
+
+-- ---- row 17: the same, where row 1 refuses nothing
+
+-- a word of features that is not refused is not cut
+whole : (x : ℕ) → named (in32 x) ≡ true → in32 x ≡ x
+whole x e = let q = ltb-true (in32 x) 4096 e in min-eq-left {n = x} {m = 4294967295} (omega (arith, q))
+
+uncut : (n i x : ℕ) (past : Bool) → leb n i ≡ past → (leb (in8 n) i || named (in32 x)) ≡ true → i < 8 → (leb (in8 n) i || withoutStall (in32 x)) ≡ (leb n i || withoutStall x)
+uncut n i x true e h l = rw (at-most n 255 i (omega (arith, l)), e)
+uncut n i x false e h l =
+    let k : (leb n i || named (in32 x)) ≡ true = rw (at-most n 255 i (omega (arith, l))) at h in
+    rw (at-most n 255 i (omega (arith, l)), whole x (rw e at k))
+
+pub feature-counts : FeatureCounts
+unfolding sizesOk featuresOk calibrationOf gateOf all
+feature-counts n c sizes =
+    let one : (i : ℕ) → i < 8 → (leb (in8 (count c 24)) i || named (termAt (gateOf c) i)) ≡ true = all-at (λ (i : ℕ). leb (in8 (count c 24)) i || named (termAt (gateOf c) i)) 8 (every-at _ 2 sizes) in
+    rw (
+      whole (count c 23) (every-at _ 1 sizes),
+      uncut (count c 24) 0 (count c 12) _ refl (one 0 (omega arith)) (omega arith),
+      uncut (count c 24) 1 (count c 13) _ refl (one 1 (omega arith)) (omega arith),
+      uncut (count c 24) 2 (count c 14) _ refl (one 2 (omega arith)) (omega arith),
+      uncut (count c 24) 3 (count c 15) _ refl (one 3 (omega arith)) (omega arith),
+      uncut (count c 24) 4 (count c 16) _ refl (one 4 (omega arith)) (omega arith),
+      uncut (count c 24) 5 (count c 17) _ refl (one 5 (omega arith)) (omega arith),
+      uncut (count c 24) 6 (count c 18) _ refl (one 6 (omega arith)) (omega arith),
+      uncut (count c 24) 7 (count c 19) _ refl (one 7 (omega arith)) (omega arith),
     )
 
 -- ---- row 3: substeps s, committed steps m and braking steps b

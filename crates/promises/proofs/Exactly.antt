@@ -9,7 +9,7 @@ use borrow.Author.Tests.{eqb-true, ne-eqb}
 use lib.Dec.{eqb, ltb}
 use lib.Ieee.{Float, Format, binary64}
 use lib.ListN.{length}
-use Rattle.refusal.specs.Order.{Reason, Judged, size, number, steps, withdrawn, short, notFinite, computed, _when_, numberOf, order, among, given, refusal, refusedFor, _or_}
+use Rattle.refusal.specs.Order.{Reason, Judged, size, steps, short, notFinite, computed, _when_, numberOf, order, among, given, refusal, refusedFor, _or_}
 use Rattle.bits.specs.Choice.{if_then_else_}
 use Rattle.refusal.specs.Exactly.{First, here, later, exactly-first, exactly-none}
 use Rattle.checked.specs.Checked.{root}
@@ -27,10 +27,9 @@ use Rattle.window.specs.Rule.{maskRefusal, net, path}
 use Rattle.window.specs.Answer.{maskOf, outOfSize, unfit, trailReasons, pushReasons, netOf, pathOf, countOf, emptinessOf}
 use Rattle.window.specs.Of.{pushOf, clearOf}
 use Rattle.chunk.specs.declared.Header.{Header}
-use Rattle.conformal.specs.Refusals as calibration
 use Rattle.conformal.specs.declared.Calibration.{Calibration}
 use Rattle.conformal.specs.declared.Scores.{Scores}
-use Rattle.conformal.specs.Answer.{judged, standardsOf, standardised, aggregated, tripped, timeBinOf}
+use Rattle.conformal.specs.Answer.{scoresJudged, judged, standardsOf, standardised, aggregated, tripped, timeBinOf}
 use Rattle.conformal.specs.Rule.{Tables}
 use Rattle.envelope.specs.Refusals.{configJudged}
 use Rattle.envelope.specs.declared.FuseConfig.{FuseConfig}
@@ -231,15 +230,6 @@ unfolding holdAnswer holdRefusal
 hold-action-exactly c tabs p room = exactly _ (sent-told _)
 
 -- ---- conformal (R8)
-
--- what is judged of a calibration and scores, by whether each number that was computed is finite
-abbrev scoresJudged : Calibration → Tables → Scores → Bool → List Judged
-scoresJudged cal tabs sc sound =
-    (size when not (calibration.sizesOk cal))
-    ∷ (number when not (calibration.numbersOk cal tabs))
-    ∷ (withdrawn when not (calibration.featuresOk cal))
-    ∷ (notFinite when not (calibration.scoresOk sc))
-    ∷ (computed when not sound) ∷ []
 
 pub standardise-exactly : (f : Format) (cal : Calibration) (tabs : Tables) (bin : ℕ) (sc : Scores) → Exactly (standardised f cal tabs bin sc .refusal .number) (among (scoresJudged cal tabs sc (standardsOf f cal tabs bin sc .sound)))
 unfolding standardised judged

@@ -2,5 +2,6 @@ pub mod OneAnswer
 pub mod Exported
 pub mod Counts
 pub mod Exactly
+pub mod Stall
 pub mod Beliefs
 pub mod Refused

@@ -13,7 +13,7 @@ use Rattle.chunk.specs.Refusals.{heldReasons}
 use Rattle.chunk.specs.Of.{clearedOf}
 use Rattle.window.specs.Rule.{flag}
 use Rattle.window.specs.Answer.{outOfSize}
-use Rattle.conformal.specs.Refusals.{named, sizesOk}
+use Rattle.conformal.specs.Refusals.{named, withoutStall, sizesOk, featuresOk}
 use Rattle.envelope.specs.Refusals.{countsOk, channelsOk}
 use Rattle.layout.specs.Places.{count, in16}
 use Rattle.layout.specs.Chunk.{chunkOf, headerFlat, unheld}
@@ -27,6 +27,10 @@ TrailCounts = (l : List Float) (c : List ℕ) → outOfSize (trailOf l c) ≡ (l
 -- the gate: its terms and their features
 abbrev pub GateCounts : Type 0
 GateCounts = (n : List Float) (c : List ℕ) → sizesOk (calibrationOf n c) ≡ every (leb (count c 24) 8 ∷ named (count c 23) ∷ all (λ (i : ℕ). leb (count c 24) i || named (count c (12 + i))) 8 ∷ [])
+
+-- and Stall among them, where 1 does not apply
+abbrev pub FeatureCounts : Type 0
+FeatureCounts = (n : List Float) (c : List ℕ) → sizesOk (calibrationOf n c) ≡ true → featuresOk (calibrationOf n c) ≡ every (withoutStall (count c 23) ∷ all (λ (i : ℕ). leb (count c 24) i || withoutStall (count c (12 + i))) 8 ∷ [])
 
 -- the substeps, the committed and the braking steps
 abbrev pub StepCounts : Type 0

@@ -1,3 +1,4 @@
 pub mod Beliefs
 pub mod Refused
 pub mod Counts
+pub mod Stall

@@ -1,6 +1,6 @@
 -- A number that tells is finite exactly where each number on the way to it is. Sums over rows tell, so one test at the end of a chain is enough;
 -- a divisor does not, and has a test of its own.
-use Prim.Native.Nat.{ℕ, zero, suc, _+_, _-_}
+use Prim.Native.Nat.{ℕ, zero, suc, _+_}
 use mathlib.Core.Path.{_≡_, refl, sym, _∙_}
 use mathlib.Core.Bool.{Bool, true, false, _&&_}
 use mathlib.Core.List.{List}
