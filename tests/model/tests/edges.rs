@@ -200,7 +200,8 @@ fn stall_after_four_and_before_five() {
         change(&mut c);
         c
     };
-    let changes: [(fn(&mut FuseConfig), Option<u8>); 5] = [
+    type Change = fn(&mut FuseConfig);
+    let changes: [(Change, Option<u8>); 5] = [
         (|c| c.dim = 9, Some(1)),
         (|c| c.dt = 0.0, Some(2)),
         (|c| c.horizon_ticks = 0, Some(3)),
