@@ -4,11 +4,11 @@ use mathlib.Core.Bool.{Bool, true, not}
 use mathlib.Core.List.{[], _∷_, List}
 use lib.Dec.{eqb}
 use lib.Ieee.{Float, Format}
-use Rattle.refusal.specs.Order.{size, number, steps, notFinite, computed, _when_, refusal, refusedFor}
+use Rattle.refusal.specs.Order.{size, number, steps, withdrawn, notFinite, computed, _when_, refusal, refusedFor}
 use Rattle.bits.specs.Choice.{if_then_else_}
 use Rattle.checked.specs.Checked.{Checked}
 use Rattle.conformal.specs.Rule.{Tables, live, standards, aggregate, firedBits, trips, binAt}
-use Rattle.conformal.specs.Refusals.{sizesOk, numbersOk, scoresOk}
+use Rattle.conformal.specs.Refusals.{sizesOk, numbersOk, featuresOk, scoresOk}
 use Rattle.conformal.specs.declared.Calibration.{Calibration}
 use Rattle.conformal.specs.declared.Scores.{Scores}
 use Rattle.conformal.specs.declared.Scored.{Scored}
@@ -23,6 +23,7 @@ judged cal t sc sound =
     refusal
     ((size when not (sizesOk cal))
     ∷ (number when not (numbersOk cal t))
+    ∷ (withdrawn when not (featuresOk cal))
     ∷ (notFinite when not (scoresOk sc))
     ∷ (computed when not sound) ∷ [])
 

@@ -22,6 +22,10 @@ SPEED-PEAK = 5
 abbrev pub PATH-INEFF : ℕ
 PATH-INEFF = 6
 
+-- a number that is kept for a feature that is not computed: no score holds it and no calibration may name it
+abbrev pub STALL : ℕ
+STALL = 7
+
 -- the first of the four external ones
 abbrev pub EXT0 : ℕ
 EXT0 = 8

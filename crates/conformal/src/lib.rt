@@ -7,10 +7,10 @@ ghost use Rattle.bits.specs.Choice.{if_then_else_};
 ghost use Rattle.checked.specs.Least.{lesser, greater};
 ghost use Rattle.bits.specs.Bits.{bit};
 ghost use Rattle.conformal.specs.Rule.{live, standard, standards, aggregate, firedBits};
-ghost use Rattle.conformal.specs.Refusals.{sizesOk, numbersOk, scoresOk};
+ghost use Rattle.conformal.specs.Refusals.{sizesOk, numbersOk, featuresOk, scoresOk};
 ghost use Rattle.conformal.specs.Answer.{judged, scored, standardised, aggregated, tripped, timeBinOf};
 ghost use Rattle.checked.specs.Of.{reckonedFrom};
-ghost use Rattle.conformal.specs.Of.{tables, standardsFrom, termFrom};
+ghost use Rattle.conformal.specs.Of.{tables, countedFrom, standardsFrom, termFrom};
 use checked::Reckoned;
 use refusal::Refusal;
 
@@ -32,6 +32,7 @@ impl Feat {
 
     pub const PATH_INEFF: usize = 6;
 
+    // Not computed: no score holds it and no calibration may name it.
     pub const STALL: usize = 7;
 
     pub const EXT0: usize = 8;
@@ -92,6 +93,12 @@ pub enum TimeBin {
     Bin(usize),
 }
 
+// What is judged of the terms that count: that none has a bit above 11, and that none names Stall.
+struct Counted {
+    named: bool,
+    without_stall: bool,
+}
+
 // The z of all features; `sound` says that each number computed on the way is finite.
 struct AllZ {
     z: [f64; 12],
@@ -106,19 +113,50 @@ struct Joined {
 
 // ---- what is judged
 
+// Bit j of w.
+fn bit(w: u32, j: usize) -> bool
+    requires { ⌜ j < 12 ⌝ }
+    ensures { λ r. ⌜ r ≡ bit w j ⌝ }
+{
+    (w >> j) % 2 == 1
+}
+
+// The terms that count, each looked at once; those past the count are not.
+fn counted_terms(gate: GateSpec) -> Counted
+    ensures { λ r. ⌜ r ≡ countedFrom gate ⌝ }
+{
+    let n = gate.n_terms as usize;
+    let mut named = true;
+    let mut without_stall = true;
+    let mut i = 0usize;
+    while i < 8 {
+        let stall = bit(gate.terms[i], Feat::STALL);
+        named = named & ((n <= i) | (gate.terms[i] < 4096));
+        without_stall = without_stall & ((n <= i) | !stall);
+        i += 1;
+    }
+    Counted {
+        named,
+        without_stall,
+    }
+}
+
 // Refusal 1 of a calibration: at most 8 terms, no bit above 11 in a counted one or the mask.
 pub fn sizes_ok(cal: Calibration) -> bool
     ensures { λ r. ⌜ r ≡ sizesOk cal ⌝ }
 {
     let gate = cal.gate;
-    let n = gate.n_terms as usize;
-    let mut ok = true;
-    let mut i = 0usize;
-    while i < 8 {
-        ok = ok & ((n <= i) | (gate.terms[i] < 4096));
-        i += 1;
-    }
-    (n <= 8) & (cal.mask < 4096) & ok
+    let terms = counted_terms(gate);
+    (gate.n_terms <= 8) & (cal.mask < 4096) & terms.named
+}
+
+// Refusal 17 of a calibration: Stall, which is not computed, neither in the mask nor in a counted term.
+pub fn features_ok(cal: Calibration) -> bool
+    ensures { λ r. ⌜ r ≡ featuresOk cal ⌝ }
+{
+    let terms = counted_terms(cal.gate);
+    let stall = bit(cal.mask, Feat::STALL);
+    !stall & terms.without_stall
 }
 
 // Refusal 2 of a calibration: tau and centers finite, scales finite and above 0.
@@ -160,10 +198,12 @@ fn judge(
 {
     let a = sizes_ok(cal);
     let b = numbers_ok(cal, center, scale);
-    let c = scores_ok(scores);
+    let c = features_ok(cal);
+    let d = scores_ok(scores);
     let of_computed = Refusal::when(Refusal::COMPUTED, !sound, 0);
-    let of_scores = Refusal::when(Refusal::NOT_FINITE, !c, of_computed);
-    let of_numbers = Refusal::when(Refusal::NUMBER, !b, of_scores);
+    let of_scores = Refusal::when(Refusal::NOT_FINITE, !d, of_computed);
+    let of_features = Refusal::when(Refusal::WITHDRAWN, !c, of_scores);
+    let of_numbers = Refusal::when(Refusal::NUMBER, !b, of_features);
     Refusal::when(Refusal::SIZE, !a, of_numbers)
 }
 
@@ -186,14 +226,6 @@ fn answer(number: u8, old: Scores, new: Scores) -> Scored
 }
 
 // ---- standardise
-
-// Bit j of w.
-fn bit(w: u32, j: usize) -> bool
-    requires { ⌜ j < 12 ⌝ }
-    ensures { λ r. ⌜ r ≡ bit w j ⌝ }
-{
-    (w >> j) % 2 == 1
-}
 
 // z of one feature.
 fn standard(live: bool, x: f64, center: f64, scale: f64) -> Reckoned

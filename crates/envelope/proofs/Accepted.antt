@@ -4,7 +4,7 @@ use mathlib.Core.Path.{_≡_, ap}
 use mathlib.Core.Bool.{true, false, not}
 use borrow.Author.Tests.{leb-true, not-true, not-false}
 use lib.Ieee.{Format, lt}
-use Rattle.refusal.specs.Order.{size, number, steps, channels, among, refusal}
+use Rattle.refusal.specs.Order.{size, number, steps, channels, withdrawn, among, refusal}
 use Rattle.refusal.specs.Exactly.{exactly-none}
 use Rattle.checked.specs.Each.{at}
 use Rattle.checked.specs.Finite.{finite, allFinite}
@@ -12,7 +12,7 @@ use Rattle.checked.proofs.Each.{all-at, every-at}
 use Rattle.conformal.specs.Rule.{Tables}
 use Rattle.envelope.specs.Derive.{derived}
 use Rattle.envelope.specs.Steps.{substepsIn}
-use Rattle.envelope.specs.Refusals.{sizesOk, zoneOk, ordered, derivedOk, numbersFrom, numbersOk, countsOk, stepsOk, channelsFit, configJudged}
+use Rattle.envelope.specs.Refusals.{sizesOk, zoneOk, ordered, derivedOk, numbersFrom, numbersOk, countsOk, stepsOk, channelsFit, featuresOk, configJudged}
 use Rattle.envelope.specs.Promises.{Fit}
 use Rattle.envelope.specs.declared.Compiled.{Compiled}
 use Rattle.envelope.specs.declared.FuseConfig.{FuseConfig}
@@ -35,6 +35,7 @@ accepted f c t h =
       numbers = not-false (numbersOk f c t) (passed number);
       counts = not-false (stepsOk c) (passed steps);
       apart = not-false (channelsFit c) (passed channels);
+      features = not-false (featuresOk c) (passed withdrawn);
     }
 
 module _ (f : Format) (c : FuseConfig) (t : Tables) (fit : Fit f c t) where

@@ -75,7 +75,7 @@ module _ (f : Format) (c : FuseConfig) (n : Norm) (w : Box) (same : AgreeWithin 
 pub promised : Promised
 unfolding sizesOk numbersFrom stepsOk countsOk every
 promised = record {
-  fit-accepted = λ f c t fit. rw (fit .sizes, fit .numbers, fit .counts, fit .apart);
+  fit-accepted = λ f c t fit. rw (fit .sizes, fit .numbers, fit .counts, fit .apart, fit .features);
   accepted-fit = accepted;
   flag-clear = λ f c t u cal ticks e. rw e;
   armed-or-not = λ f c t bits. refl;

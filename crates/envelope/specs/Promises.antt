@@ -1,4 +1,4 @@
--- What is promised of a configuration's refusal: it is accepted exactly where its four conditions hold, and what is not looked at cannot change it. The proof is
+-- What is promised of a configuration's refusal: it is accepted exactly where its five conditions hold, and what is not looked at cannot change it. The proof is
 -- `proofs/Promises.promised`.
 use Prim.Native.Nat.{ℕ, _<_}
 use mathlib.Core.Path.{_≡_}
@@ -10,18 +10,19 @@ use Rattle.checked.specs.Each.{at}
 use Rattle.conformal.specs.Rule.{Tables}
 use Rattle.conformal.specs.declared.Calibration.{Calibration}
 use Rattle.envelope.specs.Derive.{derived}
-use Rattle.envelope.specs.Refusals.{sizesOk, numbersOk, countsOk, stepsOk, channelsFit, configJudged}
+use Rattle.envelope.specs.Refusals.{sizesOk, numbersOk, countsOk, stepsOk, channelsFit, featuresOk, configJudged}
 use Rattle.envelope.specs.declared.FuseConfig.{FuseConfig}
 use Rattle.envelope.specs.declared.BrakeModel.{BrakeModel}
 use Rattle.envelope.specs.declared.Norm.{Norm}
 use Rattle.envelope.specs.declared.Box.{Box}
 
--- the four conditions
+-- the five conditions
 pub record Fit (f : Format) (c : FuseConfig) (t : Tables) : Type 0 where
   pub sizes : sizesOk c ≡ true
   pub numbers : numbersOk f c t ≡ true
   pub counts : stepsOk c ≡ true
   pub apart : channelsFit c ≡ true
+  pub features : featuresOk c ≡ true
 
 -- c with other norms, walls, brake, armed bits, calibration and horizon: the one place where a changed configuration is spelled out
 abbrev pub altered : FuseConfig → Norm → Box → BrakeModel → ℕ → Calibration → ℕ → FuseConfig

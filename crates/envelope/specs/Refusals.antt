@@ -4,7 +4,7 @@ use mathlib.Core.Bool.{Bool, true, not, _&&_, _||_}
 use mathlib.Core.List.{List, [], _∷_}
 use lib.Dec.{leb, ltb, eqb}
 use lib.Ieee.{Float, Format, lt}
-use Rattle.refusal.specs.Order.{Judged, size, number, steps, channels, _when_, refusal}
+use Rattle.refusal.specs.Order.{Judged, size, number, steps, channels, withdrawn, _when_, refusal}
 use Rattle.checked.specs.Each.{at, all, every}
 use Rattle.checked.specs.Finite.{finite, aboveZero, notBelowZero, allFinite, allAboveZero}
 use Rattle.conformal.specs.Refusals as calibration
@@ -116,6 +116,12 @@ abbrev pub channelsOk : Contact → ℕ → Bool
 channelsOk None aux = true
 channelsOk (Zone radius speed i j) aux = not (eqb i j) && ltb i aux && ltb j aux
 
+-- ---- 17
+
+-- where the flag is set, the calibration's features are right
+abbrev pub featuresOk : FuseConfig → Bool
+featuresOk c = not (c .calibrated) || calibration.featuresOk (c .calib)
+
 -- ---- what is judged of a configuration
 
 abbrev pub channelsFit : FuseConfig → Bool
@@ -126,7 +132,8 @@ configJudged f c t =
     (size when not (sizesOk c))
     ∷ (number when not (numbersOk f c t))
     ∷ (steps when not (stepsOk c))
-    ∷ (channels when not (channelsFit c)) ∷ []
+    ∷ (channels when not (channelsFit c))
+    ∷ (withdrawn when not (featuresOk c)) ∷ []
 
 -- the number that it is refused with, and what is derived from it
 abbrev pub compiled : Format → FuseConfig → Tables → Compiled

@@ -5,7 +5,7 @@ ghost use lib.Ieee.{binary64};
 ghost use Rattle.conformal.specs.Of.{tables};
 ghost use Rattle.envelope.specs.Derive.{kept, lowWalls, highWalls, inverses, isotropic, derived};
 ghost use Rattle.envelope.specs.Steps.{substepsIn};
-ghost use Rattle.envelope.specs.Refusals.{sizesOk, limitsOk, gainsOk, brakeOk, zoneOk, normOk, boxOk, scalarsOk, ordered, derivedOk, calibrationOk, numbersFrom, countsOk, stepsOk, channelsOk, compiled};
+ghost use Rattle.envelope.specs.Refusals.{sizesOk, limitsOk, gainsOk, brakeOk, zoneOk, normOk, boxOk, scalarsOk, ordered, derivedOk, calibrationOk, numbersFrom, countsOk, stepsOk, channelsOk, featuresOk, compiled};
 use conformal::Calibration;
 use refusal::Refusal;
 
@@ -419,6 +419,16 @@ fn channels_ok(contact: Contact, aux_count: usize) -> bool
     }
 }
 
+// ---- 17: features
+
+// The calibration's features, where the flag is set.
+fn features_ok(c: FuseConfig) -> bool
+    ensures { λ r. ⌜ r ≡ featuresOk c ⌝ }
+{
+    let k = conformal::features_ok(c.calib);
+    !c.calibrated | k
+}
+
 // ---- all of it, in one pass
 
 // Judges a configuration and derives from it, whether it is refused or not. What is judged last comes first.
@@ -431,7 +441,9 @@ pub fn compile(c: FuseConfig, center: &[f64; 192], scale: &[f64; 192]) -> Compil
     let b = numbers_ok(c, derived, center, scale);
     let d = steps_ok(c);
     let e = channels_ok(contact, c.aux_count);
-    let of_channels = Refusal::when(Refusal::CHANNELS, !e, 0);
+    let f = features_ok(c);
+    let of_features = Refusal::when(Refusal::WITHDRAWN, !f, 0);
+    let of_channels = Refusal::when(Refusal::CHANNELS, !e, of_features);
     let of_steps = Refusal::when(Refusal::STEPS, !d, of_channels);
     let of_numbers = Refusal::when(Refusal::NUMBER, !b, of_steps);
     let number = Refusal::when(Refusal::SIZE, !a, of_numbers);

@@ -9,7 +9,7 @@ use borrow.Author.Tests.{eqb-true, ne-eqb}
 use lib.Dec.{eqb, ltb}
 use lib.Ieee.{Float, Format, binary64}
 use lib.ListN.{length}
-use Rattle.refusal.specs.Order.{Reason, Judged, size, number, steps, short, notFinite, computed, _when_, numberOf, order, among, given, refusal, refusedFor, _or_}
+use Rattle.refusal.specs.Order.{Reason, Judged, size, number, steps, withdrawn, short, notFinite, computed, _when_, numberOf, order, among, given, refusal, refusedFor, _or_}
 use Rattle.bits.specs.Choice.{if_then_else_}
 use Rattle.refusal.specs.Exactly.{First, here, later, exactly-first, exactly-none}
 use Rattle.checked.specs.Checked.{root}
@@ -237,6 +237,7 @@ abbrev scoresJudged : Calibration → Tables → Scores → Bool → List Judged
 scoresJudged cal tabs sc sound =
     (size when not (calibration.sizesOk cal))
     ∷ (number when not (calibration.numbersOk cal tabs))
+    ∷ (withdrawn when not (calibration.featuresOk cal))
     ∷ (notFinite when not (calibration.scoresOk sc))
     ∷ (computed when not sound) ∷ []
 

@@ -7,7 +7,7 @@ use Rattle.bits.specs.Choice.{if_then_else_}
 use Rattle.refusal.specs.declared.Refusal.{Refusal}
 
 pub data Reason : Type 0 where
-  size number steps channels : Reason
+  size number steps channels withdrawn : Reason
   empty tooLong tooWide execExceedsHorizon lenMismatch width : Reason
   short notFinite computed leftover : Reason
 
@@ -16,6 +16,7 @@ numberOf size = 1
 numberOf number = 2
 numberOf steps = 3
 numberOf channels = 4
+numberOf withdrawn = 17
 numberOf empty = 5
 numberOf tooLong = 6
 numberOf tooWide = 7
@@ -27,10 +28,10 @@ numberOf notFinite = 12
 numberOf computed = 13
 numberOf leftover = 14
 
--- the order of judging; a number that a later request places by words ("after 4") goes to its place here
+-- the order of judging, which is not that of the numbers: 17 stands after 4
 abbrev pub order : List Reason
 order =
-    size ∷ number ∷ steps ∷ channels
+    size ∷ number ∷ steps ∷ channels ∷ withdrawn
     ∷ empty ∷ tooLong ∷ tooWide ∷ execExceedsHorizon ∷ lenMismatch ∷ width
     ∷ short ∷ notFinite ∷ computed ∷ leftover ∷ []
 

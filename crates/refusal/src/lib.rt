@@ -17,6 +17,8 @@ impl Refusal {
 
     pub const CHANNELS: u8 = 4;
 
+    pub const WITHDRAWN: u8 = 17;
+
     pub const EMPTY: u8 = 5;
 
     pub const TOO_LONG: u8 = 6;
@@ -70,6 +72,7 @@ impl Refusal {
             Refusal::NUMBER,
             Refusal::STEPS,
             Refusal::CHANNELS,
+            Refusal::WITHDRAWN,
             Refusal::EMPTY,
             Refusal::TOO_LONG,
             Refusal::TOO_WIDE,
@@ -82,7 +85,7 @@ impl Refusal {
             Refusal::LEFTOVER,
         ];
         let mut i = 0usize;
-        while i < 14 {
+        while i < 15 {
             let n = order[i];
             if (a == n) | (b == n) {
                 return n;

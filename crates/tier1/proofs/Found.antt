@@ -9,7 +9,7 @@ use Rattle.root.specs.Root.{rootOf}
 use Rattle.checked.specs.Constants.{1!, eps}
 use Rattle.checked.specs.Finite.{finite, +0}
 use Rattle.checked.specs.Checked.{Checked, pure, sumFrom}
-use Rattle.checked.specs.Least.{lesser, greater}
+use Rattle.checked.specs.Least.{greater}
 use Rattle.fmath.specs.Norm.{dist}
 use Rattle.checked.proofs.Absorbing.{fine-sub-right, fine-div-left, fine-root}
 use Rattle.checked.proofs.Each.{_&&≡_, and-right}
@@ -20,10 +20,10 @@ use Rattle.window.proofs.TrailTold.{net-tells, path-tells}
 use Rattle.tier1.specs.declared.Manifest.{Manifest}
 use Rattle.checked.specs.declared.Reckoned.{Reckoned}
 use Rattle.tier1.specs.declared.Pair.{Pair}
-use Rattle.tier1.specs.Rule.{boxDims, _⊕_, _⊘_, sumRows, gaps, steps, jolts, stepLength, tce, acc, acmNeg, njr, reach, startRow, peak, speedPeak, netLength, pathLength, pathIneff, stallReach, stall, ifThere}
+use Rattle.tier1.specs.Rule.{boxDims, _⊕_, _⊘_, sumRows, gaps, steps, jolts, stepLength, tce, acc, acmNeg, njr, reach, startRow, peak, speedPeak, netLength, pathLength, pathIneff, ifThere}
 use Rattle.checked.specs.Of.{reckonedFrom}
 use Rattle.tier1.specs.Of.{pairFrom}
-use Rattle.tier1.proofs.Tells.{Shows, Tell, shown, pure-shows, finite-neg, plus-tells, rooted-tells, over-tells, over-given-tells, gaps-tell, jolts-tell, lengths-tell, stall-reach-tells}
+use Rattle.tier1.proofs.Tells.{Shows, Tell, shown, pure-shows, finite-neg, plus-tells, rooted-tells, over-tells, over-given-tells, gaps-tell, jolts-tell, lengths-tell}
 
 -- ---- features that are there or not
 
@@ -138,9 +138,8 @@ module _ (f : Format) (m : Manifest) where
 
   -- ---- of the trail
 
-  module _ (t : Trail) {n p x y z : Float} {u v w i j : Bool} (en : n ≡ netLength f m t .value) (ep : p ≡ pathLength f m t .value) (ex : x ≡ greater p eps)
-      (ey : y ≡ lesser 1! (div f n z)) (ez : z ≡ stallReach f m .value)
-      (eu : u ≡ finite p) (ev : v ≡ finite (sub f 1! (div f n x))) (ew : w ≡ finite z) (ei : i ≡ finite (div f n z)) (ej : j ≡ finite (sub f 1! y)) where
+  module _ (t : Trail) {n p x : Float} {u v : Bool} (en : n ≡ netLength f m t .value) (ep : p ≡ pathLength f m t .value) (ex : x ≡ greater p eps)
+      (eu : u ≡ finite p) (ev : v ≡ finite (sub f 1! (div f n x))) where
     net-told : Tell (netLength f m t)
     unfolding netLength
     net-told = record { tells = net-tells f (t .buf) (t .head) (t .len) (m .«pos_dim») 20 }
@@ -159,12 +158,6 @@ module _ (f : Format) (m : Manifest) where
         ∙ sym (ap (λ (b : Bool). netLength f m t .sound && (pathLength f m t .sound && b)) (implied (finite quotient) (finite (sub f 1! quotient)) (fine-sub-right f 1! quotient))
         ∙ implied (netLength f m t .sound) (pathLength f m t .sound && finite (sub f 1! quotient)) (λ h. shown net-told .so (fine-div-left f (netLength f m t .value) (greater (pathLength f m t .value) eps) (fine-sub-right f 1! quotient (and-right (pathLength f m t .sound) (finite (sub f 1! quotient)) h)))))
 
-    stall-sound : (w && i) && j ≡ stall f m t .sound
-    unfolding stall
-    stall-sound =
-        ((ew ∙ ap finite ez ∙ sym (stall-reach-tells f m .tells)) &&≡ (ei ∙ rw (en, ez)) ∙ sym (over-tells f (shown net-told) (stallReach f m)))
-        &&≡ (ej ∙ rw (ey, en, ez))
-
-    pub moving-is : _≡_ {A = Pair} (record { first = sub f 1! (div f n x); second = sub f 1! y; sound = (u && v) && ((w && i) && j) }) (pairFrom (pathIneff f m t) (stall f m t))
-    unfolding pathIneff stall
-    moving-is = a-pair (pathIneff f m t) (stall f m t) (rw (ex, en, ep)) (rw (ey, en, ez)) ineff-sound stall-sound
+    pub ineff-is : _≡_ {A = Reckoned} (record { value = sub f 1! (div f n x); sound = u && v }) (reckonedFrom (pathIneff f m t))
+    unfolding pathIneff
+    ineff-is = a-feature (pathIneff f m t) (rw (ex, en, ep)) ineff-sound

@@ -19,9 +19,9 @@ use Rattle.checked.specs.declared.Reckoned.{Reckoned}
 use Rattle.tier1.specs.declared.Pair.{Pair}
 use Rattle.tier1.specs.declared.SixFeatures.{SixFeatures}
 use Rattle.tier1.specs.declared.AllFeatures.{AllFeatures}
-use Rattle.tier1.specs.Rule.{PE-WINDOW, boxDims, acmNeg, njr, reach, speedPeak, pathIneff, stall, overlap, boundaryAt, ifThere, boundary, boundaryBits, moving, validAt, valueAt, twelve}
+use Rattle.tier1.specs.Rule.{PE-WINDOW, boxDims, acmNeg, njr, reach, speedPeak, pathIneff, overlap, boundaryAt, ifThere, boundary, boundaryBits, moving, validAt, valueAt, twelve}
 use Rattle.checked.specs.Of.{reckonedFrom}
-use Rattle.tier1.specs.Of.{pairFrom, metFrom, boundaryFrom, gatheredFrom, twelveFrom}
+use Rattle.tier1.specs.Of.{metFrom, boundaryFrom, gatheredFrom, twelveFrom}
 
 -- ---- of a chunk
 
@@ -57,13 +57,17 @@ module _ (held len ext j : ℕ) where
   unfolding validAt bit
   valid-held w h e = rw (lt-ltb j 6 h, e)
 
-  pub valid-trail : 6 ≤ j → j < 8 → leb PE-WINDOW len ≡ validAt held len ext j
+  pub valid-trail : 6 ≤ j → j < 7 → leb PE-WINDOW len ≡ validAt held len ext j
   unfolding validAt
-  valid-trail g h = rw (le-ltb j 6 g, lt-ltb j 8 h)
+  valid-trail g h = rw (le-ltb j 6 g, lt-ltb j 7 h)
 
-  pub valid-lent : 6 ≤ j → 8 ≤ j → ltb (j - 8) ext ≡ validAt held len ext j
+  pub valid-never : 6 ≤ j → 7 ≤ j → j < 8 → false ≡ validAt held len ext j
   unfolding validAt
-  valid-lent g h = rw (le-ltb j 6 g, le-ltb j 8 h)
+  valid-never g h i = rw (le-ltb j 6 g, le-ltb j 7 h, lt-ltb j 8 i)
+
+  pub valid-lent : 6 ≤ j → 7 ≤ j → 8 ≤ j → ltb (j - 8) ext ≡ validAt held len ext j
+  unfolding validAt
+  valid-lent g h i = rw (le-ltb j 6 g, le-ltb j 7 h, le-ltb j 8 i)
 
 module _ (held trail ext : List Float) (j : ℕ) (on : Bool) where
   pub not-valid : on ≡ false → +0 ≡ kept on (valueAt held trail ext j)
@@ -83,7 +87,7 @@ module _ (held trail ext : List Float) (j : ℕ) (on : Bool) where
     value-lent g h i = rw (e, le-ltb j 6 g, le-ltb j 8 h) i
 
 module _ (f : Format) (m : Manifest) (t : Trail) (held : List Float) (hv : ℕ) (ext : List Float) where
-  pub twelve-is : {x : Pair} {r : AllFeatures} → x ≡ pairFrom (ifThere (leb PE-WINDOW (t .len)) (pathIneff f m t)) (ifThere (leb 20 (t .len)) (stall f m t))
-      → r ≡ gatheredFrom held hv (t .len) (x .first ∷ x .second ∷ []) (x .sound) ext → r ≡ twelveFrom (twelve f m t held hv ext)
+  pub twelve-is : {x : Reckoned} {r : AllFeatures} → x ≡ reckonedFrom (ifThere (leb PE-WINDOW (t .len)) (pathIneff f m t))
+      → r ≡ gatheredFrom held hv (t .len) (x .value ∷ +0 ∷ []) (x .sound) ext → r ≡ twelveFrom (twelve f m t held hv ext)
   unfolding twelve moving
   twelve-is e g = g ∙ rw (e, and-true, and-true)

@@ -9,11 +9,12 @@ use lib.Dec.{leb, ltb}
 use lib.ListN.{length}
 use lib.Ieee.{Float, Format}
 use Rattle.refusal.specs.Order.{refusedFor}
-use Rattle.checked.specs.Each.{table}
+use Rattle.checked.specs.Each.{at, table}
+use Rattle.checked.specs.Finite.{+0}
 use Rattle.checked.proofs.Each.{table-at}
 use Rattle.bits.specs.Bits.{bit, bitsWhere}
 use Rattle.chunk.specs.declared.Header.{Header}
-use Rattle.conformal.specs.Feat.{TCE, ACC, ACM-NEG, NJR, REACH, SPEED-PEAK, PATH-INEFF, EXT0}
+use Rattle.conformal.specs.Feat.{TCE, ACC, ACM-NEG, NJR, REACH, SPEED-PEAK, PATH-INEFF, STALL, EXT0}
 use Rattle.conformal.specs.declared.Scores.{Scores}
 use Rattle.bits.proofs.Bits.{bit-where, no-bit-past}
 use Rattle.envelope.specs.Derive.{kept}
@@ -90,23 +91,33 @@ module _ (fm : Format) (x : Given) (rt : Tier1Rt) (sc : Scores) where
     pub says-exactly : (j : ℕ) → j < 12 → bit (answer fm x rt sc .scores .valid) j ≡ says j
     says-exactly j l = rw (passed-is e, valid-is) (bit-where says 12 j l)
 
-    trail-bits : (j : ℕ) → PATH-INEFF ≤ j → j < EXT0 → bit (answer fm x rt sc .scores .valid) j ≡ leb PE-WINDOW (rt .trail .len)
+    path-ineff-exactly : bit (answer fm x rt sc .scores .valid) PATH-INEFF ≡ leb PE-WINDOW (rt .trail .len)
     unfolding validAt
-    trail-bits j g l = says-exactly j (omega arith) ∙ rw (le-ltb j PATH-INEFF g, lt-ltb j EXT0 l)
+    path-ineff-exactly = says-exactly PATH-INEFF (omega arith)
+
+    stall-never : bit (answer fm x rt sc .scores .valid) STALL ≡ false
+    unfolding validAt
+    stall-never = says-exactly STALL (omega arith)
+
+    -- where a feature is not valid, f is 0.0
+    zero-where : (j : ℕ) → j < 12 → bit (answer fm x rt sc .scores .valid) j ≡ false → at (answer fm x rt sc .scores .f) j ≡ +0
+    zero-where j l h = rw (passed-is e, f-is) (table-at (λ (i : ℕ). kept (says i) (value i)) 12 j l ∙ rw (sym (says-exactly j l) ∙ h))
 
     external-bits : (i : ℕ) → i < 4 → bit (answer fm x rt sc .scores .valid) (EXT0 + i) ≡ ltb i (length ext)
     unfolding validAt
     external-bits i l =
         let n : 8 + i - 8 ≡ i = omega arith in
-        says-exactly (8 + i) (omega arith) ∙ rw (le-ltb (8 + i) 6 (omega arith), le-ltb (8 + i) 8 (omega arith), n)
+        says-exactly (8 + i) (omega arith) ∙ rw (le-ltb (8 + i) 6 (omega arith), le-ltb (8 + i) 7 (omega arith), le-ltb (8 + i) 8 (omega arith), n)
 
     passed : Passed fm x rt sc
     passed = record {
       valid-exactly = λ j l. says-exactly j l ∙ rw (passed-is e);
       no-further-bit = λ j l. rw (passed-is e, valid-is) (no-bit-past says 12 j l);
-      trail-bits = trail-bits;
+      path-ineff-exactly = path-ineff-exactly;
+      stall-never = stall-never;
+      stall-is-zero = zero-where STALL (omega arith) stall-never;
       external-bits = external-bits;
-      zero-where-not-valid = λ j l h. rw (passed-is e, f-is) (table-at (λ (i : ℕ). kept (says i) (value i)) 12 j l ∙ rw (sym (says-exactly j l) ∙ h));
+      zero-where-not-valid = zero-where;
     }
 
 -- ---- with a chunk: each held feature is valid exactly under its condition

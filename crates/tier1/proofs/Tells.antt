@@ -13,7 +13,7 @@ use Rattle.checked.proofs.Absorbing.{Fine, fine-add-left, fine-add-right, fine-
 use Rattle.checked.proofs.Each.{and-left, and-right}
 use Rattle.checked.proofs.Told.{Tells, implied, sum-tells}
 use Rattle.tier1.specs.declared.Manifest.{Manifest}
-use Rattle.tier1.specs.Rule.{20!, STALL-VREF-FRAC, row, _⊕_, _⊖_, _⊗_, _⊘_, squared, rooted, sumRows, normal, gap, jolt, gaps, steps, jolts, stepLength, stallReach}
+use Rattle.tier1.specs.Rule.{row, _⊕_, _⊖_, _⊗_, _⊘_, squared, rooted, sumRows, normal, gap, jolt, gaps, steps, jolts, stepLength}
 
 -- where the value is finite, so is each number on the way to it
 pub record Shows (x : Checked Float) : Type 0 where
@@ -127,8 +127,3 @@ module _ (f : Format) where
 
     pub lengths-tell : (b : List Float) (n : ℕ) → Tell (sumFrom f +0 (stepLength f m b) n)
     lengths-tell b n = record { tells = sum-tells f +0 (stepLength f m b) zero-fine (length-tells b) n }
-
-    pub stall-reach-tells : Tell (stallReach f m)
-    unfolding stallReach
-    stall-reach-tells =
-        times-tells f (shown (times-tells f (shown (over-given-tells f (shown (times-tells f (pure-shows STALL-VREF-FRAC) (pure-shows (m .iso)))) (m .dt))) (pure-shows 20!))) (pure-shows (m .dt))

@@ -38,7 +38,6 @@ abbrev pub manifestFrom : FuseConfig → Derived → Manifest
 manifestFrom c d = record {
   dim = c .dim;
   «pos_dim» = c .«pos_dim»;
-  dt = c .limits .dt;
   center = c .norm .center;
   inverse = d .«inv_norm_scale»;
   iso = d .«norm_scale_iso»;

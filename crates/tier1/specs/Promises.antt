@@ -12,7 +12,7 @@ use Rattle.checked.specs.Each.{at}
 use Rattle.checked.specs.Finite.{+0}
 use Rattle.bits.specs.Bits.{bit}
 use Rattle.chunk.specs.declared.Header.{Header}
-use Rattle.conformal.specs.Feat.{TCE, ACC, ACM-NEG, NJR, REACH, SPEED-PEAK, PATH-INEFF, EXT0}
+use Rattle.conformal.specs.Feat.{TCE, ACC, ACM-NEG, NJR, REACH, SPEED-PEAK, PATH-INEFF, STALL, EXT0}
 use Rattle.conformal.specs.Rule.{Tables}
 use Rattle.conformal.specs.declared.Scores.{Scores}
 use Rattle.envelope.specs.declared.FuseConfig.{FuseConfig}
@@ -59,10 +59,13 @@ module _ (f : Format) (x : Given) (rt : Tier1Rt) (sc : Scores) where
 
   -- of a call that passes
   pub record Passed : Type 0 where
-    -- a bit is set exactly where its feature is valid: a held one by its bit, one of the trail by its samples, an external one where it is lent
+    -- a bit is set exactly where its feature is valid: a held one by its bit, PathIneff by the trail's samples, an external one where it is lent
     pub valid-exactly : (j : ℕ) → j < 12 → validBit j ≡ validAt (answer .rt .«held_valid») (rt .trail .len) (length (x .externals)) j
     pub no-further-bit : (j : ℕ) → 12 ≤ j → validBit j ≡ false
-    pub trail-bits : (j : ℕ) → PATH-INEFF ≤ j → j < EXT0 → validBit j ≡ leb PE-WINDOW (rt .trail .len)
+    pub path-ineff-exactly : validBit PATH-INEFF ≡ leb PE-WINDOW (rt .trail .len)
+    -- Stall is never valid and is 0.0, however many samples there are and whatever scores came in
+    pub stall-never : validBit STALL ≡ false
+    pub stall-is-zero : at (answer .scores .f) STALL ≡ +0
     pub external-bits : (i : ℕ) → i < 4 → validBit (EXT0 + i) ≡ ltb i (length (x .externals))
     -- where a feature is not valid, f is 0.0
     pub zero-where-not-valid : (j : ℕ) → j < 12 → validBit j ≡ false → at (answer .scores .f) j ≡ +0

@@ -3,35 +3,28 @@ use Prim.Native.Nat.{ℕ, zero, suc, _+_, _-_, _*_, min}
 use mathlib.Core.Bool.{Bool, true, false, _&&_}
 use mathlib.Core.List.{List, [], _∷_}
 use lib.Dec.{ltb, leb, eqb}
-use lib.IntN.{pos, negsuc}
+use lib.IntN.{pos}
 use lib.ListN.{length, getD, drop}
-use lib.Ieee.{Float, Format, fin, neg, ofInt}
+use lib.Ieee.{Float, Format, neg, ofInt}
 use Rattle.bits.specs.Choice.{if_then_else_}
 use Rattle.checked.specs.Constants.{1!, 3!, eps}
 use Rattle.checked.specs.Each.{at, all, table, over}
 use Rattle.checked.specs.Finite.{+0}
 use Rattle.checked.specs.Row.{padded}
 use Rattle.checked.specs.Checked.{Checked, _>>=_, pure, plus, minus, times, divided, root, sumFrom}
-use Rattle.checked.specs.Least.{lesser, greater, greatest}
+use Rattle.checked.specs.Least.{greater, greatest}
 use Rattle.fmath.specs.Norm.{dist}
 use Rattle.window.specs.Rule.{net, path}
 use Rattle.window.specs.declared.Trail.{Trail}
 use Rattle.bits.specs.Bits.{bit, bitsWhere}
-use Rattle.conformal.specs.Feat.{PATH-INEFF, EXT0, COUNT}
+use Rattle.conformal.specs.Feat.{PATH-INEFF, STALL, EXT0, COUNT}
 use Rattle.envelope.specs.Derive.{kept}
 use Rattle.tier1.specs.declared.Manifest.{Manifest}
 use Rattle.tier1.specs.declared.Kept.{Kept}
 
--- how many samples of the trail PathIneff and Stall look at, and the same as a float
+-- how many samples of the trail PathIneff looks at
 abbrev pub PE-WINDOW : ℕ
 PE-WINDOW = 20
-
-abbrev pub 20! : Float
-20! = fin false 5 (pos 2)
-
--- 0.05, which `Worked` gives by its bits: Stall's reference speed, as a part of the isotropic scale a step
-abbrev pub STALL-VREF-FRAC : Float
-STALL-VREF-FRAC = fin false 0xccccccccccccd (negsuc 55)
 
 -- row i of rows that are d wide: it starts at i x d, and what follows it is not read
 abbrev pub row : List Float → ℕ → ℕ → List Float
@@ -162,7 +155,7 @@ module _ (f : Format) where
   unfoldable pub speedPeak : Manifest → List Float → List Float → ℕ → Checked Float
   speedPeak m p b h = peak (m .dim) (startRow m p b) b h ⊘ pure (m .iso)
 
-  -- ---- the features of the trail, over its last samples
+  -- ---- the feature of the trail, over its last samples
 
   unfoldable pub netLength : Manifest → Trail → Checked Float
   netLength m t = net f (t .buf) (t .head) (t .len) (m .«pos_dim») PE-WINDOW
@@ -175,15 +168,6 @@ module _ (f : Format) where
     n ← netLength m t
     p ← pathLength m t
     pure 1! ⊖ (pure n ⊘ pure (greater p eps))
-
-  -- how far a trail goes at the reference speed
-  unfoldable pub stallReach : Manifest → Checked Float
-  stallReach m = ((pure STALL-VREF-FRAC ⊗ pure (m .iso)) ⊘ pure (m .dt)) ⊗ pure 20! ⊗ pure (m .dt)
-
-  unfoldable pub stall : Manifest → Trail → Checked Float
-  stall m t = do
-    r ← netLength m t ⊘ stallReach m
-    pure 1! ⊖ pure (lesser 1! r)
 
 -- ---- which features there are
 
@@ -216,18 +200,21 @@ boundary f m k a p t h b = do
 unfoldable pub boundaryBits : Manifest → Kept → List Float → ℕ → ℕ → ℕ
 boundaryBits m k p t h = bitsWhere (boundaryAt (overlap k t h (m .dim)) h (boxDims m p)) 6
 
--- the features of the trail, where it holds enough samples
+-- bits 6 and 7: PathIneff where the trail holds enough samples, and Stall, which is 0.0 and for which nothing is computed
 unfoldable pub moving : Format → Manifest → Trail → Checked (List Float)
 moving f m t = do
   x ← ifThere (leb PE-WINDOW (t .len)) (pathIneff f m t)
-  y ← ifThere (leb PE-WINDOW (t .len)) (stall f m t)
-  pure (x ∷ y ∷ [])
+  pure (x ∷ +0 ∷ [])
 
 -- ---- all twelve of a tick
 
--- a feature is valid: a held one by its bit, one of the trail where it holds enough samples, an external one where it is lent
+-- a feature is valid: a held one by its bit, PathIneff where the trail holds enough samples, Stall never, an external one where it is lent
 unfoldable pub validAt : ℕ → ℕ → ℕ → ℕ → Bool
-validAt held len ext j = if ltb j PATH-INEFF then bit held j else if ltb j EXT0 then leb PE-WINDOW len else ltb (j - EXT0) ext
+validAt held len ext j =
+    if ltb j PATH-INEFF then bit held j
+    else if ltb j STALL then leb PE-WINDOW len
+    else if ltb j EXT0 then false
+    else ltb (j - EXT0) ext
 
 -- its value
 unfoldable pub valueAt : List Float → List Float → List Float → ℕ → Float

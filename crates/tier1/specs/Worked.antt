@@ -11,21 +11,12 @@ use Rattle.checked.specs.Each.{all, over, table}
 use Rattle.checked.specs.Finite.{finite, +0}
 use Rattle.checked.specs.Row.{padded}
 use Rattle.checked.specs.Checked.{sumFrom}
-use Rattle.checked.specs.Least.{lesser, greater, greatest}
+use Rattle.checked.specs.Least.{greater, greatest}
 use Rattle.fmath.specs.Norm.{squaredGap, dist}
 use Rattle.window.specs.Rule.{net, path, step}
 use Rattle.bits.specs.Bits.{bit, bitsWhere}
 use Rattle.tier1.specs.declared.Manifest.{Manifest}
-use Rattle.tier1.specs.Rule.{20!, STALL-VREF-FRAC, sumRows, normal, gap, jolt, tce, acc, stepLength, acmNeg, njr, reach, startRow, stride, peak, speedPeak, netLength, pathLength, pathIneff, stallReach, stall, overlap, boundary, boundaryBits, moving, validAt, valueAt, twelve}
-
--- the constants by their bits
-pub stall-part-bits : ofBits binary64 0x3fa999999999999a ≡ STALL-VREF-FRAC
-unfolding ofBits ofFields odd
-stall-part-bits = refl
-
-pub twenty-bits : ofBits binary64 0x4034000000000000 ≡ 20!
-unfolding ofBits ofFields odd
-twenty-bits = refl
+use Rattle.tier1.specs.Rule.{sumRows, normal, gap, jolt, tce, acc, stepLength, acmNeg, njr, reach, startRow, stride, peak, speedPeak, netLength, pathLength, pathIneff, overlap, boundary, boundaryBits, moving, validAt, valueAt, twelve}
 
 abbrev 4! : Float
 4! = fin false 1 (pos 2)
@@ -50,7 +41,6 @@ abbrev line : Manifest
 line = record {
   dim = 1;
   «pos_dim» = 1;
-  dt = 1!;
   center = 1! ∷ [];
   inverse = 1/2 ∷ [];
   iso = 2!;
@@ -76,7 +66,6 @@ abbrev plane : Manifest
 plane = record {
   dim = 2;
   «pos_dim» = 1;
-  dt = 1!;
   center = 1! ∷ +0 ∷ [];
   inverse = 1/2 ∷ 1! ∷ [];
   iso = 2!;
@@ -114,9 +103,9 @@ abbrev there-and-back : ℕ → List Float
 there-and-back zero = []
 there-and-back (suc n) = sample +0 (sample 1! (there-and-back n))
 
--- a way of 19 for a net of 1, half of what the reference speed goes
-pub to-and-fro : moving binary64 line (record { buf = there-and-back 10; head = 20; len = 20 }) ≡ record { value = ofBits binary64 0x3fee50d79435e50e ∷ 1/2 ∷ []; sound = true }
-unfolding moving pathIneff stall stallReach netLength pathLength net path step greater lesser sumFrom dist squaredGap ofBits ofFields odd add sub mul div lt finite rootOf number rootExponent half nearRoot floorRoot scaled
+-- a way of 19 for a net of 1; Stall is 0.0
+pub to-and-fro : moving binary64 line (record { buf = there-and-back 10; head = 20; len = 20 }) ≡ record { value = ofBits binary64 0x3fee50d79435e50e ∷ +0 ∷ []; sound = true }
+unfolding moving pathIneff netLength pathLength net path step greater sumFrom dist squaredGap ofBits ofFields odd add sub mul div lt finite rootOf number rootExponent half nearRoot floorRoot scaled
 to-and-fro = refl
 
 -- one sample fewer
@@ -124,8 +113,8 @@ pub nineteen : moving binary64 line (record { buf = there-and-back 10; head = 19
 unfolding moving
 nineteen = refl
 
--- all of a tick: AcmNeg alone is held as valid, and two external scalars are lent
+-- all of a tick: AcmNeg alone is held as valid, and two external scalars are lent; bit 7 is clear
 pub tick-features : twelve binary64 line (record { buf = there-and-back 10; head = 20; len = 20 }) (5! ∷ 5! ∷ 5! ∷ 5! ∷ 5! ∷ 5! ∷ []) 4 (8! ∷ 6! ∷ []) .value
-    ≡ record { f = +0 ∷ +0 ∷ 5! ∷ +0 ∷ +0 ∷ +0 ∷ ofBits binary64 0x3fee50d79435e50e ∷ 1/2 ∷ 8! ∷ 6! ∷ +0 ∷ +0 ∷ []; valid = 964 }
-unfolding twelve table validAt valueAt bit bitsWhere moving pathIneff stall stallReach netLength pathLength net path step greater lesser sumFrom dist squaredGap ofBits ofFields odd add sub mul div lt finite rootOf number rootExponent half nearRoot floorRoot scaled
+    ≡ record { f = +0 ∷ +0 ∷ 5! ∷ +0 ∷ +0 ∷ +0 ∷ ofBits binary64 0x3fee50d79435e50e ∷ +0 ∷ 8! ∷ 6! ∷ +0 ∷ +0 ∷ []; valid = 836 }
+unfolding twelve table validAt valueAt bit bitsWhere moving pathIneff netLength pathLength net path step greater sumFrom dist squaredGap ofBits ofFields odd add sub mul div lt finite rootOf number rootExponent half nearRoot floorRoot scaled
 tick-features = refl

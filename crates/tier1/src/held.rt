@@ -54,7 +54,7 @@ fn overlap(k: Kept, t: u32, h: usize, d: usize) -> usize
 }
 
 // A feature that is not there.
-fn absent() -> Reckoned
+pub(crate) fn absent() -> Reckoned
     ensures { λ r. ⌜ r ≡ reckonedFrom (pure +0) ⌝ }
 {
     Reckoned {
@@ -64,7 +64,7 @@ fn absent() -> Reckoned
 }
 
 // Two that are not there.
-pub(crate) fn absent_pair() -> Pair
+fn absent_pair() -> Pair
     ensures { λ r. ⌜ r ≡ pairFrom (pure +0) (pure +0) ⌝ }
 {
     Pair {

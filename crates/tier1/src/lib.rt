@@ -39,7 +39,6 @@ pub struct Tier1Rt {
 pub struct Manifest {
     pub dim: usize,
     pub pos_dim: usize,
-    pub dt: f64,
     pub center: [f64; 8],
     pub inverse: [f64; 8],
     pub iso: f64,
@@ -104,7 +103,6 @@ fn manifest_of(c: FuseConfig, d: Derived) -> Manifest
     Manifest {
         dim: c.dim,
         pos_dim: c.pos_dim,
-        dt: c.limits.dt,
         center,
         inverse,
         iso: d.norm_scale_iso,

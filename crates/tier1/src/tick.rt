@@ -1,48 +1,38 @@
-// The features of the trail, and all twelve of a tick.
+// The feature of the trail, and all twelve of a tick.
 ghost use mathlib.Core.Path.{_≡_};
 ghost use Prim.Native.Nat.{_^_, _<_};
 ghost use lib.Dec.{leb};
 ghost use lib.Ieee.{binary64};
-ghost use Rattle.tier1.specs.Rule.{PE-WINDOW, pathIneff, stall, ifThere, validAt, valueAt, twelve};
+ghost use Rattle.tier1.specs.Rule.{PE-WINDOW, pathIneff, ifThere, validAt, valueAt, twelve};
 ghost use Rattle.envelope.specs.Derive.{kept};
-ghost use Rattle.tier1.specs.Of.{pairFrom, gatheredFrom, twelveFrom};
+ghost use Rattle.tier1.specs.Of.{gatheredFrom, twelveFrom};
+ghost use Rattle.checked.specs.Of.{reckonedFrom};
 use crate::AllFeatures;
 use crate::EPS;
 use crate::Manifest;
-use crate::Pair;
-use crate::held::absent_pair;
+use crate::held::absent;
 use checked::Reckoned;
 use conformal::Feat;
 use window::Trail;
 
-// How many samples of the trail PathIneff and Stall look at.
+// How many samples of the trail PathIneff looks at.
 const PE_WINDOW: u8 = 20;
 
-// Stall's reference speed, as a part of the isotropic scale a step.
-const STALL_VREF_FRAC: f64 = 0.05;
-
-// PathIneff and Stall of the last samples. The way and the quotient are tested, since greatest and least hide them.
-fn moving(m: Manifest, t: Trail) -> Pair
-    ensures { λ r. ⌜ r ≡ pairFrom (ifThere (leb PE-WINDOW (t .len)) (pathIneff binary64 m t)) (ifThere (leb PE-WINDOW (t .len)) (stall binary64 m t)) ⌝ }
+// PathIneff of the last samples. The way is tested by itself, since a quotient by it hides an infinity.
+fn path_ineff(m: Manifest, t: Trail) -> Reckoned
+    ensures { λ r. ⌜ r ≡ reckonedFrom (ifThere (leb PE-WINDOW (t .len)) (pathIneff binary64 m t)) ⌝ }
 {
     if t.len < PE_WINDOW {
-        return absent_pair();
+        return absent();
     }
     let n = t.displacement(m.pos_dim, PE_WINDOW as usize);
     let p = t.travelled(m.pos_dim, PE_WINDOW as usize);
-    let first = 1.0 - n / fmath::max(p, EPS);
-    let away = STALL_VREF_FRAC * m.iso / m.dt * 20.0 * m.dt;
-    let part = n / away;
-    let second = 1.0 - fmath::min(1.0, part);
-    let u = fmath::finite(p);
-    let v = fmath::finite(first);
-    let w = fmath::finite(away);
-    let x = fmath::finite(part);
-    let y = fmath::finite(second);
-    Pair {
-        first,
-        second,
-        sound: (u & v) & ((w & x) & y),
+    let value = 1.0 - n / fmath::max(p, EPS);
+    let a = fmath::finite(p);
+    let b = fmath::finite(value);
+    Reckoned {
+        value,
+        sound: a & b,
     }
 }
 
@@ -54,8 +44,11 @@ fn valid_at(held: u32, len: u8, ext: usize, j: usize, w: u32) -> bool
     if j < Feat::PATH_INEFF {
         return held / w % 2 == 1;
     }
-    if j < Feat::EXT0 {
+    if j < Feat::STALL {
         return PE_WINDOW <= len;
+    }
+    if j < Feat::EXT0 {
+        return false;
     }
     j - Feat::EXT0 < ext
 }
@@ -114,7 +107,7 @@ pub(crate) fn twelve(
 ) -> AllFeatures
     ensures { λ r. ⌜ r ≡ twelveFrom (twelve binary64 m t held «held_valid» (now (ext .entry))) ⌝ }
 {
-    let p = moving(m, t);
-    let trail = [p.first, p.second];
+    let p = path_ineff(m, t);
+    let trail = [p.value, 0.0];
     gathered(held, held_valid, t.len, trail, p.sound, ext)
 }

@@ -10,6 +10,9 @@ sizes-ok-requires c κs = search needs
 numbers-ok-requires : tie.Need-numbers-ok-requires
 numbers-ok-requires c κs = search needs
 
+features-ok-requires : tie.Need-features-ok-requires
+features-ok-requires c κs = search needs
+
 scores-ok-requires : tie.Need-scores-ok-requires
 scores-ok-requires c κs = search needs
 
@@ -25,9 +28,14 @@ when-requires-3 c κs = search needs
 when-requires-4 : tie.Need-when-requires-4
 when-requires-4 c κs = search needs
 
+when-requires-5 : tie.Need-when-requires-5
+when-requires-5 c κs = search needs
+
 returns : tie.Need-returns
 unfolding judged
-returns c = rw (c .when4 .ensures, c .before .when3 .ensures, c .before .before .when2 .ensures, c .before .before .before .when .ensures, c .before .before .before .before .before .before .sizes-ok .ensures, c .before .before .before .before .before .numbers-ok .ensures, c .before .before .before .before .scores-ok .ensures)
+returns c =
+    let s = c .before .before .before .before .before in
+    rw (c .when5 .ensures, c .before .when4 .ensures, c .before .before .when3 .ensures, c .before .before .before .when2 .ensures, c .before .before .before .before .when .ensures, s .before .before .before .sizes-ok .ensures, s .before .before .numbers-ok .ensures, s .before .features-ok .ensures, s .scores-ok .ensures)
 
 pub judge-spec : {M : Type 1} → statement M
 judge-spec =
@@ -35,9 +43,11 @@ judge-spec =
     (tie.spec
     sizes-ok-requires
     numbers-ok-requires
+    features-ok-requires
     scores-ok-requires
     when-requires
     when-requires-2
     when-requires-3
     when-requires-4
+    when-requires-5
     returns)

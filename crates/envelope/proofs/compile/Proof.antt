@@ -18,6 +18,9 @@ steps-ok-requires c κs = search needs
 channels-ok-requires : tie.Need-channels-ok-requires
 channels-ok-requires c κs = search needs
 
+features-ok-requires : tie.Need-features-ok-requires
+features-ok-requires c κs = search needs
+
 when-requires : tie.Need-when-requires
 when-requires c κs = search needs
 
@@ -30,11 +33,14 @@ when-requires-3 c κs = search needs
 when-requires-4 : tie.Need-when-requires-4
 when-requires-4 c κs = search needs
 
+when-requires-5 : tie.Need-when-requires-5
+when-requires-5 c κs = search needs
+
 returns : tie.Need-returns
 returns c =
-    let n = c .before .before .before .before in
-    let s = n .before .before .before in
-    rw (c .when4 .ensures, c .before .when3 .ensures, c .before .before .when2 .ensures, c .before .before .before .when .ensures, s .sizes-ok .ensures, n .before .before .numbers-ok .ensures, n .before .steps-ok .ensures, n .channels-ok .ensures, s .before .derive .ensures)
+    let n = c .before .before .before .before .before in
+    let s = n .before .before .before .before in
+    rw (c .when5 .ensures, c .before .when4 .ensures, c .before .before .when3 .ensures, c .before .before .before .when2 .ensures, c .before .before .before .before .when .ensures, s .sizes-ok .ensures, n .before .before .before .numbers-ok .ensures, n .before .before .steps-ok .ensures, n .before .channels-ok .ensures, n .features-ok .ensures, s .before .derive .ensures)
 
 pub compile-spec : {M : Type 1} → statement M
 compile-spec =
@@ -45,8 +51,10 @@ compile-spec =
     numbers-ok-requires
     steps-ok-requires
     channels-ok-requires
+    features-ok-requires
     when-requires
     when-requires-2
     when-requires-3
     when-requires-4
+    when-requires-5
     returns)
