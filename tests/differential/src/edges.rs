@@ -531,7 +531,7 @@ fn table() -> Vec<Condition> {
 struct Judge {
     entry: &'static str,
     takes: Takes,
-    /// The number for a configuration that is accepted: of the entry's other arguments, which are else all 0 and long enough.
+    /// The number where the configuration is accepted: 0, or that of another argument. The others are all 0 and long enough.
     accepted: u8,
     number: Box<dyn Fn(&FuseConfig) -> u8>,
 }
@@ -568,8 +568,8 @@ fn no_row(c: &FuseConfig) -> ChunkView<'static> {
     ChunkView { horizon: 0, data: &[], ..row(c) }
 }
 
-/// The entries with a configuration and no chunk, each with a position of zeros and one of NaNs.
-fn judges_of_rows(port: &Port) -> Vec<Judge> {
+/// `derive`, and the entries with a configuration and no chunk, each with a position of zeros and one of NaNs.
+fn judges_of_positions(port: &Port) -> Vec<Judge> {
     let mut all = Vec::new();
     let mut asked = |entry, accepted, number| all.push(Judge { entry, takes: Takes::Configuration, accepted, number });
     if let Some(f) = port.derive {
@@ -637,7 +637,7 @@ fn judges_of_scores(port: &Port) -> Vec<Judge> {
 }
 
 fn judges(port: &Port) -> Vec<Judge> {
-    let parts = [judges_of_rows(port), judges_of_chunks(port), judges_of_scores(port)];
+    let parts = [judges_of_positions(port), judges_of_chunks(port), judges_of_scores(port)];
     parts.into_iter().flatten().collect()
 }
 

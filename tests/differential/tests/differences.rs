@@ -272,13 +272,15 @@ fn stall_is_not_computed() {
     let path_ineff_alone = Ok((0.0, 1 << PATH_INEFF));
     assert_eq!(stalled(&boxed(1), 20, 0.0), (Some(1.0), path_ineff_alone));
     assert_eq!(stalled(&boxed(1), 19, 0.0), (None, Ok((0.0, 0))));
-    let far_away = FuseConfig { dt: 1e20, norm_scale: [1e-308; 8], ..boxed(1) };
-    let (rust, model) = stalled(&far_away, 20, 0.0);
-    assert!(rust.is_some_and(f64::is_nan) && model == path_ineff_alone, "a denominator of 0");
-    let fast = FuseConfig { dt: 1e-10, norm_scale: [1e300; 8], ..boxed(1) };
-    assert_eq!(stalled(&fast, 20, 0.0), (Some(1.0), path_ineff_alone), "an infinite speed");
-    let small = FuseConfig { norm_scale: [1e-308; 8], ..boxed(1) };
-    assert_eq!(stalled(&small, 20, 1e10), (Some(0.0), path_ineff_alone), "an infinite quotient");
+    // a denominator of 0, an infinite speed, an infinite quotient
+    let cases = [(1e20, 1e-308, 0.0, "NaN"), (1e-10, 1e300, 0.0, "1"), (1.0, 1e-308, 1e10, "0")];
+    for (dt, scale, newest, stall) in cases {
+        let cfg = FuseConfig { dt, norm_scale: [scale; 8], ..boxed(1) };
+        oracle::take_raised();
+        let (rust, model) = stalled(&cfg, 20, newest);
+        assert_eq!(oracle::take_raised(), oracle::FLAGS_READ, "a number on the way that is not finite");
+        assert_eq!((rust.map(|x| x.to_string()).as_deref(), model), (Some(stall), path_ineff_alone));
+    }
 }
 
 #[test]
