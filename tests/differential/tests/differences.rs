@@ -1,4 +1,4 @@
-//! The smallest input for each line of docs/DIFFERENCES.md: what the published Rust answers, and what the scope document has
+//! The smallest input for each line of docs/DIFFERENCES.md: what the published Rust answers, and what the documents have
 //! the port answer, by its model.
 
 use std::panic::catch_unwind;

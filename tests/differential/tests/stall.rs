@@ -18,7 +18,7 @@ fn sides() -> [(&'static str, Port); 2] {
     [("the model", model), ("the port", linked::port())]
 }
 
-/// A full trail of one coordinate that stands at its end since the samples that are given, oldest first.
+/// The state after twenty samples of one coordinate, oldest first.
 fn trail(samples: &[f64; 20]) -> Tier1Rt {
     let mut rt = Tier1Rt { trail: Trail { len: 20, head: 20, ..Trail::NEW }, ..Tier1Rt::NEW };
     for (slot, x) in rt.trail.buf.chunks_mut(MAX_POS).zip(samples) {
@@ -88,7 +88,8 @@ fn a_stall_of_finite_numbers() {
     }
 }
 
-/// 13 from the trail, where the Rust's flags show it, too, without Stall's numbers.
+/// 13 from the trail, where the Rust's flags show it, too, without Stall's numbers. It is net's or path's: PathIneff divides a net
+/// whose square is finite by 1e-9 or more, and so adds none of its own.
 fn not_finite(samples: [f64; 20], net: bool, path: bool) {
     let (cfg, rt) = (config(1.0, 1.0), trail(&samples));
     assert_eq!((window::net(&rt.trail, 1, 20).is_err(), window::path(&rt.trail, 1, 20).is_err()), (net, path));

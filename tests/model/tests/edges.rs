@@ -292,7 +292,11 @@ fn two_chunks() {
     assert_eq!(featured(good, held), None);
     assert_eq!(featured(None, ChunkBuf { horizon: 0, ..held }), Some(5));
     assert_eq!(featured(None, ChunkBuf { horizon: 0, filled: false, ..held }), None);
-    assert_eq!(featured(Some(view(1, 2, 2, &[])), ChunkBuf { dim: 9, ..held }), Some(7), "the held one's is lower");
+    assert_eq!(
+        featured(Some(view(1, 2, 2, &[])), ChunkBuf { dim: 9, ..held }),
+        Some(7),
+        "the held one's is judged first"
+    );
     assert_eq!(featured(Some(view(1, 2, 2, &[])), ChunkBuf { exec_steps: 9, ..held }), Some(8));
     assert_eq!(featured(Some(view(1, 1, 0, &[0.0])), held), Some(10));
     assert_eq!(featured(good, ChunkBuf { dim: 1, ..held }), None, "a held one may have another width");
