@@ -2,7 +2,7 @@
 
 use differential::rng::Rng;
 use model::{
-    BrakeModel, Calibration, ChunkBuf, ChunkView, ClampMode, ContactLimit, FuseConfig, Scores, Tier1Rt, Trail,
+    BrakeModel, Calibration, ChunkBuf, ChunkView, ClampMode, ContactLimit, FuseConfig, Scores, Tier1Rt, Trail, NAMED,
 };
 
 /// Numbers in [0, 1), the same in every run.
@@ -49,14 +49,14 @@ pub fn state(data: &[f64]) -> Tier1Rt {
     rt
 }
 
-/// Twelve features in four terms.
+/// The eleven features that can be named, in four terms.
 pub fn calibration() -> Calibration {
-    let terms = [0x007, 0x038, 0x1c0, 0xe00, 0, 0, 0, 0];
-    Calibration { mask: 0xfff, n_terms: 4, terms, tau: 3.0, ..Calibration::DISARMED }
+    let terms = [0x007, 0x038, 0x140, 0xe00, 0, 0, 0, 0];
+    Calibration { mask: NAMED, n_terms: 4, terms, tau: 3.0, ..Calibration::DISARMED }
 }
 
 pub fn scores() -> Scores {
-    let mut sc = Scores { valid: 0xfff, ..Scores::NEW };
+    let mut sc = Scores { valid: NAMED, ..Scores::NEW };
     sc.f.copy_from_slice(&numbers(12));
     sc
 }

@@ -206,6 +206,7 @@ fn check_action(port: &Port) {
     line("check_action, 8 axes, all armed", 1000, Some(rust), ported);
 }
 
+/// The Rust computes twelve features, Stall among them, and the port eleven.
 fn features(port: &Port, with_chunk: bool) {
     let cfg = inputs::all_armed(8);
     let raw = oracle::config(&cfg);

@@ -1,13 +1,16 @@
-//! Refusals 1 to 4 of the configuration at the edge of each condition. The numbers stand here as the scope document's table
-//! gives them, written by hand; the model and the linked entries are both held to them.
+//! Refusals 1 to 4 and 17 of the configuration at the edge of each condition. The numbers stand here as the scope document's
+//! table and request h give them, written by hand; the model and the linked entries are both held to them.
 
 use std::fmt::Debug;
 
-use model::{envelope, tier0, ChunkView, ContactLimit, FuseConfig, Refusal, CONTACT};
+use model::{
+    brake, conformal, envelope, tier0, tier1, ChunkView, ContactLimit, FuseConfig, Refusal, Scores, Tier1Rt, CONTACT,
+    MAX_SUBSTEPS,
+};
 
 use crate::port::Port;
 
-/// A condition in the scope document's words, the field, and the number due for each of the field's values.
+/// A condition in the documents' words, the field, and the number due for each of the field's values.
 #[derive(Clone)]
 struct Condition {
     words: &'static str,
@@ -88,7 +91,7 @@ fn sizes() -> Vec<Condition> {
     const DIMS: &[(usize, u8)] =
         &[(0, 1), (1, 0), (2, 0), (7, 0), (8, 0), (9, 1), (0x101, 1), (0x1_0000_0001, 1), (usize::MAX, 1)];
     const BITS: &[(u32, u8)] =
-        &[(0, 0), (1 << 10, 0), (1 << 11, 0), (1 << 12, 1), (0xfff, 0), (0x1fff, 1), (1 << 31, 1), (u32::MAX, 1)];
+        &[(0, 0), (1 << 10, 0), (1 << 11, 0), (1 << 12, 1), (0xf7f, 0), (0x1f7f, 1), (1 << 31, 1), (u32::MAX, 1)];
     vec![
         at("dim is out of size", "dim", |c, n| c.dim = n, DIMS),
         at("pos_dim is out of size", "pos_dim", |c, n| c.pos_dim = n, DIMS),
@@ -285,6 +288,7 @@ fn every_entry() -> Vec<Condition> {
     };
     vec![
         broken("every counted term is judged", "terms with bit 12", 8, 1, |c, i| c.cal.terms[i] = 1 << 12),
+        broken("every counted term is judged", "terms with bit 7", 8, 17, |c, i| c.cal.terms[i] = 1 << 7),
         broken("every entry to pos_dim is judged", "box_lo as NaN", 8, 2, |c, i| c.box_lo[i] = NAN),
         broken("every entry to pos_dim is judged", "box_hi as NaN", 8, 2, |c, i| c.box_hi[i] = NAN),
         broken("every entry to pos_dim is judged", "box_lo above box_hi", 8, 2, |c, i| c.box_lo[i] = OVER_1),
@@ -385,6 +389,40 @@ fn channels() -> Vec<Condition> {
     ]
 }
 
+/// Bit 7 between its neighbours, alone and among the others; a bit above 11 comes first.
+fn withdrawn() -> Vec<Condition> {
+    const BITS: &[(u32, u8)] = &[
+        (0, 0),
+        (1 << 6, 0),
+        (1 << 7, 17),
+        (1 << 8, 0),
+        (0x7f, 0),
+        (0xff, 17),
+        (0xf7f, 0),
+        (0xfff, 17),
+        (1 << 12 | 1 << 7, 1),
+        (1 << 31 | 1 << 7, 1),
+    ];
+    let counted = |field: &'static str, term: usize, values: &[(u8, u8)]| {
+        let set = |c: &mut FuseConfig, n: u8| (c.cal.n_terms, c.cal.terms[term]) = (n, 1 << 7);
+        at("a counted term has bit 7", field, set, values)
+    };
+    vec![
+        at("the calibration mask has bit 7", "mask", |c, b| c.cal.mask = b, BITS),
+        at("a counted term has bit 7", "terms[0]", |c, b| c.cal.terms[0] = b, BITS),
+        at("a counted term has bit 7", "terms[7]", |c, b| c.cal.terms[7] = b, BITS),
+        counted("n_terms with bit 7 in terms[0]", 0, &[(0, 0), (1, 17), (2, 17)]),
+        counted("n_terms with bit 7 in terms[3]", 3, &[(2, 0), (3, 0), (4, 17), (5, 17)]),
+        counted("n_terms with bit 7 in terms[7]", 7, &[(6, 0), (7, 0), (8, 17), (9, 1)]),
+        at(
+            "the calibration mask has bit 7",
+            "mask with no terms",
+            |c, b| (c.cal.n_terms, c.cal.mask) = (0, b),
+            &[(0xf7f, 0), (0xfff, 17)],
+        ),
+    ]
+}
+
 /// A configured contact is judged whether its check is armed or not.
 fn unarmed() -> Vec<Condition> {
     const BITS: [u32; 3] = [0, !CONTACT & 63, CONTACT];
@@ -414,10 +452,12 @@ fn clear_flag() -> Vec<Condition> {
         flag("flag, with a scale of 0", 2, |c| c.cal.scale[191] = 0.0),
         flag("flag, with an infinite tau", 2, |c| c.cal.tau = INF),
         flag("flag, with horizon_ticks 0", 3, |c| c.horizon_ticks = 0),
+        flag("flag, with bit 7 in a counted term", 17, |c| c.cal.terms[0] = 1 << 7),
+        flag("flag, with bit 7 in the mask", 17, |c| c.cal.mask = 1 << 7),
     ]
 }
 
-/// Every set of the four numbers at once: the first in the order of judging is given.
+/// Every set of the first four numbers at once, without 17 and with it: the first in the order of judging is given.
 fn together() -> Vec<Condition> {
     const DUE: [([bool; 4], u8); 16] = [
         ([false, false, false, false], 0),
@@ -437,23 +477,34 @@ fn together() -> Vec<Condition> {
         ([true, true, true, false], 1),
         ([true, true, true, true], 1),
     ];
+    let mut with_17 = DUE;
+    with_17[0].1 = 17;
     type Four = [fn(&mut FuseConfig); 4];
-    let broken = |field: &'static str, changes: Four| {
-        let set = |c: &mut FuseConfig, which: [bool; 4]| {
-            changes.iter().zip(which).filter(|(_, is)| *is).for_each(|(change, _)| change(c));
-        };
-        at("the first number that applies is given", field, set, &DUE)
+    let set = |changes: Four, term: u32, c: &mut FuseConfig, which: [bool; 4]| {
+        c.cal.terms[0] = term;
+        changes.iter().zip(which).filter(|(_, is)| *is).for_each(|(change, _)| change(c));
+    };
+    let broken = |field: [&'static str; 2], changes: Four| {
+        let words = "the first number that applies is given";
+        [
+            at(words, field[0], |c, which| set(changes, 1, c, which), &DUE),
+            at(words, field[1], |c, which| set(changes, 1 << 7, c, which), &with_17),
+        ]
     };
     let plain: Four = [|c| c.dim = 9, |c| c.dt = 0.0, |c| c.brake.substeps = 0, |c| zone(c).a1 = 0];
     let calibrated: Four =
         [|c| c.cal.mask = 1 << 12, |c| c.cal.tau = NAN, |c| c.horizon_ticks = 0, |c| c.aux_count = 1];
     let derived: Four =
         [|c| c.pos_dim = 0, |c| c.margin = OVER_1, |c| c.brake.brake_steps = 4097, |c| zone(c).a0 = 255];
-    vec![
-        broken("[dim, dt, substeps, a1]", plain),
-        broken("[mask, tau, horizon_ticks, aux_count]", calibrated),
-        broken("[pos_dim, margin, brake_steps, a0]", derived),
+    [
+        broken(["[dim, dt, substeps, a1]", "[dim, dt, substeps, a1], with bit 7"], plain),
+        broken(
+            ["[mask, tau, horizon_ticks, aux_count]", "[mask, tau, horizon_ticks, aux_count], with bit 7"],
+            calibrated,
+        ),
+        broken(["[pos_dim, margin, brake_steps, a0]", "[pos_dim, margin, brake_steps, a0], with bit 7"], derived),
     ]
+    .concat()
 }
 
 fn table() -> Vec<Condition> {
@@ -468,6 +519,7 @@ fn table() -> Vec<Condition> {
         every_entry(),
         steps(),
         channels(),
+        withdrawn(),
         unarmed(),
         clear_flag(),
         together(),
@@ -475,10 +527,27 @@ fn table() -> Vec<Condition> {
     parts.concat()
 }
 
-/// The number that an entry gives for a configuration, its other arguments being fine: all 0 and long enough.
+/// What an entry gives for a configuration.
 struct Judge {
     entry: &'static str,
+    takes: Takes,
+    /// The number where the configuration is accepted: 0, or that of another argument. The others are all 0 and long enough.
+    accepted: u8,
     number: Box<dyn Fn(&FuseConfig) -> u8>,
+}
+
+/// What of a configuration an entry takes.
+#[derive(Clone, Copy, PartialEq)]
+enum Takes {
+    Configuration,
+    Calibration,
+}
+
+impl Takes {
+    /// Whether all that a case has changed is taken.
+    fn is_judged(self, c: &FuseConfig) -> bool {
+        self == Takes::Configuration || FuseConfig { cal: FuseConfig::WHOLE.cal, ..*c } == FuseConfig::WHOLE
+    }
 }
 
 fn number<T>(answer: Result<T, Refusal>) -> u8 {
@@ -486,6 +555,7 @@ fn number<T>(answer: Result<T, Refusal>) -> u8 {
 }
 
 const ZEROS: [f64; 8] = [0.0; 8];
+const NANS: [f64; 8] = [NAN; 8];
 
 /// One row, as wide as dim where that is a width.
 fn row(c: &FuseConfig) -> ChunkView<'static> {
@@ -493,20 +563,82 @@ fn row(c: &FuseConfig) -> ChunkView<'static> {
     ChunkView { seq: 0, t_emit: 0, horizon: 1, dim: dim as u16, exec_steps: 0, data: &ZEROS[..dim] }
 }
 
-fn judges(port: &Port) -> Vec<Judge> {
-    let mut all: Vec<Judge> = Vec::new();
+/// A chunk of that width without rows, which is 5.
+fn no_row(c: &FuseConfig) -> ChunkView<'static> {
+    ChunkView { horizon: 0, data: &[], ..row(c) }
+}
+
+/// `derive`, and the entries with a configuration and no chunk, each with a position of zeros and one of NaNs.
+fn judges_of_positions(port: &Port) -> Vec<Judge> {
+    let mut all = Vec::new();
+    let mut asked = |entry, accepted, number| all.push(Judge { entry, takes: Takes::Configuration, accepted, number });
     if let Some(f) = port.derive {
-        all.push(Judge { entry: "derive", number: Box::new(move |c| number(f(c))) });
+        asked("derive", 0, Box::new(move |c: &FuseConfig| number(f(c))) as _);
     }
-    if let Some(f) = port.check_action {
-        let asked = move |c: &FuseConfig| number(f(c, &ZEROS, &[], &ZEROS, &ZEROS, &mut ZEROS.clone()));
-        all.push(Judge { entry: "check_action", number: Box::new(asked) });
-    }
-    if let Some(f) = port.check_chunk {
-        let asked = move |c: &FuseConfig| number(f(c, &ZEROS, &[], row(c), &mut ZEROS.clone()));
-        all.push(Judge { entry: "check_chunk", number: Box::new(asked) });
+    for (pos, accepted) in [(ZEROS, 0), (NANS, 12)] {
+        if let Some(f) = port.check_action {
+            let call = move |c: &FuseConfig| number(f(c, &pos, &[], &ZEROS, &ZEROS, &mut ZEROS.clone()));
+            asked("check_action", accepted, Box::new(call));
+        }
+        if let Some(f) = port.brake_action {
+            let call = move |c: &FuseConfig| number(f(c, &pos, &ZEROS, &mut ZEROS.clone()));
+            asked("brake_action", accepted, Box::new(call));
+        }
+        if let Some(f) = port.hold_action {
+            let call = move |c: &FuseConfig| number(f(c, &pos, &mut ZEROS.clone()));
+            asked("hold_action", accepted, Box::new(call));
+        }
     }
     all
+}
+
+/// The entries with a configuration and a chunk, each with a row and without.
+fn judges_of_chunks(port: &Port) -> Vec<Judge> {
+    type Chunk = fn(&FuseConfig) -> ChunkView<'static>;
+    let mut all = Vec::new();
+    let mut asked = |entry, accepted, number| all.push(Judge { entry, takes: Takes::Configuration, accepted, number });
+    for (chunk, accepted) in [(row as Chunk, 0), (no_row, 5)] {
+        if let Some(f) = port.check_chunk {
+            let call = move |c: &FuseConfig| number(f(c, &ZEROS, &[], chunk(c), &mut ZEROS.clone()));
+            asked("check_chunk", accepted, Box::new(call) as _);
+        }
+        if let Some(f) = port.features {
+            let call = move |c: &FuseConfig| {
+                let (mut rt, mut sc) = (Tier1Rt::NEW, Scores::NEW);
+                number(f(c, &mut rt, &ZEROS, &[], Some(chunk(c)), &mut sc))
+            };
+            asked("features", accepted, Box::new(call));
+        }
+        if let Some(f) = port.brake_feasible {
+            let call = move |c: &FuseConfig| number(f(c, &ZEROS, &ZEROS, chunk(c), 0, &mut [0.0; MAX_SUBSTEPS]));
+            asked("brake_feasible", accepted, Box::new(call));
+        }
+    }
+    all
+}
+
+/// Module 8's entries, which take the calibration alone, each with scores of zeros and with one that is a NaN.
+fn judges_of_scores(port: &Port) -> Vec<Judge> {
+    let mut all = Vec::new();
+    let mut asked = |entry, accepted, number| all.push(Judge { entry, takes: Takes::Calibration, accepted, number });
+    for (s, accepted) in [(0.0, 0), (NAN, 12)] {
+        let sc = Scores { s, ..Scores::NEW };
+        if let Some(f) = port.standardise {
+            asked("standardise", accepted, Box::new(move |c: &FuseConfig| number(f(&c.cal, 0, &mut sc.clone()))) as _);
+        }
+        if let Some(f) = port.aggregate {
+            asked("aggregate", accepted, Box::new(move |c: &FuseConfig| number(f(&c.cal, &mut sc.clone()))));
+        }
+        if let Some(f) = port.trip {
+            asked("trip", accepted, Box::new(move |c: &FuseConfig| number(f(&c.cal, &sc))));
+        }
+    }
+    all
+}
+
+fn judges(port: &Port) -> Vec<Judge> {
+    let parts = [judges_of_positions(port), judges_of_chunks(port), judges_of_scores(port)];
+    parts.into_iter().flatten().collect()
 }
 
 /// Holds the model and the port to the table: what was compared, or every value that is answered otherwise.
@@ -515,18 +647,25 @@ pub fn check(port: &Port) -> Result<String, String> {
         derive: Some(envelope::derive),
         check_action: Some(tier0::check_action),
         check_chunk: Some(tier0::check_chunk),
+        features: Some(tier1::features),
+        brake_feasible: Some(brake::brake_feasible),
+        brake_action: Some(brake::brake_action),
+        hold_action: Some(brake::hold_action),
+        standardise: Some(conformal::standardise),
+        aggregate: Some(conformal::aggregate),
+        trip: Some(conformal::trip),
         ..Port::default()
     };
     let table = table();
     let values: usize = table.iter().map(|c| c.cases.len()).sum();
     let mut said =
-        format!("edges: {} conditions, {values} values, each answered by the scope document's number", table.len());
+        format!("edges: {} conditions, {values} values, each answered by the documents' number", table.len());
     let mut wrong = Vec::new();
     for (side, judges) in [("model", judges(&model)), ("port", judges(port))] {
         for judge in &judges {
             wrong.extend(table.iter().flat_map(|c| c.mistakes(side, judge)));
         }
-        let entries: Vec<&str> = judges.iter().map(|j| j.entry).collect();
+        let entries: Vec<&str> = judges.iter().filter(|j| j.accepted == 0).map(|j| j.entry).collect();
         said += &format!("; the {side}'s {}", if entries.is_empty() { "none".into() } else { entries.join(", ") });
     }
     match wrong.is_empty() {
@@ -540,9 +679,9 @@ impl Condition {
         let (words, field, entry) = (self.words, self.field, judge.entry);
         let mistake = |case: &Case| {
             let got = (judge.number)(&case.cfg);
-            let (value, due) = (&case.value, case.due);
+            let (value, due) = (&case.value, if case.due == 0 { judge.accepted } else { case.due });
             (got != due).then(|| format!("{words}: {field} as {value}: {due} is due, the {side}'s {entry} gives {got}"))
         };
-        self.cases.iter().filter_map(mistake).collect()
+        self.cases.iter().filter(|case| judge.takes.is_judged(&case.cfg)).filter_map(mistake).collect()
     }
 }

@@ -2,7 +2,7 @@
 
 use model::{
     BrakeModel, Calibration, ChunkBuf, ChunkView, ClampMode, ContactLimit, FuseConfig, Scores, Trail, BINS, HELD,
-    MAX_D, MAX_H, NFEAT,
+    MAX_D, MAX_H, NAMED, NFEAT, STALL,
 };
 
 use crate::{
@@ -120,6 +120,7 @@ pub fn trail_parts(t: &mut Trail) -> Vec<Part<'_>> {
     vec![Part::Table(&mut t.buf, 0.0), Part::U8(&mut t.head), Part::U8(&mut t.len)]
 }
 
+/// Of eight calibrations one names Stall, and is refused for it; terms past the count have any bits.
 pub fn calibration(rng: &mut Rng, field: Field) -> Calibration {
     let mut c = Calibration::DISARMED;
     c.center = field.array(rng);
@@ -127,13 +128,24 @@ pub fn calibration(rng: &mut Rng, field: Field) -> Calibration {
         *x = field.above(rng);
     }
     c.tau = field.number(rng);
-    c.mask = if rng.one_in(2) { 0xfff } else { rng.below(1 << NFEAT) as u32 };
+    c.mask = if rng.one_in(2) { NAMED } else { rng.bits() as u32 & NAMED };
     c.n_terms = rng.below(9) as u8;
     for (i, t) in c.terms.iter_mut().enumerate() {
-        let spread = rng.below(1 << NFEAT) & rng.below(1 << NFEAT) & rng.below(1 << NFEAT);
-        *t = if i < c.n_terms as usize { spread as u32 } else { rng.bits() as u32 };
+        let spread = (rng.bits() & rng.bits() & rng.bits()) as u32 & NAMED;
+        *t = if i < c.n_terms as usize { spread } else { rng.bits() as u32 };
+    }
+    if rng.one_in(8) {
+        name_stall(rng, &mut c);
     }
     c
+}
+
+/// Stall in the mask or in a counted term.
+fn name_stall(rng: &mut Rng, c: &mut Calibration) {
+    match rng.below(c.n_terms as usize + 1) {
+        0 => c.mask |= 1 << STALL,
+        counted => c.terms[counted - 1] |= 1 << STALL,
+    }
 }
 
 pub fn calibration_parts(c: &mut Calibration) -> Vec<Part<'_>> {
@@ -148,6 +160,7 @@ pub fn calibration_parts(c: &mut Calibration) -> Vec<Part<'_>> {
     parts
 }
 
+/// Scores as a caller may have them: any of the twelve features valid, Stall too.
 pub fn scores(rng: &mut Rng, field: Field) -> Scores {
     let s = if rng.one_in(4) { f64::NEG_INFINITY } else { field.number(rng) };
     let valid = if rng.one_in(2) { 0xfff } else { rng.below(1 << NFEAT) as u32 };

@@ -99,7 +99,7 @@ fn run_all(tasks: Vec<Task>, budget: &Budget) -> Vec<Report> {
 
 fn say(r: &Report) {
     let refused: Vec<String> =
-        (1..15).filter(|n| r.refused[*n] > 0).map(|n| format!("{n}: {}", r.refused[n])).collect();
+        (1..r.refused.len()).filter(|n| r.refused[*n] > 0).map(|n| format!("{n}: {}", r.refused[n])).collect();
     println!(
         "{:<15} {:>9} {:>9} {:>9} {:>9} {:>8} {:>6.1}  {}",
         r.name,

@@ -56,8 +56,8 @@ pub struct Report {
     pub linked: bool,
     pub calls: u64,
     pub accepted: u64,
-    /// by number of the scope document's table
-    pub refused: [u64; 15],
+    /// by number
+    pub refused: [u64; 18],
     pub against_rust: u64,
     /// accepted, but of a size or shape that the Rust lacks
     pub skipped: u64,

@@ -4,7 +4,8 @@ use std::time::Duration;
 
 use differential::{edges, entries, port::Port, run::Budget};
 use model::{
-    brake, chunk::action, fmath::min, BrakeKind, BrakeOut, Calibration, ChunkView, FuseConfig, Refusal, Scores,
+    brake, chunk::action, fmath::min, refusal::WITHDRAWN, BrakeKind, BrakeOut, Calibration, ChunkView, FuseConfig,
+    Refusal, Scores, Tier1Rt, Trail, NAMED, STALL,
 };
 
 /// What the run of one entry says with this port.
@@ -161,6 +162,121 @@ fn limits_that_trip_when_touched() {
     }
 }
 
+/// 17 of another configuration than the one that is given; all else of the given one.
+macro_rules! withdrawn {
+    ($change:expr) => {
+        |cfg: &FuseConfig| {
+            let change: fn(&mut FuseConfig) = $change;
+            let mut other = *cfg;
+            change(&mut other);
+            match model::envelope::derive(&other) {
+                Err(r) if r.number == WITHDRAWN => Err(r),
+                _ => model::envelope::derive(cfg),
+            }
+        }
+    };
+}
+
+#[test]
+fn stall_judged_where_it_is_not() {
+    let said = |derive, answer: &str| {
+        let text = failure(Port { derive: Some(derive), ..Port::default() }, "derive");
+        assert!(text.contains(answer), "{answer}");
+    };
+    let before_4 = withdrawn!(|c| c.contact = None);
+    said(before_4, "number: 17, place: 0 }; the model says Refusal { number: 4,");
+    let uncounted = withdrawn!(|c| {
+        c.cal.n_terms = c.cal.n_terms.max(8);
+        c.cal.terms = c.cal.terms.map(|t| t & 0xfff);
+    });
+    said(uncounted, "number: 17, place: 0 }; the model accepts");
+    let flag_clear = withdrawn!(|c| {
+        (c.calibrated, c.horizon_ticks) = (true, 1);
+        c.cal =
+            Calibration { mask: c.cal.mask & 0xfff, terms: c.cal.terms.map(|t| t & 0xfff), ..Calibration::DISARMED };
+    });
+    said(flag_clear, "number: 17, place: 0 }; the model accepts");
+}
+
+/// A call made once more without Stall in its calibration where it is refused for that, as one that does not judge 17.
+fn unjudged<T>(cal: &Calibration, mut call: impl FnMut(&Calibration) -> Result<T, Refusal>) -> Result<T, Refusal> {
+    let without = Calibration { mask: cal.mask & NAMED, terms: cal.terms.map(|t| t & NAMED), ..*cal };
+    match call(cal) {
+        Err(r) if r.number == WITHDRAWN => call(&without),
+        said => said,
+    }
+}
+
+#[test]
+fn a_gate_that_takes_stall() {
+    let standardise =
+        |cal: &Calibration, bin: usize, sc: &mut Scores| unjudged(cal, |c| model::conformal::standardise(c, bin, sc));
+    let aggregate = |cal: &Calibration, sc: &mut Scores| unjudged(cal, |c| model::conformal::aggregate(c, sc));
+    let trip = |cal: &Calibration, sc: &Scores| unjudged(cal, |c| model::conformal::trip(c, sc));
+    let ports = [
+        (Port { standardise: Some(standardise), ..Port::default() }, "standardise"),
+        (Port { aggregate: Some(aggregate), ..Port::default() }, "aggregate"),
+        (Port { trip: Some(trip), ..Port::default() }, "trip"),
+    ];
+    for (port, name) in ports {
+        let text = failure(port, name);
+        assert!(text.contains("the port accepts; the model says Refusal { number: 17,"));
+    }
+}
+
+/// The model's features, changed by what is known before the call.
+macro_rules! featured {
+    ($change:expr) => {
+        |cfg: &FuseConfig, rt: &mut Tier1Rt, pos: &[f64], ext: &[f64], new: Option<ChunkView<'_>>, sc: &mut Scores| {
+            let change: fn(&FuseConfig, &Trail, &mut Scores) -> Result<(), Refusal> = $change;
+            let (mut state, mut scores) = (*rt, *sc);
+            model::tier1::features(cfg, &mut state, pos, ext, new, &mut scores)?;
+            change(cfg, &rt.trail, &mut scores)?;
+            (*rt, *sc) = (state, scores);
+            Ok(())
+        }
+    };
+}
+
+#[test]
+fn a_stall_that_is_given() {
+    let said = |features| failure(Port { features: Some(features), ..Port::default() }, "features");
+    let bit = said(featured!(|_, trail, sc| {
+        sc.valid |= ((trail.len >= 20) as u32) << STALL;
+        Ok(())
+    }));
+    assert!(bit.contains("the port leaves other buffers than the model: counts"));
+    let number = said(featured!(|_, trail, sc| {
+        sc.f[STALL] = (trail.len >= 20) as u32 as f64;
+        Ok(())
+    }));
+    assert!(number.contains("is 1.0, not 0.0"));
+    let callers = said(|cfg, rt, pos, ext, new, sc| {
+        let before = sc.valid;
+        model::tier1::features(cfg, rt, pos, ext, new, sc)?;
+        sc.valid |= before & 1 << STALL;
+        Ok(())
+    });
+    assert!(callers.contains("the port leaves other buffers than the model: counts"));
+}
+
+#[test]
+fn a_stall_that_is_evaluated() {
+    let evaluated = featured!(|cfg, trail, _| {
+        let iso = cfg.norm_scale[..cfg.dim].iter().copied().fold(f64::INFINITY, min);
+        let speed = 0.05 * iso / cfg.dt;
+        let denominator = speed * 20.0 * cfg.dt;
+        let quotient = model::window::net(trail, cfg.pos_dim, 20)? / denominator;
+        let fine = [speed, denominator, quotient].iter().all(|x| x.is_finite());
+        match trail.len < 20 || fine {
+            true => Ok(()),
+            false => Err(Refusal { number: 13, place: 0 }),
+        }
+    });
+    let text = failure(Port { features: Some(evaluated), ..Port::default() }, "features");
+    assert!(text.contains("the port says Refusal { number: 13, place: 0 }; the model accepts"));
+}
+
 /// A judging of another configuration than the one that is given.
 macro_rules! judged {
     ($change:expr) => {
@@ -182,7 +298,7 @@ fn steps_first(cfg: &FuseConfig) -> Result<model::Derived, Refusal> {
 
 #[test]
 fn edges_that_are_moved() {
-    let ports: [(differential::port::Derive, &str); 12] = [
+    let ports: [(differential::port::Derive, &str); 15] = [
         (judged!(|c| c.brake.k_p = c.brake.k_p.next_down()), "is below 0: k_p as 0.0: 0 is due"),
         (judged!(|c| c.brake.k_v = c.brake.k_v.next_up()), "above 0: k_v as 0.0: 2 is due"),
         (judged!(|c| c.cal.tau = 0.0), "isn't finite: tau as NaN: 2 is due"),
@@ -195,6 +311,9 @@ fn edges_that_are_moved() {
         (judged!(|c| c.brake.brake_steps &= 4095), "substeps) as (0, 32768, 2): 3 is due"),
         (judged!(|c| c.contact = c.contact.filter(|_| c.armed & model::CONTACT != 0)), "equal channels as 0: 4 is due"),
         (steps_first, "[dim, dt, substeps, a1] as [false, true, true, false]: 2 is due"),
+        (judged!(|c| c.cal.mask &= NAMED), "the calibration mask has bit 7: mask as 128: 17 is due"),
+        (judged!(|c| c.cal.mask |= c.cal.mask << 1 & 1 << STALL), "has bit 7: mask as 64: 0 is due"),
+        (withdrawn!(|c| c.contact = None), "a1], with bit 7 as [false, false, false, true]: 4 is due"),
     ];
     for (derive, row) in ports {
         let text = edges::check(&Port { derive: Some(derive), ..Port::default() }).expect_err(row);

@@ -1,4 +1,4 @@
-//! The smallest input for each line of docs/DIFFERENCES.md: what the published Rust answers, and what the scope document has
+//! The smallest input for each line of docs/DIFFERENCES.md: what the published Rust answers, and what the documents have
 //! the port answer, by its model.
 
 use std::panic::catch_unwind;
@@ -158,22 +158,6 @@ fn a_step_too_long_to_measure() {
     assert_eq!(model, refused(13));
 }
 
-/// A full trail that stands still, and the features of a tick.
-fn stalled(cfg: &FuseConfig) -> (Scores, Result<(), Refusal>) {
-    let mut rt = Tier1Rt { trail: Trail { len: 20, head: 20, ..Trail::NEW }, ..Tier1Rt::NEW };
-    let (mut rust, mut sc) = (Scores::NEW, Scores::NEW);
-    oracle::features(cfg, &mut rt.clone(), &[], &[], None, &mut rust);
-    (rust, tier1::features(cfg, &mut rt, &[], &[], None, &mut sc))
-}
-
-#[test]
-fn a_stall_that_is_a_nan() {
-    let cfg = FuseConfig { dt: 1e20, norm_scale: [1e-308; 8], ..boxed(1) };
-    let (rust, model) = stalled(&cfg);
-    assert!(rust.f[STALL].is_nan() && rust.valid >> STALL & 1 == 1);
-    assert_eq!(model, refused(13));
-}
-
 #[test]
 fn a_gate_that_drops_a_nan() {
     let cal = Calibration { mask: 3, n_terms: 1, terms: [3, 0, 0, 0, 0, 0, 0, 0], tau: 1.0, ..Calibration::DISARMED };
@@ -272,6 +256,32 @@ fn a_score_of_an_overflow() {
 }
 
 // ---- formulas ----
+
+/// The Rust's own Stall where it is valid, and the model's answer with its valid bits, after 20 samples or fewer of which all but
+/// the newest are 0.
+fn stalled(cfg: &FuseConfig, samples: u8, newest: f64) -> (Option<f64>, Result<(f64, u32), Refusal>) {
+    let mut rt = Tier1Rt { trail: Trail { len: samples, head: samples, ..Trail::NEW }, ..Tier1Rt::NEW };
+    rt.trail.buf[(samples as usize - 1) * MAX_POS] = newest;
+    let mut sc = Scores::NEW;
+    let model = tier1::features(cfg, &mut rt.clone(), &[], &[], None, &mut sc);
+    (oracle::stall(cfg, &rt), model.map(|()| (sc.f[STALL], sc.valid)))
+}
+
+#[test]
+fn stall_is_not_computed() {
+    let path_ineff_alone = Ok((0.0, 1 << PATH_INEFF));
+    assert_eq!(stalled(&boxed(1), 20, 0.0), (Some(1.0), path_ineff_alone));
+    assert_eq!(stalled(&boxed(1), 19, 0.0), (None, Ok((0.0, 0))));
+    // a denominator of 0, an infinite speed, an infinite quotient
+    let cases = [(1e20, 1e-308, 0.0, "NaN"), (1e-10, 1e300, 0.0, "1"), (1.0, 1e-308, 1e10, "0")];
+    for (dt, scale, newest, stall) in cases {
+        let cfg = FuseConfig { dt, norm_scale: [scale; 8], ..boxed(1) };
+        oracle::take_raised();
+        let (rust, model) = stalled(&cfg, 20, newest);
+        assert_eq!(oracle::take_raised(), oracle::FLAGS_READ, "a number on the way that is not finite");
+        assert_eq!((rust.map(|x| x.to_string()).as_deref(), model), (Some(stall), path_ineff_alone));
+    }
+}
 
 #[test]
 fn clamp_between_crossed_limits_and_at_a_nan() {
@@ -512,6 +522,24 @@ fn nine_terms_and_a_bit_above_eleven() {
 }
 
 #[test]
+fn a_calibration_that_names_stall() {
+    let mask = Calibration { mask: 1 << STALL, ..Calibration::DISARMED };
+    let term = Calibration { n_terms: 1, terms: [1 << STALL, 0, 0, 0, 0, 0, 0, 0], ..Calibration::DISARMED };
+    for cal in [mask, term] {
+        let (mut rust, mut sc) = (Scores::NEW, Scores::NEW);
+        oracle::standardise(&cal, 0, &mut rust);
+        assert_eq!((oracle::aggregate(&cal, &mut rust), oracle::trip(&cal, &rust)), (f64::NEG_INFINITY, false));
+        assert_eq!(conformal::standardise(&cal, 0, &mut sc), refused(17));
+        assert_eq!(conformal::aggregate(&cal, &mut sc), refused(17));
+        assert_eq!(conformal::trip(&cal, &sc), refused(17));
+    }
+    let mut rust = Scores { valid: 1 << STALL, ..Scores::NEW };
+    rust.f[STALL] = 1.0;
+    oracle::standardise(&gated(STALL), 0, &mut rust);
+    assert_eq!(oracle::aggregate(&gated(STALL), &mut rust), 1.0, "a feature like another");
+}
+
+#[test]
 fn a_scale_of_zero_and_an_infinite_tau() {
     let flat = Calibration { scale: [0.0; 192], mask: 1, ..Calibration::DISARMED };
     let mut sc = Scores { valid: 1, ..Scores::NEW };
@@ -707,7 +735,7 @@ fn a_calibration_out_of_size_or_range() {
     let flat = Calibration { scale: [0.0; 192], ..Calibration::DISARMED };
     let unknown = Calibration { center: [f64::NAN; 192], ..Calibration::DISARMED };
     let never = Calibration { tau: f64::INFINITY, ..Calibration::DISARMED };
-    for (cal, number) in [(nine, 1), (gated(12), 1), (flat, 2), (unknown, 2), (never, 2)] {
+    for (cal, number) in [(nine, 1), (gated(12), 1), (flat, 2), (unknown, 2), (never, 2), (gated(STALL), 17)] {
         assert_eq!(envelope::judge_calibration(&cal), Some(number));
         assert_eq!(oracle::compile_calibrated(&compiled(), &cal), Ok(()));
     }

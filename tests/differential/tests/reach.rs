@@ -1,13 +1,14 @@
-//! The generators reach what matters: every trip on its limit and off it, every kind, every place of 13.
+//! The generators reach what matters: every trip on its limit and off it, every kind, every place of 13, and 17 at every entry.
 
 use std::collections::BTreeMap;
 
 use differential::{
-    entries::{brake, tier0, tier1},
+    entries::{brake, conformal, envelope, tier0, tier1},
     port::Port,
+    run::Entry,
 };
-use model::{brake::count_of, tier0 as rule, FuseConfig, Refusal, Tier0Out};
-use model::{ACCEL, CONTACT, JERK, NFEAT, REACH, SPEED, SPEED_PEAK, WORKSPACE};
+use model::{brake::count_of, refusal::WITHDRAWN, tier0 as rule, Calibration, FuseConfig, Refusal, Tier0Out};
+use model::{ACCEL, CONTACT, JERK, NFEAT, REACH, SPEED, SPEED_PEAK, STALL, WORKSPACE};
 
 const CALLS: u64 = 60_000;
 
@@ -110,15 +111,76 @@ fn the_features() {
     let mut met = Met::new();
     for call in 0..CALLS {
         let mut i = entry.input(1, call);
+        let (before, had) = (i.rt, i.sc.valid >> STALL & 1);
         let new = i.new.as_ref().map(|c| c.view());
         if model::tier1::features(&i.cfg, &mut i.rt, &i.pos, &i.ext, new, &mut i.sc).is_ok() {
             for j in 0..NFEAT {
                 met.note(format!("feature {j} chunk {} valid {}", i.new.is_some(), i.sc.valid >> j & 1));
             }
+            met.note(format!("Stall's bit in the caller's scores {had}, held {}", before.held_valid >> STALL & 1));
+            oracle::take_raised();
+            if let Some(stall) = oracle::stall(&i.cfg, &before) {
+                met.note(format!("the Rust's Stall {stall:.0}, of finite numbers {}", !oracle::take_raised()));
+            }
         }
     }
-    // SpeedPeak is always valid with a chunk
+    // SpeedPeak is always valid with a chunk, and Stall never
+    let computed = |j: &usize| *j != STALL;
     let can_miss = (0..NFEAT).filter(|j| *j != SPEED_PEAK);
-    met.all((0..NFEAT).map(|j| format!("feature {j} chunk true valid 1")));
+    met.all((0..NFEAT).filter(computed).map(|j| format!("feature {j} chunk true valid 1")));
     met.all(can_miss.map(|j| format!("feature {j} chunk true valid 0")));
+    let bits = [(0, 0), (0, 1), (1, 0), (1, 1)];
+    met.all(bits.map(|(had, held)| format!("Stall's bit in the caller's scores {had}, held {held}")));
+    if oracle::FLAGS_READ {
+        met.all(["NaN", "0", "1"].map(|stall| format!("the Rust's Stall {stall}, of finite numbers false")));
+    }
+}
+
+/// Of an entry's inputs: 17 for the mask and for a counted term, and an accepted calibration with Stall in a term past the count.
+fn note_stall<I: Clone + std::fmt::Debug + 'static>(
+    met: &mut Met,
+    entry: Entry<I>,
+    taken: impl Fn(&I) -> Option<&Calibration>,
+) {
+    let has = |bits: u32| bits >> STALL & 1 == 1;
+    for call in 0..CALLS {
+        let input = entry.input(1, call);
+        let Some(cal) = taken(&input) else { continue };
+        let (counted, past) = cal.terms.split_at((cal.n_terms as usize).min(8));
+        let (mask, counted, past) = (has(cal.mask), counted.iter().any(|t| has(*t)), past.iter().any(|t| has(*t)));
+        let number = (entry.model)(&input).answer.map_or_else(|r| r.number, |_| 0);
+        let name = entry.name;
+        match number {
+            WITHDRAWN => met.note(format!("{name} 17 mask {mask} counted {counted}")),
+            0 if past => met.note(format!("{name} 0 past the count")),
+            4 if mask || counted => met.note(format!("{name} 4 before 17")),
+            _ => (),
+        }
+    }
+}
+
+/// The calibration of a configuration whose flag is set.
+fn of(cfg: &FuseConfig) -> Option<&Calibration> {
+    cfg.calibrated.then_some(&cfg.cal)
+}
+
+#[test]
+fn calibrations_that_name_stall() {
+    let (port, mut met) = (Port::default(), Met::new());
+    note_stall(&mut met, envelope::derive(&port), of);
+    note_stall(&mut met, tier0::check_chunk(&port), |i| of(&i.cfg));
+    note_stall(&mut met, tier0::check_action(&port), |i| of(&i.cfg));
+    note_stall(&mut met, tier1::features(&port), |i| of(&i.cfg));
+    note_stall(&mut met, brake::brake_feasible(&port), |i| of(&i.cfg));
+    note_stall(&mut met, brake::brake_action(&port), |i| of(&i.cfg));
+    note_stall(&mut met, brake::hold_action(&port), |i| of(&i.cfg));
+    let configured =
+        ["derive", "check_chunk", "check_action", "features", "brake_feasible", "brake_action", "hold_action"];
+    met.all(configured.map(|name| format!("{name} 4 before 17")));
+    note_stall(&mut met, conformal::standardise(&port), |i| Some(&i.cal));
+    note_stall(&mut met, conformal::aggregate(&port), |i| Some(&i.cal));
+    note_stall(&mut met, conformal::trip(&port), |i| Some(&i.cal));
+    let entries = configured.into_iter().chain(["standardise", "aggregate", "trip"]);
+    let cases = ["17 mask true counted false", "17 mask false counted true", "0 past the count"];
+    met.all(entries.flat_map(|name| cases.map(|case| format!("{name} {case}"))));
 }

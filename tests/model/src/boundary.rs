@@ -1,7 +1,10 @@
 //! The number for counts as C passes them, in words of 64 bits: the table's, on the counts themselves, or 255 where a code
 //! or a flag is none of its kind or where the table accepts a count that its field cannot hold. 255 comes first.
 
-use crate::refusal::{first, when, CHANNELS, EMPTY, EXEC_EXCEEDS_HORIZON, SIZE, STEPS, TOO_LONG, TOO_WIDE};
+use crate::{
+    refusal::{first, when, CHANNELS, EMPTY, EXEC_EXCEEDS_HORIZON, SIZE, STEPS, TOO_LONG, TOO_WIDE, WITHDRAWN},
+    STALL,
+};
 
 pub const MISFIT: u8 = 255;
 
@@ -9,9 +12,14 @@ const WORD: u64 = u32::MAX as u64;
 const SHORT: u64 = u16::MAX as u64;
 const BYTE: u64 = u8::MAX as u64;
 
-/// No bit above 11.
-fn named(bits: u64) -> bool {
-    bits >> 12 == 0
+/// A bit above 11.
+fn over(bits: u64) -> bool {
+    bits >> 12 != 0
+}
+
+/// Stall's bit.
+fn withdrawn(bits: u64) -> bool {
+    bits >> STALL & 1 == 1
 }
 
 /// The configuration's 26 counts, by their names in include/lictor.h, all of its numbers being accepted.
@@ -30,13 +38,15 @@ pub fn counts(c: &[u64; 26]) -> u8 {
         return MISFIT;
     }
     let size = |d: u64| !(1..=8).contains(&d);
-    let counted = (0..).zip(terms).any(|(i, term)| i < n_terms && !named(*term));
+    let counted = || (0..).zip(terms).filter(|(i, _)| *i < n_terms).map(|(_, term)| *term);
+    let names = |such: fn(u64) -> bool| gate && (such(mask) || counted().any(such));
     let in_all = (commit as u128 + brake_steps as u128).saturating_mul(substeps as u128);
     let steps = !(1..=64).contains(&substeps) || commit > 64 || in_all > 4096 || gate && horizon_ticks == 0;
     let judged = [
-        when(size(dim) || size(pos_dim) || gate && (n_terms > 8 || !named(mask) || counted), SIZE),
+        when(size(dim) || size(pos_dim) || gate && n_terms > 8 || names(over), SIZE),
         when(steps, STEPS),
         when(channels, CHANNELS),
+        when(names(withdrawn), WITHDRAWN),
     ];
     first(&judged).unwrap_or(0)
 }

@@ -1,9 +1,9 @@
-//! Module 4: what is derived from the raw configuration, and refusals 1 to 4 of it.
+//! Module 4: what is derived from the raw configuration, and refusals 1 to 4 and 17 of it.
 
 use crate::{
     fmath::min,
-    refusal::{first, judged, when, CHANNELS, NUMBER, SIZE, STEPS},
-    Calibration, Derived, FuseConfig, Refusal, MAX_D, MAX_POS, MAX_SUBSTEPS, MAX_TERMS, NFEAT,
+    refusal::{first, judged, when, CHANNELS, NUMBER, SIZE, STEPS, WITHDRAWN},
+    Calibration, Derived, FuseConfig, Refusal, MAX_D, MAX_POS, MAX_SUBSTEPS, MAX_TERMS, NFEAT, STALL,
 };
 
 /// The derived numbers as they come, finite or not; dim and pos_dim are in size.
@@ -39,11 +39,15 @@ fn not_below_zero(x: f64) -> bool {
     x.is_finite() && x >= 0.0
 }
 
+/// Whether the mask or a counted term is such.
+fn names(c: &Calibration, such: impl Fn(u32) -> bool) -> bool {
+    let counted = &c.terms[..(c.n_terms as usize).min(MAX_TERMS)];
+    such(c.mask) || counted.iter().any(|t| such(*t))
+}
+
 /// 1 of a calibration: over 8 terms, or a bit above 11 in a counted term or the mask.
 fn judge_calibration_size(c: &Calibration) -> Option<u8> {
-    let over = |bits: u32| bits >> NFEAT != 0;
-    let counted = &c.terms[..(c.n_terms as usize).min(MAX_TERMS)];
-    when(c.n_terms as usize > MAX_TERMS || over(c.mask) || counted.iter().any(|t| over(*t)), SIZE)
+    when(c.n_terms as usize > MAX_TERMS || names(c, |bits| bits >> NFEAT != 0), SIZE)
 }
 
 /// 2 of a calibration: every table entry and tau finite, every scale above 0.
@@ -52,9 +56,14 @@ fn judge_calibration_numbers(c: &Calibration) -> Option<u8> {
     when(!fine, NUMBER)
 }
 
+/// 17 of a calibration: Stall in a counted term or the mask, which could never be live.
+fn judge_calibration_features(c: &Calibration) -> Option<u8> {
+    when(names(c, |bits| bits >> STALL & 1 == 1), WITHDRAWN)
+}
+
 /// The calibration itself, as module 8's entries take it.
 pub fn judge_calibration(c: &Calibration) -> Option<u8> {
-    first(&[judge_calibration_size(c), judge_calibration_numbers(c)])
+    first(&[judge_calibration_size(c), judge_calibration_numbers(c), judge_calibration_features(c)])
 }
 
 /// 2 of what is read whatever the sizes are.
@@ -92,7 +101,7 @@ fn judge_channels(c: &FuseConfig) -> Option<u8> {
     when(c.contact.is_some_and(|z| bad(z.a0, z.a1)), CHANNELS)
 }
 
-/// The whole configuration, whether or not an entry reads that part: the first of 1 to 4.
+/// The whole configuration, whether or not an entry reads that part: the first of 1 to 4 and 17.
 pub fn judge(c: &FuseConfig) -> Option<u8> {
     let sized = (1..=MAX_D).contains(&c.dim) && (1..=MAX_POS).contains(&c.pos_dim);
     if !sized {

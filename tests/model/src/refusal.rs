@@ -1,4 +1,5 @@
-//! Why a call is refused: a number of the scope document's table and, for 13 from the forecast, its place.
+//! Why a call is refused: a number of the scope document's table or of a request after it and, for 13 from the forecast, its
+//! place.
 
 use crate::checked::NotFinite;
 
@@ -15,13 +16,15 @@ pub const WIDTH: u8 = 10;
 pub const SHORT: u8 = 11;
 pub const NOT_FINITE: u8 = 12;
 pub const COMPUTED: u8 = 13;
+pub const WITHDRAWN: u8 = 17;
 
-/// The order of judging, which is written here apart from the port's and need not be that of the numerals.
-pub const ORDER: [u8; 13] = [
+/// The order of judging, which is written here apart from the port's and is not that of the numerals.
+pub const ORDER: [u8; 14] = [
     SIZE,
     NUMBER,
     STEPS,
     CHANNELS,
+    WITHDRAWN,
     EMPTY,
     TOO_LONG,
     TOO_WIDE,

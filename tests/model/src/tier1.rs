@@ -4,15 +4,14 @@ use crate::{
     checked::{add, dist, div, mul, norm, root, sub, Checked, NotFinite},
     chunk,
     envelope::{self, derive},
-    fmath::{max, min},
+    fmath::max,
     refusal::{judged, not_finite, when, NOT_FINITE, WIDTH},
     window::{judge_numbers, judge_size, net_of, path_of},
     ChunkBuf, ChunkView, Derived, FuseConfig, Refusal, Scores, Tier1Rt, ACC, ACM_NEG, EXT0, HELD, MAX_D, MAX_EXT,
-    NFEAT, NJR, PATH_INEFF, PE_WINDOW, REACH_FEAT, SPEED_PEAK, STALL, TCE,
+    NFEAT, NJR, PATH_INEFF, PE_WINDOW, REACH_FEAT, SPEED_PEAK, TCE,
 };
 
 const EPS: f64 = 1e-9;
-const STALL_VREF_FRAC: f64 = 0.05;
 
 /// 12 of a score: f and z finite, s no NaN.
 pub fn judge_scores(sc: &Scores) -> Option<u8> {
@@ -60,7 +59,7 @@ pub fn features(
         Some(v) => boundary(cfg, &derived, rt, pos, &v)?,
         None => (rt.held, rt.held_valid),
     };
-    let (f, valid) = ticked(cfg, &derived, rt, ext, held, held_valid)?;
+    let (f, valid) = ticked(cfg, rt, ext, held, held_valid)?;
     if let Some(v) = new {
         rt.held = held;
         rt.held_valid = held_valid;
@@ -72,10 +71,9 @@ pub fn features(
     Ok(())
 }
 
-/// All twelve features of this tick, 0.0 where not valid, and their bits.
+/// All twelve features of this tick, 0.0 where not valid, and their bits. Nothing computes Stall, which is 0.0 and never valid.
 fn ticked(
     cfg: &FuseConfig,
-    derived: &Derived,
     rt: &Tier1Rt,
     ext: &[f64],
     held: [f64; HELD],
@@ -92,10 +90,7 @@ fn ticked(
         let n = net_of(&rt.trail, cfg.pos_dim, PE_WINDOW)?;
         let p = path_of(&rt.trail, cfg.pos_dim, PE_WINDOW)?;
         f[PATH_INEFF] = sub(1.0, div(n, max(p, EPS))?)?;
-        let v_ref = div(mul(STALL_VREF_FRAC, derived.norm_scale_iso)?, cfg.dt)?;
-        let denom = mul(mul(v_ref, PE_WINDOW as f64)?, cfg.dt)?;
-        f[STALL] = sub(1.0, min(1.0, div(n, denom)?))?;
-        valid |= 1 << PATH_INEFF | 1 << STALL;
+        valid |= 1 << PATH_INEFF;
     }
     for (k, x) in ext.iter().take(MAX_EXT).enumerate() {
         f[EXT0 + k] = *x;

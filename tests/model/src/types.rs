@@ -20,7 +20,7 @@ pub const JERK: u32 = 8;
 pub const REACH: u32 = 16;
 pub const CONTACT: u32 = 32;
 
-/// Feature bits.
+/// Feature bits; Stall's is given to nothing else, and is never valid.
 pub const TCE: usize = 0;
 pub const ACC: usize = 1;
 pub const ACM_NEG: usize = 2;
@@ -30,6 +30,9 @@ pub const SPEED_PEAK: usize = 5;
 pub const PATH_INEFF: usize = 6;
 pub const STALL: usize = 7;
 pub const EXT0: usize = 8;
+
+/// The eleven features that a calibration may name: all but Stall.
+pub const NAMED: u32 = ((1 << NFEAT) - 1) & !(1 << STALL);
 
 #[derive(Clone, Copy, Debug, PartialEq, Eq)]
 pub enum ActionKind {
@@ -178,7 +181,7 @@ impl FuseConfig {
         contact: Some(ContactLimit { radius: 1.0, v_max: 1.0, a0: 0, a1: 1 }),
         aux_count: 2,
         calibrated: true,
-        cal: Calibration { mask: 0xfff, n_terms: 8, terms: [0xfff; MAX_TERMS], ..Calibration::DISARMED },
+        cal: Calibration { mask: NAMED, n_terms: 8, terms: [NAMED; MAX_TERMS], ..Calibration::DISARMED },
         horizon_ticks: 1,
         ..Self::PLAIN
     };

@@ -1,4 +1,4 @@
-//! Every condition of the scope document's table on both sides of its edge.
+//! Every condition of the scope document's table and of the requests after it on both sides of its edge.
 
 use model::*;
 
@@ -143,6 +143,114 @@ fn a_clear_flag_and_the_first_number() {
     assert_eq!(judged(|c| (c.horizon_ticks, zone(c).a0) = (0, 1)), Some(3));
 }
 
+/// What every entry with a configuration answers to it and to a chunk of two axes, all numbers being 0; last the three that take
+/// a chunk.
+fn at_every_entry(c: &FuseConfig, rows: ChunkView<'_>) -> [Option<u8>; 7] {
+    let zeros = [0.0; 2];
+    let (mut rt, mut sc, mut out) = (Tier1Rt::NEW, Scores::NEW, [0.0; 2]);
+    let answers = [
+        envelope::derive(c).err(),
+        tier0::check_action(c, &zeros, &[], &zeros, &zeros, &mut out).err(),
+        brake::brake_action(c, &zeros, &zeros, &mut out).err(),
+        brake::hold_action(c, &zeros, &mut out).err(),
+        tier0::check_chunk(c, &zeros, &[], rows, &mut out).err(),
+        tier1::features(c, &mut rt, &zeros, &[], Some(rows), &mut sc).err(),
+        brake::brake_feasible(c, &zeros, &zeros, rows, 0, &mut out).err(),
+    ];
+    answers.map(|r| r.map(|r| r.number))
+}
+
+/// What module 8's entries answer: standardise, aggregate and trip.
+fn at_every_gate(cal: &Calibration, sc: &Scores) -> [Option<u8>; 3] {
+    let answers = [
+        conformal::standardise(cal, 0, &mut sc.clone()).err(),
+        conformal::aggregate(cal, &mut sc.clone()).err(),
+        conformal::trip(cal, sc).err(),
+    ];
+    answers.map(|r| r.map(|r| r.number))
+}
+
+/// Stall in the mask and in the counted terms, and its neighbours, at every entry that can give 17.
+#[test]
+fn stall_in_a_calibration() {
+    let held = |change: fn(&mut Calibration, u32), bits: u32, want: Option<u8>| {
+        let mut c = FuseConfig::WHOLE;
+        change(&mut c.cal, bits);
+        assert_eq!(at_every_entry(&c, view(1, 2, 0, &[0.0; 2])), [want; 7], "{bits:x}");
+        assert_eq!(at_every_gate(&c.cal, &Scores::NEW), [want; 3], "{bits:x}");
+    };
+    let places: [fn(&mut Calibration, u32); 3] =
+        [|c, b| c.mask = b, |c, b| c.terms[0] = b, |c, b| (c.n_terms, c.terms[6]) = (7, b)];
+    let cases =
+        [(1 << 6, None), (1 << 7, Some(17)), (1 << 8, None), (0xf7f, None), (0xfff, Some(17)), (0x1080, Some(1))];
+    for place in places {
+        for (bits, want) in cases {
+            held(place, bits, want);
+        }
+    }
+    held(|c, b| (c.n_terms, c.terms[7]) = (7, b), 1 << 7, None);
+    held(|c, b| (c.n_terms, c.terms[0]) = (0, b), 1 << 7, None);
+}
+
+#[test]
+fn stall_after_four_and_before_five() {
+    let named = |change: fn(&mut FuseConfig)| {
+        let mut c = FuseConfig::WHOLE;
+        c.cal.mask = 1 << STALL;
+        change(&mut c);
+        c
+    };
+    type Change = fn(&mut FuseConfig);
+    let changes: [(Change, Option<u8>); 5] = [
+        (|c| c.dim = 9, Some(1)),
+        (|c| c.dt = 0.0, Some(2)),
+        (|c| c.horizon_ticks = 0, Some(3)),
+        (|c| zone(c).a0 = 1, Some(4)),
+        (|c| c.calibrated = false, None),
+    ];
+    for (change, want) in changes {
+        assert_eq!(at_every_entry(&named(change), view(1, 2, 0, &[0.0; 2])), [want; 7]);
+    }
+    let empty = view(0, 2, 0, &[]);
+    assert_eq!(at_every_entry(&named(|_| ()), empty), [Some(17); 7]);
+    assert_eq!(at_every_entry(&FuseConfig::WHOLE, empty)[4..], [Some(5); 3]);
+}
+
+#[test]
+fn stall_after_two_and_before_twelve() {
+    let named = Calibration { mask: 1 << STALL | 1, ..Calibration::DISARMED };
+    let mut far = Scores { valid: 1, ..Scores::NEW };
+    far.f[0] = f64::MAX;
+    assert_eq!(at_every_gate(&Calibration { n_terms: 9, ..named }, &far), [Some(1); 3]);
+    assert_eq!(at_every_gate(&Calibration { tau: f64::NAN, ..named }, &far), [Some(2); 3]);
+    assert_eq!(at_every_gate(&named, &Scores { s: f64::NAN, ..far }), [Some(17); 3]);
+    assert_eq!(at_every_gate(&Calibration { center: [-f64::MAX; 192], ..named }, &far), [Some(17); 3]);
+    let unnamed = Calibration { mask: 1, center: [-f64::MAX; 192], ..named };
+    assert_eq!(at_every_gate(&unnamed, &far), [Some(13), None, None]);
+}
+
+/// Twenty equal samples make PathIneff valid and Stall not, also where the caller's scores and the held bits have it.
+#[test]
+fn stall_is_never_valid() {
+    let trail = Trail { len: 20, head: 20, ..Trail::NEW };
+    let mut rt = Tier1Rt { trail, held_valid: 1 << STALL, ..Tier1Rt::NEW };
+    let mut sc = Scores { f: [7.0; NFEAT], valid: 0xfff, ..Scores::NEW };
+    assert_eq!(tier1::features(&FuseConfig::WHOLE, &mut rt, &[], &[], None, &mut sc), Ok(()));
+    assert_eq!((sc.valid, sc.f[PATH_INEFF], sc.f[STALL]), (1 << PATH_INEFF, 1.0, 0.0));
+}
+
+/// A caller's scores may have Stall's bit: its z is 0 and it never fires.
+#[test]
+fn stall_in_a_callers_scores() {
+    let cal = Calibration { tau: -1.0, ..FuseConfig::WHOLE.cal };
+    let mut sc = Scores { f: [7.0; NFEAT], z: [7.0; NFEAT], valid: 0xfff, fired: 0xfff, ..Scores::NEW };
+    assert_eq!(conformal::standardise(&cal, 0, &mut sc), Ok(()));
+    assert_eq!((sc.z[STALL], sc.z[PATH_INEFF], sc.valid), (0.0, 7.0, 0xfff));
+    sc.z[STALL] = 9.0;
+    assert_eq!(conformal::aggregate(&cal, &mut sc), Ok(7.0));
+    assert_eq!((sc.fired, conformal::trip(&cal, &sc)), (0xf7f, Ok(true)));
+}
+
 fn view(h: u16, d: u16, exec: u16, data: &[f64]) -> ChunkView<'_> {
     ChunkView { seq: 0, t_emit: 0, horizon: h, dim: d, exec_steps: exec, data }
 }
@@ -184,7 +292,11 @@ fn two_chunks() {
     assert_eq!(featured(good, held), None);
     assert_eq!(featured(None, ChunkBuf { horizon: 0, ..held }), Some(5));
     assert_eq!(featured(None, ChunkBuf { horizon: 0, filled: false, ..held }), None);
-    assert_eq!(featured(Some(view(1, 2, 2, &[])), ChunkBuf { dim: 9, ..held }), Some(7), "the held one's is lower");
+    assert_eq!(
+        featured(Some(view(1, 2, 2, &[])), ChunkBuf { dim: 9, ..held }),
+        Some(7),
+        "the held one's is judged first"
+    );
     assert_eq!(featured(Some(view(1, 2, 2, &[])), ChunkBuf { exec_steps: 9, ..held }), Some(8));
     assert_eq!(featured(Some(view(1, 1, 0, &[0.0])), held), Some(10));
     assert_eq!(featured(good, ChunkBuf { dim: 1, ..held }), None, "a held one may have another width");

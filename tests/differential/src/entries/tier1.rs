@@ -41,7 +41,7 @@ fn state(rng: &mut Rng, field: Field, dim: usize) -> Tier1Rt {
         have_prev: !rng.one_in(6),
         trail: trail(rng, field),
         held: held(rng, field),
-        held_valid: rng.below(128) as u32,
+        held_valid: rng.below(256) as u32,
     }
 }
 
@@ -52,7 +52,20 @@ fn generate(rng: &mut Rng) -> FeaturesIn {
     let (pos, ext) = (rng.within(cfg.pos_dim.saturating_sub(2), cfg.pos_dim + 1), rng.below(7));
     let new = (!rng.one_in(4)).then(|| chunk(rng, field, cfg.dim));
     let (pos, ext) = (field.numbers(rng, pos), field.numbers(rng, ext));
-    FeaturesIn { cfg, rt, pos, ext, new, sc: scores(rng, field) }
+    let mut input = FeaturesIn { cfg, rt, pos, ext, new, sc: scores(rng, field) };
+    if rng.one_in(16) {
+        lay_stall(rng, &mut input);
+    }
+    input
+}
+
+/// A control period and a scale at which the Rust's Stall has a denominator of 0, an infinite speed or an infinite quotient, and
+/// no chunk, whose features have the scale for a divisor, too.
+fn lay_stall(rng: &mut Rng, i: &mut FeaturesIn) {
+    let (dt, scale) = rng.pick(&[(1e20, 1e-308), (1e-10, 1e300), (1.0, 1e-308)]);
+    i.cfg.dt = dt;
+    i.cfg.norm_scale[..i.cfg.dim].fill(scale);
+    i.new = None;
 }
 
 fn parts(i: &mut FeaturesIn) -> Vec<Part<'_>> {

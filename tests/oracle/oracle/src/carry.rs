@@ -4,7 +4,7 @@ use lictor_core as rust;
 use lictor_detect::{tier0, tier1};
 use model::{
     ActionKind, BrakeKind, Calibration, ChunkBuf, ChunkView, ClampMode, Derived, FuseConfig, Scores, Tier0Out, Tier1Rt,
-    BINS, HELD, MAX_D, MAX_H, NFEAT,
+    BINS, HELD, MAX_D, MAX_H, NFEAT, STALL,
 };
 
 use crate::trail;
@@ -50,6 +50,14 @@ pub fn scores(sc: &Scores) -> rust::Scores {
 pub fn scores_back(sc: &rust::Scores) -> Scores {
     let (valid, fired) = (bits_back(sc.valid), bits_back(sc.fired));
     Scores { f: by_name_back(&sc.f), z: by_name_back(&sc.z), s: sc.s, valid, fired }
+}
+
+/// The Rust computes Stall and the port does not, so that eleven features are compared: Stall as the port has it, 0.0 and not
+/// valid.
+pub fn without_stall(mut sc: Scores) -> Scores {
+    sc.f[STALL] = 0.0;
+    sc.valid &= !(1 << STALL);
+    sc
 }
 
 /// Sixteen bins, one tick each, so that a tick is its bin and the Rust takes one above 15 as 15.

@@ -174,10 +174,29 @@ pub fn features(
 ) {
     let mut r = carry::tier1_rt(rt);
     let mut scores = carry::scores(sc);
-    let cfg = config(cfg);
-    watch(|| tier1::features(&cfg, &mut r, obs(pos, &[], ext), new.map(chunk_view), 0, &mut scores));
+    let (cfg, obs, new) = (config(cfg), obs(pos, &[], ext), new.map(chunk_view));
+    watch_all_but_stall(&cfg, &r, obs, new);
+    tier1::features(&cfg, &mut r, obs, new, 0, &mut scores);
     *rt = carry::tier1_rt_back(&r, rt);
-    *sc = carry::scores_back(&scores);
+    *sc = carry::without_stall(carry::scores_back(&scores));
+}
+
+/// The flags of what `features` computes for the eleven features that are compared. They are those of two calls: of the chunk's
+/// features on an empty trail, where the published code computes nothing else, and of the trail's features without a chunk. Of
+/// these last only Stall reads the scale and the control period, and with the two given here it divides any finite number by 1e300.
+fn watch_all_but_stall(cfg: &rust::FuseConfig, rt: &tier1::Tier1Rt, obs: ObsView<'_>, new: Option<ChunkView<'_>>) {
+    let call = |cfg: &rust::FuseConfig, mut rt: tier1::Tier1Rt, new| {
+        watch(|| tier1::features(cfg, &mut rt, obs, new, 0, &mut lictor_core::Scores::default()));
+    };
+    call(cfg, tier1::Tier1Rt { trail: window::Trail::new(), ..rt.clone() }, new);
+    call(&rust::FuseConfig { norm_scale_iso: 1e300, dt: 1.0, ..cfg.clone() }, rt.clone(), None);
+}
+
+/// The Rust's own Stall where it is valid, with its flags.
+pub fn stall(cfg: &FuseConfig, rt: &Tier1Rt) -> Option<f64> {
+    let (cfg, mut r, mut sc) = (config(cfg), carry::tier1_rt(rt), carry::scores(&Scores::NEW));
+    watch(|| tier1::features(&cfg, &mut r, obs(&[], &[], &[]), None, 0, &mut sc));
+    (sc.valid & rust::Feat::Stall.bit() != 0).then_some(sc.f[rust::Feat::Stall as usize])
 }
 
 /// The state after a reset.
