@@ -71,6 +71,7 @@ use Rattle.brake.proofs.brake_feasible.Reads as brake-feasible
 use Rattle.brake.proofs.brake_action.Reads as brake-action
 use Rattle.brake.proofs.hold_action.Reads as hold-action
 use Rattle.conformal.proofs.sizes_ok.Reads as sizes-ok
+use Rattle.conformal.proofs.features_ok.Reads as features-ok
 use Rattle.conformal.proofs.numbers_ok.Reads as numbers-ok
 use Rattle.conformal.proofs.scores_ok.Reads as scores-ok
 use Rattle.conformal.proofs.standardise.Reads as standardise
@@ -365,6 +366,9 @@ one-hold-action l a r s x y = both
 
 pub one-sizes-ok : One sizes-ok.Post (λ r x. r)
 one-sizes-ok l a r s x y = unique
+
+pub one-features-ok : One features-ok.Post (λ r x. r)
+one-features-ok l a r s x y = unique
 
 pub one-numbers-ok : One numbers-ok.Post (λ r x. r)
 one-numbers-ok l a r s x y = unique
