@@ -99,7 +99,7 @@ pub fn brake_feasible(
 ///
 /// # Errors
 ///
-/// [`Size`](crate::Refusal::Size) to [`Channels`](crate::Refusal::Channels), [`Short`](crate::Refusal::Short) to
+/// [`Size`](crate::Refusal::Size) to [`Withdrawn`](crate::Refusal::Withdrawn), [`Short`](crate::Refusal::Short) to
 /// [`Computed`](crate::Refusal::Computed).
 pub fn brake_action(c: &Config, pos: &[f64], vel: &[f64], out: &mut [f64]) -> Answer<()> {
     // SAFETY: the arrays and slices are live; `out` is lent to us alone.

@@ -203,7 +203,7 @@ impl Config {
     /// # Errors
     ///
     /// [`Size`](crate::Refusal::Size), [`Number`](crate::Refusal::Number), [`Steps`](crate::Refusal::Steps),
-    /// [`Channels`](crate::Refusal::Channels).
+    /// [`Channels`](crate::Refusal::Channels), [`Withdrawn`](crate::Refusal::Withdrawn).
     pub fn new(c: &FuseConfig) -> Answer<Self> {
         let config = Self::unjudged(c);
         config.derive()?;

@@ -48,7 +48,9 @@ pub mod feature {
 ///     n_terms: 1,
 ///     terms: [1 << feature::REACH, 0, 0, 0, 0, 0, 0, 0],
 /// };
-/// # let _ = calibration;
+/// // Stall is not computed, and a table that names it is refused
+/// let old = Calibration { mask: 1 << feature::REACH | 1 << feature::STALL, ..calibration };
+/// assert_eq!(lictor::conformal::trip(&old, &Default::default()), Err(lictor::Refusal::Withdrawn));
 /// ```
 #[derive(Clone, Copy, Debug, PartialEq)]
 pub struct Calibration {
@@ -118,8 +120,8 @@ impl Scores {
 ///
 /// # Errors
 ///
-/// [`Size`](crate::Refusal::Size) and [`Number`](crate::Refusal::Number) for the calibration, [`NotFinite`](crate::Refusal::NotFinite),
-/// [`Computed`](crate::Refusal::Computed).
+/// [`Size`](crate::Refusal::Size), [`Number`](crate::Refusal::Number) and [`Withdrawn`](crate::Refusal::Withdrawn) for the calibration,
+/// [`NotFinite`](crate::Refusal::NotFinite), [`Computed`](crate::Refusal::Computed).
 pub fn standardise(cal: &Calibration, bin: usize, sc: &mut Scores) -> Answer<()> {
     let (mut numbers, mut marks) = (sc.numbers(), sc.marks());
     let Calibration { center, scale, tau, mask, n_terms, terms } = cal;

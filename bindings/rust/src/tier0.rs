@@ -92,7 +92,7 @@ pub fn check_chunk(c: &Config, pos: &[f64], aux: &[f64], ch: ChunkView<'_>, out:
 ///
 /// # Errors
 ///
-/// [`Size`](crate::Refusal::Size) to [`Channels`](crate::Refusal::Channels), [`Short`](crate::Refusal::Short) to
+/// [`Size`](crate::Refusal::Size) to [`Withdrawn`](crate::Refusal::Withdrawn), [`Short`](crate::Refusal::Short) to
 /// [`Computed`](crate::Refusal::Computed).
 pub fn check_action(
     c: &Config,

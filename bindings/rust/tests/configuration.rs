@@ -137,6 +137,16 @@ fn the_calibration_is_handed_over_once() {
 }
 
 #[test]
+fn a_calibration_that_names_stall_is_refused() {
+    let stall = 1 << conformal::feature::STALL;
+    let built = |calibration| arm().calibration(calibration, 200).build().err();
+    assert_eq!(built(CALIBRATION), None);
+    assert_eq!(built(Calibration { mask: CALIBRATION.mask | stall, ..CALIBRATION }), Some(Refusal::Withdrawn));
+    assert_eq!(built(Calibration { terms: [stall; 8], ..CALIBRATION }), Some(Refusal::Withdrawn));
+    assert_eq!(built(Calibration { terms: [1, stall, 0, 0, 0, 0, 0, 0], ..CALIBRATION }), None);
+}
+
+#[test]
 fn a_configuration_that_is_not_judged_is_refused_by_each_call() {
     let unfit = Config::unjudged(&ConfigBuilder::START);
     let chunk = ChunkView::new(0, 0, 2, 1, &[0.0, 0.0]);
