@@ -50,13 +50,13 @@ unfolding all
 all-from p zero h = refl
 all-from p (suc n) h = all-from p n (λ j l. h j (omega arith)) &&≡ h n (omega arith)
 
--- one that fails is enough
 -- two tests that agree below n
 pub all-same : (p q : ℕ → Bool) (n : ℕ) → ((i : ℕ) → i < n → p i ≡ q i) → all p n ≡ all q n
 unfolding all
 all-same p q zero h = refl
 all-same p q (suc n) h = rw (all-same p q n (λ i l. h i (omega arith)), h n (omega arith))
 
+-- one that fails is enough
 pub all-fails : (p : ℕ → Bool) (n j : ℕ) → j < n → p j ≡ false → all p n ≡ false
 all-fails p n j l e = go (all p n) refl
   where

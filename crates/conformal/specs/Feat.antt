@@ -22,7 +22,7 @@ SPEED-PEAK = 5
 abbrev pub PATH-INEFF : ℕ
 PATH-INEFF = 6
 
--- a number that is kept for a feature that is not computed: no score holds it and no calibration may name it
+-- not computed: `features` never sets it, and no calibration may name it
 abbrev pub STALL : ℕ
 STALL = 7
 

@@ -32,7 +32,7 @@ impl Feat {
 
     pub const PATH_INEFF: usize = 6;
 
-    // Not computed: no score holds it and no calibration may name it.
+    // Not computed: `features` never sets it, and no calibration may name it.
     pub const STALL: usize = 7;
 
     pub const EXT0: usize = 8;

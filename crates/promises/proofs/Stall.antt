@@ -4,7 +4,6 @@ use mathlib.Core.Bool.{true, false, not}
 use borrow.Author.Tests.{not-false}
 use lib.Ieee.{binary64}
 use Rattle.refusal.specs.Order.{Reason, size, withdrawn, among}
-use Rattle.refusal.specs.Exactly.{exactly-none}
 use Rattle.checked.proofs.Each.{neither}
 use Rattle.conformal.specs.Promises.{NamesNoStall}
 use Rattle.conformal.specs.Rule.{Tables}
@@ -20,7 +19,6 @@ module _ (c : FuseConfig) (tabs : Tables) (set : c .calibrated ≡ true) where
 
   named-nowhere : NamedNowhere c tabs
   named-nowhere = record {
-    by-derive = λ e. let h = exactly-none (among (configJudged binary64 c tabs)) .1 e in neither-applies (h size) (h withdrawn);
     by-check-action = λ p aux prev a room e. let h = check-action-exactly c tabs p aux prev a room .1 .1 e in neither-applies (h size) (h withdrawn);
     by-check-chunk = λ p aux rows k room e. let h = check-chunk-exactly c tabs p aux rows k room .1 .1 e in neither-applies (h size) (h withdrawn);
     by-features = λ p ext there k rows rt sc e.

@@ -1,3 +1,4 @@
 pub mod Order
 pub mod Exactly
 pub mod Chain
+pub mod Worked

@@ -19,7 +19,7 @@ use Rattle.checked.specs.declared.Reckoned.{Reckoned}
 use Rattle.tier1.specs.declared.Pair.{Pair}
 use Rattle.tier1.specs.declared.SixFeatures.{SixFeatures}
 use Rattle.tier1.specs.declared.AllFeatures.{AllFeatures}
-use Rattle.tier1.specs.Rule.{PE-WINDOW, boxDims, acmNeg, njr, reach, speedPeak, pathIneff, overlap, boundaryAt, ifThere, boundary, boundaryBits, moving, validAt, valueAt, twelve}
+use Rattle.tier1.specs.Rule.{PE-WINDOW, boxDims, acmNeg, njr, reach, speedPeak, overlap, boundaryAt, ifThere, boundary, boundaryBits, ineffAt, validAt, valueAt, twelve}
 use Rattle.checked.specs.Of.{reckonedFrom}
 use Rattle.tier1.specs.Of.{metFrom, boundaryFrom, gatheredFrom, twelveFrom}
 
@@ -69,25 +69,25 @@ module _ (held len ext j : ℕ) where
   unfolding validAt
   valid-lent g h i = rw (le-ltb j 6 g, le-ltb j 7 h, le-ltb j 8 i)
 
-module _ (held trail ext : List Float) (j : ℕ) (on : Bool) where
-  pub not-valid : on ≡ false → +0 ≡ kept on (valueAt held trail ext j)
+module _ (held : List Float) (ineff : Float) (ext : List Float) (j : ℕ) (on : Bool) where
+  pub not-valid : on ≡ false → +0 ≡ kept on (valueAt held ineff ext j)
   not-valid e = rw e
 
   module _ (e : on ≡ true) where
-    pub value-held : j < 6 → at held j ≡ kept on (valueAt held trail ext j)
+    pub value-held : j < 6 → at held j ≡ kept on (valueAt held ineff ext j)
     unfolding valueAt
     value-held h = rw (e, lt-ltb j 6 h)
 
-    pub value-trail : 6 ≤ j → j < 8 → at trail (j - 6) ≡ kept on (valueAt held trail ext j)
+    pub value-trail : 6 ≤ j → j < 8 → ineff ≡ kept on (valueAt held ineff ext j)
     unfolding valueAt
     value-trail g h = rw (e, le-ltb j 6 g, lt-ltb j 8 h)
 
-    pub value-lent : 6 ≤ j → 8 ≤ j → {x : Float} → x ≡ at ext (j - 8) → x ≡ kept on (valueAt held trail ext j)
+    pub value-lent : 6 ≤ j → 8 ≤ j → {x : Float} → x ≡ at ext (j - 8) → x ≡ kept on (valueAt held ineff ext j)
     unfolding valueAt
     value-lent g h i = rw (e, le-ltb j 6 g, le-ltb j 8 h) i
 
 module _ (f : Format) (m : Manifest) (t : Trail) (held : List Float) (hv : ℕ) (ext : List Float) where
-  pub twelve-is : {x : Reckoned} {r : AllFeatures} → x ≡ reckonedFrom (ifThere (leb PE-WINDOW (t .len)) (pathIneff f m t))
-      → r ≡ gatheredFrom held hv (t .len) (x .value ∷ +0 ∷ []) (x .sound) ext → r ≡ twelveFrom (twelve f m t held hv ext)
-  unfolding twelve moving
-  twelve-is e g = g ∙ rw (e, and-true, and-true)
+  pub twelve-is : {x : Reckoned} {r : AllFeatures} → x ≡ reckonedFrom (ineffAt f m t)
+      → r ≡ gatheredFrom held hv (t .len) (x .value) (x .sound) ext → r ≡ twelveFrom (twelve f m t held hv ext)
+  unfolding twelve
+  twelve-is e g = g ∙ rw (e, and-true)

@@ -21,7 +21,7 @@ use Rattle.envelope.specs.Derive.{kept}
 use Rattle.window.specs.declared.Trail.{Trail}
 use Rattle.envelope.specs.declared.FuseConfig.{FuseConfig}
 use Rattle.tier1.specs.declared.Tier1Rt.{Tier1Rt}
-use Rattle.tier1.specs.Rule.{PE-WINDOW, boxDims, boundaryAt, boundaryBits, moving, validAt, valueAt, twelve}
+use Rattle.tier1.specs.Rule.{PE-WINDOW, boxDims, boundaryAt, boundaryBits, ineffAt, validAt, valueAt, twelve}
 use Rattle.tier1.proofs.Ticks.{chunk-keeps-trail}
 use Rattle.tier1.specs.Of.{manifestOf, afterChunk, Tick, tick, scoresWith, featuredAt, ticked, featuresRefusal, featuresOf}
 use Rattle.tier1.specs.Promises.{Given, answer, number, common, Always, Passed, Held, quiet, Promised}
@@ -81,7 +81,7 @@ module _ (fm : Format) (x : Given) (rt : Tier1Rt) (sc : Scores) where
   valid-is = ap (λ (t : ℕ). bitsWhere (validAt (found .rt .«held_valid») t (length ext)) 12) (ap (λ (t : Trail). t .len) same-trail)
 
   abbrev value : ℕ → Float
-  value = valueAt (found .rt .held) (moving fm (manifestOf fm c) (found .rt .trail) .value) ext
+  value = valueAt (found .rt .held) (ineffAt fm (manifestOf fm c) (found .rt .trail) .value) ext
 
   f-is : found .found .f ≡ table (λ (j : ℕ). kept (says j) (value j)) 12
   unfolding ticked tick twelve

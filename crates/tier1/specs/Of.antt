@@ -70,9 +70,9 @@ metFrom f m k a t b h =
 abbrev pub boundaryFrom : Checked (List Float) → ℕ → SixFeatures
 boundaryFrom x bits = record { held = x .value; valid = bits; sound = x .sound }
 
-abbrev pub gatheredFrom : List Float → ℕ → ℕ → List Float → Bool → List Float → AllFeatures
-gatheredFrom held heldValid len trail sound ext = record {
-  f = table (λ (j : ℕ). kept (validAt heldValid len (length ext) j) (valueAt held trail ext j)) 12;
+abbrev pub gatheredFrom : List Float → ℕ → ℕ → Float → Bool → List Float → AllFeatures
+gatheredFrom held heldValid len ineff sound ext = record {
+  f = table (λ (j : ℕ). kept (validAt heldValid len (length ext) j) (valueAt held ineff ext j)) 12;
   valid = bitsWhere (validAt heldValid len (length ext)) 12;
   sound = sound;
 }

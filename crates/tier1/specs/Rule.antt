@@ -200,11 +200,9 @@ boundary f m k a p t h b = do
 unfoldable pub boundaryBits : Manifest → Kept → List Float → ℕ → ℕ → ℕ
 boundaryBits m k p t h = bitsWhere (boundaryAt (overlap k t h (m .dim)) h (boxDims m p)) 6
 
--- bits 6 and 7: PathIneff where the trail holds enough samples, and Stall, which is 0.0 and for which nothing is computed
-unfoldable pub moving : Format → Manifest → Trail → Checked (List Float)
-moving f m t = do
-  x ← ifThere (leb PE-WINDOW (t .len)) (pathIneff f m t)
-  pure (x ∷ +0 ∷ [])
+-- PathIneff where the trail holds enough samples
+abbrev pub ineffAt : Format → Manifest → Trail → Checked Float
+ineffAt f m t = ifThere (leb PE-WINDOW (t .len)) (pathIneff f m t)
 
 -- ---- all twelve of a tick
 
@@ -216,17 +214,17 @@ validAt held len ext j =
     else if ltb j EXT0 then false
     else ltb (j - EXT0) ext
 
--- its value
-unfoldable pub valueAt : List Float → List Float → List Float → ℕ → Float
-valueAt held trail ext j = if ltb j PATH-INEFF then at held j else if ltb j EXT0 then at trail (j - PATH-INEFF) else at ext (j - EXT0)
+-- its value where it is valid
+unfoldable pub valueAt : List Float → Float → List Float → ℕ → Float
+valueAt held ineff ext j = if ltb j PATH-INEFF then at held j else if ltb j EXT0 then ineff else at ext (j - EXT0)
 
 -- twelve features and their bits
 pub record Twelve : Type 0 where
   pub f : List Float
   pub valid : ℕ
 
--- 0.0 where not valid
+-- 0.0 where not valid, so Stall is 0.0; nothing is computed for it
 unfoldable pub twelve : Format → Manifest → Trail → List Float → ℕ → List Float → Checked Twelve
 twelve f m t held heldValid ext = do
-  trail ← moving f m t
-  pure (record { f = table (λ (j : ℕ). kept (validAt heldValid (t .len) (length ext) j) (valueAt held trail ext j)) COUNT; valid = bitsWhere (validAt heldValid (t .len) (length ext)) COUNT })
+  ineff ← ineffAt f m t
+  pure (record { f = table (λ (j : ℕ). kept (validAt heldValid (t .len) (length ext) j) (valueAt held ineff ext j)) COUNT; valid = bitsWhere (validAt heldValid (t .len) (length ext)) COUNT })

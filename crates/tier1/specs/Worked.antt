@@ -16,7 +16,7 @@ use Rattle.fmath.specs.Norm.{squaredGap, dist}
 use Rattle.window.specs.Rule.{net, path, step}
 use Rattle.bits.specs.Bits.{bit, bitsWhere}
 use Rattle.tier1.specs.declared.Manifest.{Manifest}
-use Rattle.tier1.specs.Rule.{sumRows, normal, gap, jolt, tce, acc, stepLength, acmNeg, njr, reach, startRow, stride, peak, speedPeak, netLength, pathLength, pathIneff, overlap, boundary, boundaryBits, moving, validAt, valueAt, twelve}
+use Rattle.tier1.specs.Rule.{sumRows, normal, gap, jolt, tce, acc, stepLength, acmNeg, njr, reach, startRow, stride, peak, speedPeak, netLength, pathLength, pathIneff, overlap, boundary, boundaryBits, ineffAt, validAt, valueAt, twelve}
 
 abbrev 4! : Float
 4! = fin false 1 (pos 2)
@@ -103,18 +103,17 @@ abbrev there-and-back : ℕ → List Float
 there-and-back zero = []
 there-and-back (suc n) = sample +0 (sample 1! (there-and-back n))
 
--- a way of 19 for a net of 1; Stall is 0.0
-pub to-and-fro : moving binary64 line (record { buf = there-and-back 10; head = 20; len = 20 }) ≡ record { value = ofBits binary64 0x3fee50d79435e50e ∷ +0 ∷ []; sound = true }
-unfolding moving pathIneff netLength pathLength net path step greater sumFrom dist squaredGap ofBits ofFields odd add sub mul div lt finite rootOf number rootExponent half nearRoot floorRoot scaled
+-- a way of 19 for a net of 1
+pub to-and-fro : ineffAt binary64 line (record { buf = there-and-back 10; head = 20; len = 20 }) ≡ record { value = ofBits binary64 0x3fee50d79435e50e; sound = true }
+unfolding pathIneff netLength pathLength net path step greater sumFrom dist squaredGap ofBits ofFields odd add sub mul div lt finite rootOf number rootExponent half nearRoot floorRoot scaled
 to-and-fro = refl
 
 -- one sample fewer
-pub nineteen : moving binary64 line (record { buf = there-and-back 10; head = 19; len = 19 }) ≡ record { value = +0 ∷ +0 ∷ []; sound = true }
-unfolding moving
+pub nineteen : ineffAt binary64 line (record { buf = there-and-back 10; head = 19; len = 19 }) ≡ record { value = +0; sound = true }
 nineteen = refl
 
--- all of a tick: AcmNeg alone is held as valid, and two external scalars are lent; bit 7 is clear
+-- all of a tick: AcmNeg alone is held as valid, and two external scalars are lent; Stall is 0.0, and its bit is clear though the trail has 20 samples
 pub tick-features : twelve binary64 line (record { buf = there-and-back 10; head = 20; len = 20 }) (5! ∷ 5! ∷ 5! ∷ 5! ∷ 5! ∷ 5! ∷ []) 4 (8! ∷ 6! ∷ []) .value
     ≡ record { f = +0 ∷ +0 ∷ 5! ∷ +0 ∷ +0 ∷ +0 ∷ ofBits binary64 0x3fee50d79435e50e ∷ +0 ∷ 8! ∷ 6! ∷ +0 ∷ +0 ∷ []; valid = 836 }
-unfolding twelve table validAt valueAt bit bitsWhere moving pathIneff netLength pathLength net path step greater sumFrom dist squaredGap ofBits ofFields odd add sub mul div lt finite rootOf number rootExponent half nearRoot floorRoot scaled
+unfolding twelve table validAt valueAt bit bitsWhere pathIneff netLength pathLength net path step greater sumFrom dist squaredGap ofBits ofFields odd add sub mul div lt finite rootOf number rootExponent half nearRoot floorRoot scaled
 tick-features = refl

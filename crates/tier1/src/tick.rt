@@ -1,9 +1,8 @@
 // The feature of the trail, and all twelve of a tick.
 ghost use mathlib.Core.Path.{_≡_};
 ghost use Prim.Native.Nat.{_^_, _<_};
-ghost use lib.Dec.{leb};
 ghost use lib.Ieee.{binary64};
-ghost use Rattle.tier1.specs.Rule.{PE-WINDOW, pathIneff, ifThere, validAt, valueAt, twelve};
+ghost use Rattle.tier1.specs.Rule.{ineffAt, validAt, valueAt, twelve};
 ghost use Rattle.envelope.specs.Derive.{kept};
 ghost use Rattle.tier1.specs.Of.{gatheredFrom, twelveFrom};
 ghost use Rattle.checked.specs.Of.{reckonedFrom};
@@ -20,7 +19,7 @@ const PE_WINDOW: u8 = 20;
 
 // PathIneff of the last samples. The way is tested by itself, since a quotient by it hides an infinity.
 fn path_ineff(m: Manifest, t: Trail) -> Reckoned
-    ensures { λ r. ⌜ r ≡ reckonedFrom (ifThere (leb PE-WINDOW (t .len)) (pathIneff binary64 m t)) ⌝ }
+    ensures { λ r. ⌜ r ≡ reckonedFrom (ineffAt binary64 m t) ⌝ }
 {
     if t.len < PE_WINDOW {
         return absent();
@@ -54,8 +53,8 @@ fn valid_at(held: u32, len: u8, ext: usize, j: usize, w: u32) -> bool
 }
 
 // Feature j, 0.0 where it is not valid.
-fn feature_at<'a>(on: bool, held: &'a [f64; 6], trail: &'a [f64; 2], ext: &[f64], j: usize) -> f64
-    ensures { λ r. ⌜ r ≡ kept on (valueAt (now (held .entry)) (now (trail .entry)) (now (ext .entry)) j) ⌝ }
+fn feature_at(on: bool, held: &[f64; 6], ineff: f64, ext: &[f64], j: usize) -> f64
+    ensures { λ r. ⌜ r ≡ kept on (valueAt (now (held .entry)) ineff (now (ext .entry)) j) ⌝ }
 {
     if !on {
         return 0.0;
@@ -64,7 +63,7 @@ fn feature_at<'a>(on: bool, held: &'a [f64; 6], trail: &'a [f64; 2], ext: &[f64]
         return held[j];
     }
     if j < Feat::EXT0 {
-        return trail[j - Feat::PATH_INEFF];
+        return ineff;
     }
     if j - Feat::EXT0 < ext.len() {
         return ext[j - Feat::EXT0];
@@ -72,16 +71,16 @@ fn feature_at<'a>(on: bool, held: &'a [f64; 6], trail: &'a [f64; 2], ext: &[f64]
     0.0 / 0.0
 }
 
-// The held features, those of the trail and the external ones, with their bits.
+// The held features, PathIneff and the external ones, with their bits.
 fn gathered(
     held: [f64; 6],
     held_valid: u32,
     len: u8,
-    trail: [f64; 2],
+    ineff: f64,
     sound: bool,
     ext: &[f64],
 ) -> AllFeatures
-    ensures { λ r. ⌜ r ≡ gatheredFrom held «held_valid» len trail sound (now (ext .entry)) ⌝ }
+    ensures { λ r. ⌜ r ≡ gatheredFrom held «held_valid» len ineff sound (now (ext .entry)) ⌝ }
 {
     let mut f = [0.0; 12];
     let mut valid = 0u32;
@@ -89,7 +88,7 @@ fn gathered(
     let mut j = 0usize;
     while j < Feat::COUNT {
         let on = valid_at(held_valid, len, ext.len(), j, w);
-        f[j] = feature_at(on, &held, &trail, ext, j);
+        f[j] = feature_at(on, &held, ineff, ext, j);
         valid += bits::weight(on, w);
         w *= 2;
         j += 1;
@@ -108,6 +107,5 @@ pub(crate) fn twelve(
     ensures { λ r. ⌜ r ≡ twelveFrom (twelve binary64 m t held «held_valid» (now (ext .entry))) ⌝ }
 {
     let p = path_ineff(m, t);
-    let trail = [p.value, 0.0];
-    gathered(held, held_valid, t.len, trail, p.sound, ext)
+    gathered(held, held_valid, t.len, p.value, p.sound, ext)
 }

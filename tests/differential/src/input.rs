@@ -120,7 +120,7 @@ pub fn trail_parts(t: &mut Trail) -> Vec<Part<'_>> {
     vec![Part::Table(&mut t.buf, 0.0), Part::U8(&mut t.head), Part::U8(&mut t.len)]
 }
 
-/// Of eight calibrations one names Stall, and is refused for it; terms past the count have any bits.
+/// Of eight calibrations one names Stall, in its mask or in a counted term; terms past the count have any bits.
 pub fn calibration(rng: &mut Rng, field: Field) -> Calibration {
     let mut c = Calibration::DISARMED;
     c.center = field.array(rng);

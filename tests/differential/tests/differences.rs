@@ -537,6 +537,7 @@ fn a_calibration_that_names_stall() {
     rust.f[STALL] = 1.0;
     oracle::standardise(&gated(STALL), 0, &mut rust);
     assert_eq!(oracle::aggregate(&gated(STALL), &mut rust), 1.0, "a feature like another");
+    assert_eq!((rust.z[STALL], rust.fired), (1.0, 1 << STALL));
 }
 
 #[test]
@@ -577,6 +578,8 @@ fn a_configuration_made_by_hand() {
     assert_eq!((out, brake::hold_action(&crossed, &[0.0], &mut out.clone())), ([1.0], refused(2)));
     let unread = FuseConfig { j_max: f64::NAN, armed: WORKSPACE, ..boxed(1) };
     assert_eq!(checked(&unread, &[0.0], &[], rows(1, &[9.0])), (WORKSPACE, refused(2)));
+    let stalled = FuseConfig { calibrated: true, cal: gated(STALL), horizon_ticks: 1, armed: WORKSPACE, ..boxed(1) };
+    assert_eq!(checked(&stalled, &[0.0], &[], rows(1, &[9.0])), (WORKSPACE, refused(17)));
 }
 
 /// The first of 200 ticks at which the two are in different bins, and the least input at which they are; asked for the tick
@@ -687,7 +690,7 @@ fn no_ticks_without_a_calibration() {
     assert_eq!(oracle::compile_with_ticks(&compiled(), 1), Ok(()));
 }
 
-/// The gate's mask is asked for by `compile`; here any mask of the twelve features stands beside any terms.
+/// The gate's mask is asked for by `compile`; here any mask of the eleven features that may be named stands beside any terms.
 #[test]
 fn a_mask_that_is_not_the_gates() {
     let cal = Calibration { mask: 1, ..Calibration::DISARMED };

@@ -18,18 +18,18 @@ use Rattle.tier1.proofs.tick.gathered.Statement.{statement}
 use Rattle.tier1.proofs.tick.gathered.Tie as tie
 
 -- the first j features are gathered, and w is the weight of the next bit
-record Gathered (held-valid len : ℕ) (ext held trail : List Float) (f : List Float) (valid w j : ℕ) : Type 0 where
+record Gathered (held-valid len : ℕ) (ineff : Float) (ext held : List Float) (f : List Float) (valid w j : ℕ) : Type 0 where
   along : j ≤ 12
   weighs : w ≡ 2 ^ j
   bits-so-far : valid ≡ bitsWhere (validAt held-valid len (length ext)) j
   wide : length f ≡ 12
-  so-far : take j f ≡ table (λ (i : ℕ). kept (validAt held-valid len (length ext) i) (valueAt held trail ext i)) j
+  so-far : take j f ≡ table (λ (i : ℕ). kept (validAt held-valid len (length ext) i) (valueAt held ineff ext i)) j
 
 abbrev Inv-loop : tie.InvT-loop
-Inv-loop held-valid len sound ext held trail f₀ valid₀ w₀ j₀ f valid w j = Gathered held-valid len ext held trail f valid w j
+Inv-loop held-valid len ineff sound ext held f₀ valid₀ w₀ j₀ f valid w j = Gathered held-valid len ineff ext held f valid w j
 
 abbrev μ-loop : tie.MeasureT-loop
-μ-loop held-valid len sound ext held trail f₀ valid₀ w₀ j₀ f valid w j = 12 - j
+μ-loop held-valid len ineff sound ext held f₀ valid₀ w₀ j₀ f valid w j = 12 - j
 
 loop-holds : tie.Need-loop-holds Inv-loop μ-loop
 unfolding bitsWhere table
@@ -57,8 +57,8 @@ array-write-f c = search needs
 weight-requires : tie.Need-weight-requires Inv-loop μ-loop
 weight-requires c κs = search needs
 
-turned : (c : tie.After-weight Inv-loop μ-loop) → let l = c .before .before .before .before .before .before .loop in let a = c .before .before .before .before .before .before .before .before .args in Turned (validAt (a .held-valid) (a .len) (length (now (a .ext)))) (l .j) (l .valid) (l .w) (c .weight .result)
-turned c = let l = c .before .before .before .before .before .before .loop in turn _ (l .j) (l .valid) (l .w) _ (omega arith) (l .inv .bits-so-far) (l .inv .weighs) (c .before .before .before .before .valid-at .ensures) (c .weight .ensures .0)
+turned : (c : tie.After-weight Inv-loop μ-loop) → let l = c .before .before .before .before .before .loop in let a = c .before .before .before .before .before .before .before .args in Turned (validAt (a .held-valid) (a .len) (length (now (a .ext)))) (l .j) (l .valid) (l .w) (c .weight .result)
+turned c = let l = c .before .before .before .before .before .loop in turn _ (l .j) (l .valid) (l .w) _ (omega arith) (l .inv .bits-so-far) (l .inv .weighs) (c .before .before .before .valid-at .ensures) (c .weight .ensures .0)
 
 add-valid : tie.Need-add-valid Inv-loop μ-loop
 add-valid c = let z = turned c in omega arith
@@ -74,13 +74,13 @@ loop-less c = search needs
 
 loop-again : tie.Need-loop-again Inv-loop μ-loop
 loop-again c =
-    let l = c .before .before .before .before .before .before .loop in
+    let l = c .before .before .before .before .before .loop in
     let z = turned c in record {
       along = omega arith;
       weighs = z .next;
       bits-so-far = z .so-far;
       wide = simp length-set (l .inv .wide);
-      so-far = table-more _ _ _ _ (omega arith) (l .inv .so-far) (c .before .feature-at .ensures ∙ rw (c .before .before .before .before .valid-at .ensures));
+      so-far = table-more _ _ _ _ (omega arith) (l .inv .so-far) (c .before .feature-at .ensures ∙ rw (c .before .before .before .valid-at .ensures));
     }
 
 returns : tie.Need-returns Inv-loop μ-loop

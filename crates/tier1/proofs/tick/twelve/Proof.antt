@@ -2,7 +2,7 @@
 use denote.Ref.{now}
 use Rattle.tier1.proofs.Masks.{twelve-is}
 use borrow.Author.Needs.{needs}
-use lib.Ieee.{binary64, ofBits}
+use lib.Ieee.{binary64}
 use Rattle.tier1.proofs.tick.twelve.Statement.{statement}
 use Rattle.tier1.proofs.tick.twelve.Tie as tie
 
@@ -13,7 +13,6 @@ gathered-requires : tie.Need-gathered-requires
 gathered-requires c κs = search needs
 
 returns : tie.Need-returns
-unfolding ofBits
 returns c = let g = c .before .before .before .args in twelve-is binary64 (g .m) (g .t) (g .held) (g .held-valid) (now (g .ext)) (c .before .path-ineff .ensures) (c .gathered .ensures)
 
 pub twelve-spec : {M : Type 1} → statement M
