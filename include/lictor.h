@@ -65,7 +65,7 @@ extern "C" {
 #define LICTOR_CAST(type, number) ((type)(number))
 #endif
 
-/* ---- refusals, in the order of judging: the first that applies is given, LICTOR_MISFIT before all others
+/* ---- refusals, in the order of judging, not of their numbers: the first that applies is given, LICTOR_MISFIT before all others
 
    Counts are passed in words of 64 bits, and each is held in a field whose width is given beside it. One that its field cannot hold is
    refused as the table has it (65536 substeps with LICTOR_STEPS, a trail's head of 256 with LICTOR_SIZE), and with LICTOR_MISFIT
