@@ -18,10 +18,10 @@ abbrev SoFar : (ℕ → Bool) → GateSpec → ℕ → ℕ → Bool
 SoFar p gate n i = all (λ (k : ℕ). leb n k || p (termAt gate k)) i
 
 abbrev Inv-loop : tie.InvT-loop
-Inv-loop gate n named₀ without-stall₀ i₀ named-so-far without-stall i = (i ≤ 8) × ((named-so-far ≡ SoFar named gate n i) × (without-stall ≡ SoFar withoutStall gate n i))
+Inv-loop gate n all-named₀ no-stall₀ i₀ all-named no-stall i = (i ≤ 8) × ((all-named ≡ SoFar named gate n i) × (no-stall ≡ SoFar withoutStall gate n i))
 
 abbrev μ-loop : tie.MeasureT-loop
-μ-loop gate n named₀ without-stall₀ i₀ named-so-far without-stall i = 8 - i
+μ-loop gate n all-named₀ no-stall₀ i₀ all-named no-stall i = 8 - i
 
 cast-n : tie.Need-cast-n Inv-loop μ-loop
 cast-n c = search needs
