@@ -1,13 +1,13 @@
 -- Nothing of Stall passes: an accepted calibration has passed the test of 17 and, by that of 1, counts no more terms than that test looks at.
-use Prim.Native.Nat.{ℕ, _≤_, _<_}
+use Prim.Native.Nat.{ℕ, zero, suc, _≤_, _<_}
 use mathlib.Core.Path.{_≡_, refl, ap, _∙_}
 use mathlib.Core.Bool.{Bool, true, false, _||_, false≢true}
 use mathlib.Core.List.{List}
 use native.Mathlib.Omega.{arith}
-use borrow.Author.Tests.{lt-leb, leb-true, eq-eqb, eqb-true, not-true, not-false, leb-false}
-use lib.Dec.{leb, eqb}
+use borrow.Author.Tests.{lt-leb, leb-true, eq-eqb, eqb-true, not-true, not-false, leb-false, ltb-true}
+use lib.Dec.{leb, ltb, eqb}
 use lib.ListN.{getD}
-use lib.Ieee.{Format}
+use lib.Ieee.{Float, Format}
 use Rattle.refusal.specs.Order.{size, withdrawn, among, refusedFor}
 use Rattle.refusal.specs.Exactly.{exactly-none}
 use Rattle.bits.specs.Choice.{if_then_else_}
@@ -17,10 +17,10 @@ use Rattle.checked.specs.Each.{at}
 use Rattle.checked.specs.Finite.{+0}
 use Rattle.checked.proofs.Each.{all-at, all-same, every-at, table-at}
 use Rattle.conformal.specs.Feat.{STALL}
-use Rattle.conformal.specs.Rule.{Tables, standard, standardAt, standards, termAt, fires, firedBits, trips}
+use Rattle.conformal.specs.Rule.{Tables, standard, standardAt, standards, joinWhere, greatestWhere, leastOf, termAt, counts, aggregate, fires, firedBits, trips}
 use Rattle.conformal.specs.Refusals.{eachCounted, named, withoutStall, sizesOk, numbersOk, featuresOk}
 use Rattle.conformal.specs.Answer.{scoresJudged, judged, liveOf, standardsOf, standardised, aggregated, verdict, tripped}
-use Rattle.conformal.specs.Promises.{NamesNoStall, WithoutStall, withTerms}
+use Rattle.conformal.specs.Promises.{NamesNoStall, WithoutStall, withTerms, AgreeCounted, PastTheCount}
 use Rattle.conformal.specs.declared.Calibration.{Calibration}
 use Rattle.conformal.specs.declared.Scores.{Scores}
 use Rattle.conformal.specs.declared.Verdict.{Verdict}
@@ -86,7 +86,10 @@ module _ (cal : Calibration) (t : Tables) (sc : Scores) where
 
 -- ---- what stands past the count
 
-module _ (cal : Calibration) (terms : List ℕ) (same : (i : ℕ) → i < cal .gate .«n_terms» → getD terms i 0 ≡ termAt (cal .gate) i) where
+module _ (cal : Calibration) (terms : List ℕ) (same : AgreeCounted cal terms) where
+  abbrev other : Calibration
+  other = withTerms cal terms
+
   one-term : (p : ℕ → Bool) (i : ℕ) → (leb (cal .gate .«n_terms») i || p (getD terms i 0)) ≡ (leb (cal .gate .«n_terms») i || p (termAt (cal .gate) i))
   one-term p i = go (leb (cal .gate .«n_terms») i) refl
     where
@@ -94,9 +97,43 @@ module _ (cal : Calibration) (terms : List ℕ) (same : (i : ℕ) → i < cal .g
       go true e = refl
       go false e = ap p (same i (leb-false (cal .gate .«n_terms») i e))
 
-  each-same : (p : ℕ → Bool) → eachCounted p (withTerms cal terms .gate) ≡ eachCounted p (cal .gate)
+  each-same : (p : ℕ → Bool) → eachCounted p (other .gate) ≡ eachCounted p (cal .gate)
   each-same p = all-same _ _ 8 (λ i l. one-term p i)
 
-  pub past-the-count : (t : Tables) (sc : Scores) (sound : Bool) → judged (withTerms cal terms) t sc sound ≡ judged cal t sc sound
-  unfolding judged sizesOk numbersOk featuresOk
-  past-the-count t sc sound = rw (each-same named, each-same withoutStall)
+  pub same-sizes : sizesOk other ≡ sizesOk cal
+  unfolding sizesOk
+  same-sizes = rw (each-same named)
+
+  pub same-numbers : (t : Tables) → numbersOk other t ≡ numbersOk cal t
+  unfolding numbersOk
+  same-numbers t = refl
+
+  pub same-features : featuresOk other ≡ featuresOk cal
+  unfolding featuresOk
+  same-features = rw (each-same withoutStall)
+
+  judged-same : (t : Tables) (sc : Scores) (sound : Bool) → judged other t sc sound ≡ judged cal t sc sound
+  unfolding judged
+  judged-same t sc sound = rw (same-sizes, same-numbers t, same-features)
+
+  -- the greatest over the first n terms
+  abbrev most : Calibration → (ℕ → Bool) → List Float → ℕ → Float
+  most c live z = greatestWhere (counts (c .gate) live) (λ (i : ℕ). leastOf z (termAt (c .gate) i))
+
+  -- a term that does not count is passed over
+  most-same : (live : ℕ → Bool) (z : List Float) (n : ℕ) → most other live z n ≡ most cal live z n
+  unfolding joinWhere
+  most-same live z zero = refl
+  most-same live z (suc i) = go (ltb i (cal .gate .«n_terms»)) refl (most-same live z i)
+    where
+      go : (counted : Bool) → ltb i (cal .gate .«n_terms») ≡ counted → most other live z i ≡ most cal live z i → most other live z (suc i) ≡ most cal live z (suc i)
+      go true e before = rw (same i (ltb-true i (cal .gate .«n_terms») e), before)
+      go false e before = rw e before
+
+  pub past-the-count : (t : Tables) (sc : Scores) → PastTheCount cal terms t sc
+  unfolding standardised aggregated tripped aggregate
+  past-the-count t sc = record {
+    same-standards = λ f bin. rw (judged-same t sc (standardsOf f cal t bin sc .sound));
+    same-aggregate = rw (judged-same t sc true, most-same (liveOf cal sc) (sc .z) 8);
+    same-trip = rw (judged-same t sc true);
+  }

@@ -14,7 +14,7 @@ use Rattle.checked.specs.Finite.{+0}
 use Rattle.bits.specs.Bits.{bit}
 use Rattle.conformal.specs.Feat.{STALL}
 use Rattle.conformal.specs.Rule.{Tables, liveTerm, leastOf, termAt, counts, aggregate, firedBits, binAt}
-use Rattle.conformal.specs.Answer.{judged, standardised, aggregated, tripped, onHorizon, timeBinOf}
+use Rattle.conformal.specs.Answer.{standardised, aggregated, tripped, onHorizon, timeBinOf}
 use Rattle.conformal.specs.declared.GateSpec.{GateSpec}
 use Rattle.conformal.specs.declared.Calibration.{Calibration}
 use Rattle.conformal.specs.declared.Scores.{Scores}
@@ -64,6 +64,16 @@ pub record WithoutStall (cal : Calibration) (t : Tables) (sc : Scores) : Type 0 
 abbrev pub withTerms : Calibration → List ℕ → Calibration
 withTerms cal terms = record { mask = cal .mask; gate = record { «n_terms» = cal .gate .«n_terms»; terms = terms }; tau = cal .tau }
 
+-- terms that agree with those of cal as far as they count
+abbrev pub AgreeCounted : Calibration → List ℕ → Type 0
+AgreeCounted cal terms = (i : ℕ) → i < cal .gate .«n_terms» → getD terms i 0 ≡ termAt (cal .gate) i
+
+-- what stands past the count, be it Stall or a bit above 11, changes no answer
+pub record PastTheCount (cal : Calibration) (terms : List ℕ) (t : Tables) (sc : Scores) : Type 0 where
+  pub same-standards : (f : Format) (bin : ℕ) → standardised f (withTerms cal terms) t bin sc ≡ standardised f cal t bin sc
+  pub same-aggregate : aggregated (withTerms cal terms) t sc ≡ aggregated cal t sc
+  pub same-trip : tripped (withTerms cal terms) t sc ≡ tripped cal t sc
+
 -- ---- the time bin, over whole numbers
 
 -- the bin where ticks are numbered from 0: t x 16 / horizon_ticks rounded down, at most 15
@@ -94,7 +104,5 @@ pub record Promised : Type 0 where
   pub fired-exactly : (live : ℕ → Bool) (tau : Float) (z : List Float) (j : ℕ) → j < 12 → bit (firedBits live tau z) j ≡ (live j && lt tau (at z j))
   pub fired-no-more : (live : ℕ → Bool) (tau : Float) (z : List Float) (j : ℕ) → 12 ≤ j → bit (firedBits live tau z) j ≡ false
   pub without-stall : (cal : Calibration) (t : Tables) (sc : Scores) → WithoutStall cal t sc
-  -- what stands past the count of terms, be it Stall or a bit above 11, is not looked at
-  pub past-the-count : (cal : Calibration) (terms : List ℕ) → ((i : ℕ) → i < cal .gate .«n_terms» → getD terms i 0 ≡ termAt (cal .gate) i)
-      → (t : Tables) (sc : Scores) (sound : Bool) → judged (withTerms cal terms) t sc sound ≡ judged cal t sc sound
+  pub past-the-count : (cal : Calibration) (terms : List ℕ) → AgreeCounted cal terms → (t : Tables) (sc : Scores) → PastTheCount cal terms t sc
   pub bins : (horizon : ℕ) → TimeBins horizon

@@ -15,7 +15,7 @@ use Rattle.checked.specs.Least.{least}
 use Rattle.checked.proofs.Each.{all-same, every-at}
 use Rattle.conformal.specs.Rule.{Tables}
 use Rattle.conformal.specs.Promises.{NamesNoStall}
-use Rattle.conformal.proofs.Stall.{names-no-stall}
+use Rattle.conformal.proofs.Stall.{names-no-stall, same-sizes, same-numbers, same-features}
 use Rattle.envelope.specs.Derive.{kept, lowWalls, highWalls, inverses, isotropic, derivedFrom, derived}
 use Rattle.envelope.specs.Refusals.{sizesOk, numbersFrom, countsOk, stepsOk, normOk, boxOk, featuresOk, configJudged}
 use Rattle.envelope.specs.declared.FuseConfig.{FuseConfig}
@@ -82,6 +82,7 @@ promised = record {
   accepted-fit = accepted;
   names-no-stall = λ f c t e set. let fit = accepted f c t e in no-stall c set (fit .sizes) (fit .features);
   flag-clear = λ f c t u cal ticks e. rw e;
+  past-the-count = λ f c t terms same. rw (same-sizes (c .calib) terms same, same-numbers (c .calib) terms same t, same-features (c .calib) terms same);
   armed-or-not = λ f c t bits. refl;
   exactly-4096 = λ b sub commit e. rw (sub, commit, e);
   one-step-more = λ b sub commit e. rw (sub, commit, e);

@@ -8,7 +8,7 @@ use lib.Ieee.{Float, Format}
 use Rattle.refusal.specs.Order.{refusal}
 use Rattle.checked.specs.Each.{at}
 use Rattle.conformal.specs.Rule.{Tables}
-use Rattle.conformal.specs.Promises.{NamesNoStall}
+use Rattle.conformal.specs.Promises.{NamesNoStall, withTerms, AgreeCounted}
 use Rattle.conformal.specs.declared.Calibration.{Calibration}
 use Rattle.envelope.specs.Derive.{derived}
 use Rattle.envelope.specs.Refusals.{sizesOk, numbersOk, countsOk, stepsOk, channelsFit, featuresOk, configJudged}
@@ -74,6 +74,9 @@ pub record Promised : Type 0 where
   -- with the flag clear nothing of the calibration or its tables is judged, nor horizon_ticks
   pub flag-clear : (f : Format) (c : FuseConfig) (t u : Tables) (cal : Calibration) (ticks : ℕ) → c .calibrated ≡ false
       → refusal (configJudged f (calibratedBy c cal ticks) u) ≡ refusal (configJudged f c t)
+  -- nor is a term past the count, with the flag set
+  pub past-the-count : (f : Format) (c : FuseConfig) (t : Tables) (terms : List ℕ) → AgreeCounted (c .calib) terms
+      → refusal (configJudged f (calibratedBy c (withTerms (c .calib) terms) (c .«horizon_ticks»)) t) ≡ refusal (configJudged f c t)
   -- what is armed changes nothing: a contact that is configured is judged all the same
   pub armed-or-not : (f : Format) (c : FuseConfig) (t : Tables) (bits : ℕ) → refusal (configJudged f (armedBy c bits) t) ≡ refusal (configJudged f c t)
   -- commit 64, brake_steps 0, substeps 64: accepted; brake_steps 1: refused
