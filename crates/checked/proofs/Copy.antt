@@ -44,6 +44,10 @@ pub padded-at : (a : List Float) (n j : ℕ) → n ≤ 8 → j < n → at (padde
 unfolding padded
 padded-at a n j hn hj = over-at (at a) (replicate 8 +0) n j hj (omega arith)
 
+pub length-padded : (a : List Float) (n : ℕ) → length (padded a n) ≡ 8
+unfolding padded
+length-padded a n = length-over (at a) (replicate 8 +0) n
+
 -- what it gives where the list may be short
 pub eight-is : (a : List Float) (n : ℕ) {r : List Float} → n ≤ 8 → r ≡ padded a (min n (min (length a) 8)) → r ≡ eight a n
 unfolding eight
@@ -53,5 +57,5 @@ eight-is a n h e = e ∙ ap (padded a) as-many
     as-many = omega arith
 
 pub length-eight : (a : List Float) (n : ℕ) → length (eight a n) ≡ 8
-unfolding eight padded
-length-eight a n = length-over (at a) (replicate 8 +0) (min n (length a))
+unfolding eight
+length-eight a n = length-padded a (min n (length a))

@@ -96,6 +96,25 @@ some-cut p (suc n) m h = go (decLe m n) (some-cut p n m h)
     go (yes l) e = let k : min (suc n) m ≡ min n m = omega arith in rw (h n l, k) (or-false (some p n) ∙ e)
     go (no l) e = let k : min (suc n) m ≡ suc n = omega (arith, lt-of-not-le l) in rw k
 
+-- none holds: each fails, and the other way round
+pub some-none : (p : ℕ → Bool) (n : ℕ) → ((j : ℕ) → j < n → p j ≡ false) → some p n ≡ false
+unfolding some
+some-none p zero h = refl
+some-none p (suc n) h = rw (some-none p n (λ j l. h j (omega arith)), h n (omega arith))
+
+pub some-none-at : (p : ℕ → Bool) (n : ℕ) → some p n ≡ false → (j : ℕ) → j < n → p j ≡ false
+unfolding some
+some-none-at p zero h j l = absurd (omega arith)
+some-none-at p (suc n) h j l = let t = neither (some p n) (p n) h in below-more (λ (i : ℕ). p i ≡ false) n (some-none-at p n (t .0)) (t .1) j (omega arith)
+
+-- one holds: so does some
+pub some-there : (p : ℕ → Bool) (n j : ℕ) → j < n → p j ≡ true → some p n ≡ true
+some-there p n j l e = go (some p n) refl
+  where
+    go : (b : Bool) → some p n ≡ b → b ≡ true
+    go true h = refl
+    go false h = sym (some-none-at p n h j l) ∙ e
+
 -- ---- every
 
 from-first : (a : Bool) (l : List Bool) → every-from a l ≡ true → a ≡ true

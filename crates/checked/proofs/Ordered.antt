@@ -1,6 +1,6 @@
 -- The order of floats of either sign: asymmetric, transitive, and total up to equal numbers. At any format, since a comparison is exact.
 use mathlib.Core.Path.{_≡_, refl, sym, ap, _∙_, subst}
-use mathlib.Core.Bool.{Bool, true, false, not, _&&_, _||_}
+use mathlib.Core.Bool.{Bool, true, false, not, _&&_, _||_, false≢true}
 use mathlib.Core.Logic.{_⊎_, inl, inr, ⊎-elim}
 use Prim.Native.Nat.{ℕ, zero, suc, _+_, _*_, _≤_, _<_}
 use native.Mathlib.Nat.{le-of-lt, le-antisymm, lt-of-not-le, suc-mul, zero-mul}
@@ -191,3 +191,61 @@ le-not-above (fin true m e) (fin true n d) p q = let a = m * up e * down d in le
 pub lt-total : (x y : Float) → Real x → Real y → lt x y ≡ false → lt y x ≡ false → eq x y ≡ true
 unfolding le
 lt-total x y p q h k = rw h at (le-not-above x y p q ∙ ap not k)
+
+-- a number below another, or above it, is not equal to it
+apart : (a b : ℕ) → ltb a b ≡ true → eqb a b ≡ false
+apart a b h = ne-eqb a b (λ e. omega (arith, ltb-true a b h))
+
+pub below-not-equal : (x y : Float) → lt x y ≡ true → eq x y ≡ false
+unfolding lt eq
+below-not-equal nan y h = refl
+below-not-equal (inf s) nan h = refl
+below-not-equal (inf true) (inf true) h = sym h
+below-not-equal (inf true) (inf false) h = refl
+below-not-equal (inf false) (inf t) h = absurd (false≢true h)
+below-not-equal (inf s) (fin t n d) h = refl
+below-not-equal (fin s m e) nan h = refl
+below-not-equal (fin s m e) (inf t) h = refl
+below-not-equal (fin false m e) (fin false n d) h = rw (apart (m * up e * down d) (n * up d * down e) h)
+below-not-equal (fin false m e) (fin true n d) h = absurd (false≢true h)
+below-not-equal (fin true m e) (fin false n d) h =
+    let a = m * up e * down d in
+    let b = n * up d * down e in
+    both-zero a b ∙ ap not (lt-ltb 0 (b + a) (omega (arith, ltb-true 0 (a + b) h)))
+below-not-equal (fin true m e) (fin true n d) h =
+    let a = m * up e * down d in
+    let b = n * up d * down e in
+    rw (eqb-swap a b, apart b a h)
+
+second-false : (a b : Bool) → a || b ≡ false → b ≡ false
+second-false true b e = absurd (false≢true (sym e))
+second-false false b e = e
+
+pub above-not-equal : (x y : Float) → lt y x ≡ true → eq x y ≡ false
+unfolding le eq isNan
+above-not-equal nan y h = refl
+above-not-equal (inf s) y h = second-false (lt (inf s) y) (eq (inf s) y) (le-not-above (inf s) y tt (below-real y (inf s) h) ∙ ap not h)
+above-not-equal (fin s m e) y h = second-false (lt (fin s m e) y) (eq (fin s m e) y) (le-not-above (fin s m e) y tt (below-real y (fin s m e) h) ∙ ap not h)
+
+-- nor equal to what is equal to that one as a number
+equal-real : (y w : Float) → eq y w ≡ true → Real y
+unfolding eq isNan
+equal-real nan w e = absurd (false≢true e)
+equal-real (inf s) w e = tt
+equal-real (fin s m k) w e = tt
+
+pub below-equal : (x y w : Float) → eq y w ≡ true → lt x w ≡ true → eq x y ≡ false
+below-equal x y w e h = below-not-equal x y (go (lt x y) (lt y w) refl refl)
+  where
+    go : (a b : Bool) → lt x y ≡ a → lt y w ≡ b → a ≡ true
+    go true b p q = refl
+    go false true p q = absurd (false≢true (sym (below-not-equal y w q) ∙ e))
+    go false false p q = absurd (false≢true (sym (lt-not-below x y w (equal-real y w e) p q) ∙ h))
+
+pub above-equal : (x y w : Float) → eq y w ≡ true → lt w x ≡ true → eq x y ≡ false
+above-equal x y w e h = above-not-equal x y (go (lt y x) (lt w y) refl refl)
+  where
+    go : (a b : Bool) → lt y x ≡ a → lt w y ≡ b → a ≡ true
+    go true b p q = refl
+    go false true p q = absurd (false≢true (sym (above-not-equal y w q) ∙ e))
+    go false false p q = absurd (false≢true (sym (lt-not-below w y x (equal-real y w e) q p) ∙ h))

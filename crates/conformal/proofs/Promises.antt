@@ -1,14 +1,13 @@
 -- What the gate promises: least and greatest pick one of two at each step, and `fired` is built bit by bit. The time bins are in `Bins`, Stall in `Stall`.
-use Prim.Native.Nat.{ℕ, zero, suc, _<_}
+use Prim.Native.Nat.{ℕ, _<_}
 use mathlib.Core.Path.{_≡_, refl, sym, _∙_}
 use mathlib.Core.Bool.{Bool, true, false, false≢true}
 use mathlib.Core.Logic.{_⊎_, ⊎-elim}
 use mathlib.Core.List.{List}
-use native.Mathlib.Omega.{arith}
 use lib.Ieee.{Float, inf, lt}
 use Rattle.checked.specs.Each.{at, some}
 use Rattle.checked.specs.Least.{lesser, greater}
-use Rattle.checked.proofs.Each.{and-left}
+use Rattle.checked.proofs.Each.{and-left, some-none}
 use Rattle.checked.proofs.Ordered.{Real}
 use Rattle.checked.proofs.Extremes.{lesser-left, lesser-right, greater-left, greater-right}
 use Rattle.bits.specs.Bits.{bit}
@@ -21,11 +20,6 @@ use Rattle.conformal.proofs.Stall.{without-stall, past-the-count}
 use Rattle.conformal.proofs.Picked.{join-number, none-beyond, attained, lesser-either, lesser-start, greater-either, greater-start, real-∞}
 
 -- ---- s
-
-some-none : (p : ℕ → Bool) (n : ℕ) → NoneOf p n → some p n ≡ false
-unfolding some
-some-none p zero h = refl
-some-none p (suc n) h = rw (some-none p n (λ j l. h j (omega arith)), h n (omega arith))
 
 module _ (z : List Float) (numbers : Numbers z) (term : ℕ) where
   least-is-least : (j : ℕ) → j < 12 → bit term j ≡ true → lt (at z j) (leastOf z term) ≡ false
