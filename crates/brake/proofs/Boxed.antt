@@ -21,19 +21,20 @@ use Rattle.envelope.specs.declared.ActionKind.{ActionKind}
 use Rattle.envelope.specs.declared.ActionKind.the-variants.{EePosition, EeDelta, JointPosition, JointVelocity, Other}
 use Rattle.envelope.specs.declared.FuseConfig.{FuseConfig}
 use Rattle.envelope.proofs.Accepted.{accepted, dim-most, low-wall-finite, high-wall-finite, walls-ordered}
+use Rattle.workspace.specs.declared.WallMasks.{WallMasks}
 use Rattle.workspace.specs.Rule.{setpoint}
 use Rattle.workspace.proofs.Inside.{setpoint-inside}
 use Rattle.brake.specs.declared.Sent.the-variants.{Done}
 use Rattle.brake.specs.Rule.{wallsAt}
-use Rattle.brake.specs.Answer.{rowLent, sentAt, brakeSent, brakeRefusal, brakeAnswer, brakeOutput, holdSent, holdRefusal, holdAnswer, holdOutput}
+use Rattle.brake.specs.Answer.{rowLent, sentAt, masksSent, brakeSent, brakeRefusal, brakeAnswer, brakeOutput, holdSent, holdRefusal, holdAnswer, holdOutput}
 use Rattle.brake.specs.Promises.{InBox, isPosition, BrakesInside, HoldsInside}
 use Rattle.brake.proofs.Sending.{Position, position-brakes, position-holds, sized}
 
-sent-zero : (k : ℕ) → sentAt k ≡ Done → k ≡ 0
-sent-zero zero e = refl
-sent-zero (suc k) e = let z : _≡_ {A = ℕ} 0 1 = cc in absurd (omega arith)
+pub sent-zero : (k : ℕ) (x m : WallMasks) → sentAt k x ≡ Done m → k ≡ 0
+sent-zero zero x m e = refl
+sent-zero (suc k) x m e = let z : _≡_ {A = ℕ} 0 1 = cc in absurd (omega arith)
 
-positions : (k : ActionKind) → isPosition k ≡ true → Position k
+pub positions : (k : ActionKind) → isPosition k ≡ true → Position k
 positions EePosition h = inl refl
 positions EeDelta h = absurd (false≢true h)
 positions JointPosition h = inr (inl refl)
@@ -61,8 +62,8 @@ module _ (c : FuseConfig) (tabs : Tables) (p l : List Float) (unfit : Bool) (pas
 module _ (c : FuseConfig) (tabs : Tables) (is : isPosition (c .kind) ≡ true) (p l : List Float) where
   pub brake-inside : (v : List Float) → BrakesInside c tabs p v l
   unfolding brakeAnswer brakeOutput brakeRefusal brakeSent
-  brake-inside v done j in-it =
-      let z = sent-zero (brakeRefusal binary64 c tabs p v (length l)) done in
+  brake-inside v m done j in-it =
+      let z = sent-zero (brakeRefusal binary64 c tabs p v (length l)) (masksSent binary64 c p) m done in
       let unfit = someNotFinite p || someNotFinite v in
       let passed = both-pass (configJudged binary64 c tabs ++ rowLent c unfit (length l)) ((computed when not (brakeSent binary64 c p v .sound)) ∷ []) z .0 in
       let real = neither (someNotFinite p) (someNotFinite v) (fit-position c tabs p l unfit passed) .0 in
@@ -71,8 +72,8 @@ module _ (c : FuseConfig) (tabs : Tables) (is : isPosition (c .kind) ≡ true) (
 
   pub hold-inside : HoldsInside c tabs p l
   unfolding holdAnswer holdOutput holdRefusal holdSent
-  hold-inside done j in-it =
-      let z = sent-zero (holdRefusal binary64 c tabs p (length l)) done in
+  hold-inside m done j in-it =
+      let z = sent-zero (holdRefusal binary64 c tabs p (length l)) (masksSent binary64 c p) m done in
       let passed = both-pass (configJudged binary64 c tabs ++ rowLent c (someNotFinite p) (length l)) ((computed when not (holdSent binary64 c p .sound)) ∷ []) z .0 in
       rw (z, position-holds (wallsAt binary64 c) p (c .dim) binary64 (c .kind) (positions (c .kind) is))
       (written-inside c tabs p l (someNotFinite p) passed (fit-position c tabs p l (someNotFinite p) passed) j in-it)

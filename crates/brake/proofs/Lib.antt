@@ -6,4 +6,5 @@ pub mod Told
 pub mod Sending
 pub mod Foreseen
 pub mod Boxed
+pub mod Walled
 pub mod Promises

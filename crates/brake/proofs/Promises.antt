@@ -31,6 +31,7 @@ use Rattle.brake.specs.declared.BrakeOut.the-variants.{Accepted, Refused
 use Rattle.brake.specs.Answer.{plan, lentJudged}
 use Rattle.brake.specs.Promises.{Call, answer, entries, OnlyThirteen, SecondOrder, N, task, slackAfter, finiteIn, stopFinite, AllFinite, FirstFailing, Wrote, Forecasts, RefusedAt, Demand3, braked, Begins, StaysInside, Promised}
 use Rattle.brake.proofs.Boxed.{brake-inside, hold-inside}
+use Rattle.brake.proofs.Walled.{brake-walls, hold-walls}
 use Rattle.brake.proofs.ByKind.{count-is}
 use Rattle.brake.proofs.Judged.{never, planned, refused}
 use Rattle.brake.proofs.Foreseen.{slacks-are, accepted-answer, refused-answer, refused-at-the-end, second-order-plan, count-is-N}
@@ -286,4 +287,6 @@ promised = record {
   feasible-is-inside = λ x g is n margin stop. feasible-stays-inside x g is;
   brakes-inside = λ c t is p v l. brake-inside c t is p l v;
   holds-inside = hold-inside;
+  brake-walls = λ c t p v l m. brake-walls c t p l m v;
+  hold-walls = hold-walls;
 }

@@ -2,7 +2,7 @@
 use Prim.Native.Nat.{ℕ, min, _≤_}
 use mathlib.Core.Path.{_≡_, refl, sym, ap, _∙_}
 use mathlib.Core.Bool.{Bool, true, false, not, _||_, false≢true}
-use mathlib.Core.Logic.{inl, inr}
+use mathlib.Core.Logic.{_⊎_, inl, inr}
 use mathlib.Core.List.{List, [], _∷_, _++_}
 use native.Mathlib.Omega.{arith}
 use types.Run.{OneOf}
@@ -28,46 +28,44 @@ use Rattle.envelope.specs.declared.ActionKind.the-variants.{EePosition, EeDelta
 use Rattle.envelope.specs.declared.FuseConfig.{FuseConfig}
 use Rattle.envelope.proofs.ActionKind as kind
 use Rattle.envelope.proofs.Accepted.{accepted, dim-most}
-use Rattle.workspace.specs.Rule.{Walls, setpoint}
+use Rattle.workspace.specs.declared.WallMasks.{WallMasks}
+use Rattle.workspace.specs.Rule.{Walls, setpoint, setpointMasks, unmoved}
 use Rattle.workspace.specs.Of.{wallsOf}
 use Rattle.workspace.specs.declared.Workspace.{Workspace}
 use Rattle.workspace.proofs.Inside.{setpoint-sound}
+use Rattle.brake.specs.declared.Sent.{Sent}
 use Rattle.brake.specs.declared.Sent.the-variants as sent
 use Rattle.checked.specs.declared.Row.{Row}
-use Rattle.brake.specs.Rule.{wallsAt, brakeRow, holdRow}
+use Rattle.brake.specs.Rule.{live, wallsAt, brakeRow, holdRow, sentMasks}
 use Rattle.brake.specs.Of.{workspaceFor}
 use Rattle.checked.specs.Of.{rowFrom}
-use Rattle.brake.specs.Answer.{rowLent, brakeSent, brakeRefusal, holdSent, holdRefusal}
+use Rattle.brake.specs.Answer.{rowLent, masksSent, brakeSent, brakeRefusal, holdSent, holdRefusal}
 
 -- ---- position kinds
 
 abbrev pub Position : ActionKind → Type 0
 Position k = OneOf (0 ∷ 2 ∷ 4 ∷ []) (tagOf kind.the-type k)
 
+-- what holds of each of the three holds of any
+by-position : (P : ActionKind → Type 0) → P EePosition → P JointPosition → P Other → (k : ActionKind) → Position k → P k
+by-position P a b c EePosition h = a
+by-position P a b c JointPosition h = b
+by-position P a b c Other h = c
+by-position P a b c EeDelta (inl e) = absurd (let z : ⊥ = omega arith in z)
+by-position P a b c EeDelta (inr (inl e)) = absurd (let z : ⊥ = omega arith in z)
+by-position P a b c EeDelta (inr (inr e)) = absurd (let z : ⊥ = omega arith in z)
+by-position P a b c JointVelocity (inl e) = absurd (let z : ⊥ = omega arith in z)
+by-position P a b c JointVelocity (inr (inl e)) = absurd (let z : ⊥ = omega arith in z)
+by-position P a b c JointVelocity (inr (inr e)) = absurd (let z : ⊥ = omega arith in z)
+
 module _ (w : Walls) (p : List Float) (n : ℕ) where
   pub position-brakes : (f : Format) (a dt : Float) (v : List Float) (k : ActionKind) → Position k → brakeRow f k a dt w p v n ≡ setpoint f w p n
   unfolding brakeRow
-  position-brakes f a dt v EePosition h = refl
-  position-brakes f a dt v JointPosition h = refl
-  position-brakes f a dt v Other h = refl
-  position-brakes f a dt v EeDelta (inl e) = absurd (let z : ⊥ = omega arith in z)
-  position-brakes f a dt v EeDelta (inr (inl e)) = absurd (let z : ⊥ = omega arith in z)
-  position-brakes f a dt v EeDelta (inr (inr e)) = absurd (let z : ⊥ = omega arith in z)
-  position-brakes f a dt v JointVelocity (inl e) = absurd (let z : ⊥ = omega arith in z)
-  position-brakes f a dt v JointVelocity (inr (inl e)) = absurd (let z : ⊥ = omega arith in z)
-  position-brakes f a dt v JointVelocity (inr (inr e)) = absurd (let z : ⊥ = omega arith in z)
+  position-brakes f a dt v = by-position (λ (k : ActionKind). brakeRow f k a dt w p v n ≡ setpoint f w p n) refl refl refl
 
   pub position-holds : (f : Format) (k : ActionKind) → Position k → holdRow f k w p n ≡ setpoint f w p n
   unfolding holdRow
-  position-holds f EePosition h = refl
-  position-holds f JointPosition h = refl
-  position-holds f Other h = refl
-  position-holds f EeDelta (inl e) = absurd (let z : ⊥ = omega arith in z)
-  position-holds f EeDelta (inr (inl e)) = absurd (let z : ⊥ = omega arith in z)
-  position-holds f EeDelta (inr (inr e)) = absurd (let z : ⊥ = omega arith in z)
-  position-holds f JointVelocity (inl e) = absurd (let z : ⊥ = omega arith in z)
-  position-holds f JointVelocity (inr (inl e)) = absurd (let z : ⊥ = omega arith in z)
-  position-holds f JointVelocity (inr (inr e)) = absurd (let z : ⊥ = omega arith in z)
+  position-holds f = by-position (λ (k : ActionKind). holdRow f k w p n ≡ setpoint f w p n) refl refl refl
 
 -- ---- the whole answer
 
@@ -87,7 +85,7 @@ module _ (f : Format) (c : FuseConfig) (tabs : Tables) (unfit : Bool) (room : �
 all-sent : (f : Format) (c : FuseConfig) (tabs : Tables) (unfit : Bool) (row l : List Float) → refusal (before f c tabs unfit (length l)) ≡ 0 → length row ≡ 8 → {m : List Float} → m ≡ over (at row) l (min (c .dim) (min (length row) (length l))) → m ≡ over (at row) l (c .dim)
 all-sent f c tabs unfit row l z long = let w = sized f c tabs unfit (length l) z in all-put l row (omega (arith, w .0)) (w .1)
 
-module _ (f : Format) (c : FuseConfig) (tabs : Tables) (l : List Float) {bad unfit : Bool} (ef : bad ≡ unfit) (x : Checked (List Float)) {k : ℕ}
+module _ (f : Format) (c : FuseConfig) (tabs : Tables) (l : List Float) {bad unfit : Bool} (ef : bad ≡ unfit) (x : Checked (List Float)) (done : Sent) {k : ℕ}
     (ek : k ≡ refusal (configJudged f c tabs ++ (rowLent c unfit (length l) ++ ((computed when not (x .sound)) ∷ [])))) where
   abbrev judged : List Judged
   judged = before f c tabs unfit (length l)
@@ -98,8 +96,8 @@ module _ (f : Format) (c : FuseConfig) (tabs : Tables) (l : List Float) {bad unf
   same-judged : refusal (before f c tabs bad (length l)) ≡ refusal judged
   same-judged = ap (λ (b : Bool). refusal (before f c tabs b (length l))) ef
 
-  pub row-refused : {j : ℕ} → j ≡ refusal (before f c tabs bad (length l)) → (j ≡ 0 → ⊥) → {r : Refusal} → r ≡ refusedFor j → Answered sent.Refused sent.Done l written k (sent.Refused r) l
-  row-refused g = by-lent sent.Refused sent.Done l written judged (x .sound) ek (g ∙ same-judged)
+  pub row-refused : {j : ℕ} → j ≡ refusal (before f c tabs bad (length l)) → (j ≡ 0 → ⊥) → {r : Refusal} → r ≡ refusedFor j → Answered sent.Refused done l written k (sent.Refused r) l
+  row-refused g = by-lent sent.Refused done l written judged (x .sound) ek (g ∙ same-judged)
 
   module _ (z : refusal (before f c tabs bad (length l)) ≡ 0) {row : Row} (er : row ≡ rowFrom x) where
     passed : refusal judged ≡ 0
@@ -108,16 +106,33 @@ module _ (f : Format) (c : FuseConfig) (tabs : Tables) (l : List Float) {bad unf
     sound-is : row .sound ≡ x .sound
     sound-is = ap (λ (y : Row). y .sound) er
 
-    pub row-unsound : row .sound ≡ false → {r : Refusal} → r ≡ refusedFor 13 → Answered sent.Refused sent.Done l written k (sent.Refused r) l
-    row-unsound = by-computed sent.Refused sent.Done l written judged (x .sound) ek passed sound-is
+    pub row-unsound : row .sound ≡ false → {r : Refusal} → r ≡ refusedFor 13 → Answered sent.Refused done l written k (sent.Refused r) l
+    row-unsound = by-computed sent.Refused done l written judged (x .sound) ek passed sound-is
 
-    pub row-done : row .sound ≡ true → length (row .at) ≡ 8 → {m : List Float} → m ≡ over (at (row .at)) l (min (c .dim) (min (length (row .at)) (length l))) → Answered sent.Refused sent.Done l written k sent.Done m
-    row-done y long i = entry.accepted sent.Refused sent.Done l written judged (x .sound) ek passed sound-is y refl (all-sent f c tabs bad (row .at) l z long i ∙ rw er)
+    pub row-done : row .sound ≡ true → length (row .at) ≡ 8 → {m : List Float} → m ≡ over (at (row .at)) l (min (c .dim) (min (length (row .at)) (length l))) → {r : Sent} → r ≡ done → Answered sent.Refused done l written k r m
+    row-done y long i e = entry.accepted sent.Refused done l written judged (x .sound) ek passed sound-is y e (all-sent f c tabs bad (row .at) l z long i ∙ rw er)
 
 -- where a number is given its reason applies
 first-applies : (applies : Reason → Bool) {l : List Reason} {k : Reason} → First applies l k → applies k ≡ true
 first-applies applies (here e) = e
 first-applies applies (later e h) = first-applies applies h
+
+-- ---- the walls that move the row, by its kind
+
+module _ (w : Walls) (p : List Float) (n : ℕ) {m : WallMasks} where
+  pub velocity-unmoved : (k : ActionKind) → (k ≡ JointVelocity) ⊎ (k ≡ EeDelta) → m ≡ unmoved → m ≡ sentMasks k w p n
+  unfolding sentMasks
+  velocity-unmoved k (inl e) h = rw e h
+  velocity-unmoved k (inr e) h = rw e h
+
+  pub position-masks : (k : ActionKind) → Position k → m ≡ setpointMasks w p n → m ≡ sentMasks k w p n
+  unfolding sentMasks
+  position-masks = by-position (λ (k : ActionKind). m ≡ setpointMasks w p n → m ≡ sentMasks k w p n) (λ e. e) (λ e. e) (λ e. e)
+
+-- the masks that are sent are those at the derived walls
+pub masks-are-sent : (f : Format) (c : FuseConfig) (p : List Float) {w : Workspace} {m : WallMasks} → w ≡ workspaceFor f c → m ≡ sentMasks (c .kind) (wallsOf w) p (live c) → sent.Done m ≡ sent.Done (masksSent f c p)
+unfolding masksSent
+masks-are-sent f c p ew em = rw (em, ew)
 
 -- ---- brake and hold, each by its row
 

@@ -15,12 +15,13 @@ use Rattle.chunk.specs.declared.Header.{Header}
 use Rattle.conformal.specs.Rule.{Tables}
 use Rattle.envelope.specs.Refusals.{configJudged}
 use Rattle.envelope.specs.declared.FuseConfig.{FuseConfig}
+use Rattle.workspace.specs.declared.WallMasks.{WallMasks}
 use Rattle.course.specs.Forecast.{Forecast, placeOf, marginOf, feasibleOf, writtenOf}
 use Rattle.brake.specs.declared.BrakeOut.{BrakeOut}
 use Rattle.brake.specs.declared.BrakeOut.the-variants as out
 use Rattle.brake.specs.declared.Sent.{Sent}
 use Rattle.brake.specs.declared.Sent.the-variants as sent
-use Rattle.brake.specs.Rule.{wallsAt, forecastOf, brakeRow, holdRow}
+use Rattle.brake.specs.Rule.{live, wallsAt, forecastOf, brakeRow, holdRow, sentMasks}
 
 -- ---- the forecast
 
@@ -68,8 +69,9 @@ module _ (f : Format) (c : FuseConfig) (t : Tables) (p v rows : List Float) (k :
 
 -- ---- brake and hold
 
-abbrev pub sentAt : ℕ → Sent
-sentAt n = answerBy sent.Refused sent.Done n
+-- the walls that moved the row, where the refusal is 0
+abbrev pub sentAt : ℕ → WallMasks → Sent
+sentAt n m = answerBy sent.Refused (sent.Done m) n
 
 -- the first k numbers of a row over the output, where the refusal is 0; the rest stays
 abbrev pub rowAt : ℕ → List Float → ℕ → List Float → List Float
@@ -79,6 +81,10 @@ rowAt n row k l = leftBy l (over (at row) l k) n
 abbrev pub rowLent : FuseConfig → Bool → ℕ → List Judged
 rowLent c unfit room = (short when ltb room (c .dim)) ∷ (notFinite when unfit) ∷ []
 
+-- the walls that move the row of brake or hold; an axis past pos_dim is moved to its wall, too, and has no bit
+unfoldable pub masksSent : Format → FuseConfig → List Float → WallMasks
+masksSent f c p = sentMasks (c .kind) (wallsAt f c) p (live c)
+
 unfoldable pub brakeSent : Format → FuseConfig → List Float → List Float → Checked (List Float)
 brakeSent f c p v = brakeRow f (c .kind) (c .limits .«a_max») (c .limits .dt) (wallsAt f c) p v (c .dim)
 
@@ -87,7 +93,7 @@ module _ (f : Format) (c : FuseConfig) (t : Tables) (p v : List Float) where
   brakeRefusal room = refusal (configJudged f c t ++ (rowLent c (someNotFinite p || someNotFinite v) room ++ (computed when not (brakeSent f c p v .sound) ∷ [])))
 
   unfoldable pub brakeAnswer : ℕ → Sent
-  brakeAnswer room = sentAt (brakeRefusal room)
+  brakeAnswer room = sentAt (brakeRefusal room) (masksSent f c p)
 
   unfoldable pub brakeOutput : List Float → List Float
   brakeOutput l = rowAt (brakeRefusal (length l)) (brakeSent f c p v .value) (c .dim) l
@@ -100,7 +106,7 @@ module _ (f : Format) (c : FuseConfig) (t : Tables) (p : List Float) where
   holdRefusal room = refusal (configJudged f c t ++ (rowLent c (someNotFinite p) room ++ (computed when not (holdSent f c p .sound) ∷ [])))
 
   unfoldable pub holdAnswer : ℕ → Sent
-  holdAnswer room = sentAt (holdRefusal room)
+  holdAnswer room = sentAt (holdRefusal room) (masksSent f c p)
 
   unfoldable pub holdOutput : List Float → List Float
   holdOutput l = rowAt (holdRefusal (length l)) (holdSent f c p .value) (c .dim) l

@@ -1,5 +1,5 @@
--- What is promised of one call of `brake_feasible` with the second-order brake, said of its own answer and of the entries that were lent to it; and that the rows of brake and
--- hold lie in the box. The proofs are `proofs/Promises.antt` and `proofs/Boxed.antt`.
+-- What is promised of one call of `brake_feasible` with the second-order brake, said of its own answer and of the entries that were lent to it; that the rows of brake and
+-- hold lie in the box, and what their masks say. The proofs are `proofs/Promises.antt`, `proofs/Boxed.antt` and `proofs/Walled.antt`.
 use Prim.Native.Nat.{ℕ, suc, _+_, _-_, _*_, _≤_, _<_}
 use mathlib.Core.Path.{_≡_}
 use mathlib.Core.Bool.{Bool, true, false}
@@ -9,6 +9,8 @@ use lib.Ieee.{Float, binary64, inf, lt, le}
 use Rattle.refusal.specs.declared.Refusal.{Refusal}
 use Rattle.checked.specs.Each.{at}
 use Rattle.checked.specs.Finite.{+0}
+use Rattle.checked.specs.Row.{eight}
+use Rattle.bits.specs.Bits.{bit}
 use Rattle.chunk.specs.declared.Header.{Header}
 use Rattle.conformal.specs.Rule.{Tables}
 use Rattle.envelope.specs.declared.ActionKind.{ActionKind}
@@ -17,7 +19,9 @@ use Rattle.envelope.specs.declared.BrakeKind.the-variants.{PdSecondOrder}
 use Rattle.envelope.specs.declared.ControlSteps.{ControlSteps}
 use Rattle.envelope.specs.Promises.{brakedBy}
 use Rattle.envelope.specs.declared.FuseConfig.{FuseConfig}
-use Rattle.workspace.specs.Rule.{slack}
+use Rattle.workspace.specs.declared.WallMasks.{WallMasks}
+use Rattle.workspace.specs.Rule.{slack, unmoved}
+use Rattle.workspace.specs.Promises.{AxisTold, NoBitPast}
 use Rattle.rollout.specs.Plant.{Gains}
 use Rattle.course.specs.Plant.{State}
 use Rattle.rollout.specs.Rule.{Task, after, entry, stop}
@@ -168,10 +172,28 @@ isPosition Other = true
 
 -- each coordinate that brake writes, or hold, lies in its box
 abbrev pub BrakesInside : FuseConfig → Tables → List Float → List Float → List Float → Type 0
-BrakesInside c t p v l = brakeAnswer binary64 c t p v (length l) ≡ Done → (j : ℕ) → j < c .dim → InBox c j (at (brakeOutput binary64 c t p v l) j)
+BrakesInside c t p v l = (m : WallMasks) → brakeAnswer binary64 c t p v (length l) ≡ Done m → (j : ℕ) → j < c .dim → InBox c j (at (brakeOutput binary64 c t p v l) j)
 
 abbrev pub HoldsInside : FuseConfig → Tables → List Float → List Float → Type 0
-HoldsInside c t p l = holdAnswer binary64 c t p (length l) ≡ Done → (j : ℕ) → j < c .dim → InBox c j (at (holdOutput binary64 c t p l) j)
+HoldsInside c t p l = (m : WallMasks) → holdAnswer binary64 c t p (length l) ≡ Done m → (j : ℕ) → j < c .dim → InBox c j (at (holdOutput binary64 c t p l) j)
+
+-- ---- which walls moved the row of brake or hold
+
+-- what the masks of an accepted call say, m, beside the numbers that it leaves, out
+pub record SentWalls (c : FuseConfig) (p : List Float) (m : WallMasks) (out : List Float) : Type 0 where
+  -- no wall moves a velocity
+  pub velocity-none : isPosition (c .kind) ≡ false → m ≡ unmoved
+  -- of a position kind: what its walls do to the position, on each of the first min(dim, pos_dim) axes
+  pub each-axis : isPosition (c .kind) ≡ true → (j : ℕ) → j < live c → AxisTold (wallsAt binary64 c) (eight p 8) j m
+  -- nothing past those axes, though the row is moved there, too
+  pub none-past : NoBitPast m (live c)
+  -- a coordinate that the position lacks counts as 0.0
+  pub where-it-has : (j : ℕ) → j < length p → j < 8 → at (eight p 8) j ≡ at p j
+  pub where-it-lacks : (j : ℕ) → length p ≤ j → j < 8 → at (eight p 8) j ≡ +0
+  -- the row stands on the wall whose bit is set, else where the position stood
+  pub at-low-wall : isPosition (c .kind) ≡ true → (j : ℕ) → j < live c → bit (m .low) j ≡ true → at out j ≡ at (wallsAt binary64 c .lo) j
+  pub at-high-wall : isPosition (c .kind) ≡ true → (j : ℕ) → j < live c → bit (m .high) j ≡ true → at out j ≡ at (wallsAt binary64 c .hi) j
+  pub at-neither : isPosition (c .kind) ≡ true → (j : ℕ) → j < live c → bit (m .low) j ≡ false → bit (m .high) j ≡ false → at out j ≡ at (eight p 8) j
 
 -- ---- a feasible forecast is inside as numbers, and not only by rounded differences
 
@@ -203,3 +225,5 @@ pub record Promised : Type 0 where
   pub feasible-is-inside : (x : Call) (g : Gains) → SecondOrder x g → (n : ℕ) (margin stop : Float) → answer x ≡ Accepted n margin true stop → StaysInside x g
   pub brakes-inside : (c : FuseConfig) (t : Tables) → isPosition (c .kind) ≡ true → (p v l : List Float) → BrakesInside c t p v l
   pub holds-inside : (c : FuseConfig) (t : Tables) → isPosition (c .kind) ≡ true → (p l : List Float) → HoldsInside c t p l
+  pub brake-walls : (c : FuseConfig) (t : Tables) (p v l : List Float) (m : WallMasks) → brakeAnswer binary64 c t p v (length l) ≡ Done m → SentWalls c p m (brakeOutput binary64 c t p v l)
+  pub hold-walls : (c : FuseConfig) (t : Tables) (p l : List Float) (m : WallMasks) → holdAnswer binary64 c t p (length l) ≡ Done m → SentWalls c p m (holdOutput binary64 c t p l)

@@ -19,7 +19,8 @@ use Rattle.envelope.specs.declared.ActionKind.the-variants.{EePosition, EeDelta
 use Rattle.envelope.specs.declared.BrakeKind.{BrakeKind}
 use Rattle.envelope.specs.declared.BrakeKind.the-variants.{PdSecondOrder, FirstOrderDecay, BoundedAccel, JerkLimited, ZeroVelocityHold}
 use Rattle.envelope.specs.declared.FuseConfig.{FuseConfig}
-use Rattle.workspace.specs.Rule.{Walls, setpoint}
+use Rattle.workspace.specs.declared.WallMasks.{WallMasks}
+use Rattle.workspace.specs.Rule.{Walls, setpoint, setpointMasks, unmoved}
 use Rattle.rollout.specs.Plant.{Gains}
 use Rattle.course.specs.Plant.{State}
 use Rattle.course.specs.Forecast.{Forecast}
@@ -133,3 +134,11 @@ holdRow f EeDelta w p n = pure (replicate 8 +0)
 holdRow f EePosition w p n = setpoint f w p n
 holdRow f JointPosition w p n = setpoint f w p n
 holdRow f Other w p n = setpoint f w p n
+
+-- the walls that move either row on its first n coordinates; none moves a velocity
+unfoldable pub sentMasks : ActionKind → Walls → List Float → ℕ → WallMasks
+sentMasks JointVelocity w p n = unmoved
+sentMasks EeDelta w p n = unmoved
+sentMasks EePosition w p n = setpointMasks w p n
+sentMasks JointPosition w p n = setpointMasks w p n
+sentMasks Other w p n = setpointMasks w p n

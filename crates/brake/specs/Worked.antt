@@ -1,4 +1,5 @@
--- Worked rows, by computation: a position beyond its wall is sent to the wall, one that is missing to 0.0, and an arm that brakes harder than it moves stops.
+-- Worked rows, by computation: a position beyond its wall is sent to the wall, one that is missing to 0.0, and an arm that brakes harder than it moves stops; and
+-- the walls that moved a row.
 use mathlib.Core.Path.{_≡_, refl}
 use mathlib.Core.Bool.{true, false}
 use mathlib.Core.List.{[], _∷_}
@@ -10,13 +11,14 @@ use Rattle.checked.specs.Constants.{1!, 2! }
 use Rattle.checked.specs.Each.{over}
 use Rattle.checked.specs.Finite.{finite, +0}
 use Rattle.checked.specs.Least.{greater}
-use Rattle.fmath.specs.Clamp.{clamped}
+use Rattle.fmath.specs.Clamp.{clamped, side}
 use Rattle.checked.specs.Checked.{sumFrom, each, pure}
 use Rattle.fmath.specs.Norm.{squareAt, norm}
 use Rattle.envelope.specs.declared.ActionKind.the-variants.{EePosition, EeDelta, JointVelocity}
-use Rattle.workspace.specs.Rule.{Walls, inward, setpoint}
+use Rattle.bits.specs.Bits.{bitsWhere}
+use Rattle.workspace.specs.Rule.{Walls, inward, wallMasks, unmoved, setpoint, setpointMasks}
 use Rattle.checked.specs.Row.{padded, eight}
-use Rattle.brake.specs.Rule.{ramp, scaledAt, slowed, slower, shorter, brakeRow, holdRow}
+use Rattle.brake.specs.Rule.{ramp, scaledAt, slowed, slower, shorter, brakeRow, holdRow, sentMasks}
 
 abbrev walls : Walls
 walls = record { lo = fin true 1 (pos 0) ∷ fin true 1 (pos 0) ∷ []; hi = 2! ∷ 2! ∷ [] }
@@ -36,3 +38,20 @@ stops = refl
 stops-in-place : brakeRow binary64 EeDelta 2! 1! walls [] (1! ∷ []) 2 ≡ pure (replicate 8 +0)
 unfolding brakeRow shorter ramp slowed scaledAt each norm squareAt sumFrom rootOf nearRoot floorRoot scaled rootExponent half number greater round lt le eq add sub mul div finite
 stops-in-place = refl
+
+-- axis 1 has its low wall at 1, so that the 0.0 of a position with one coordinate is raised; 5 is lowered on axis 0
+abbrev above : Walls
+above = record { lo = fin true 1 (pos 0) ∷ 1! ∷ []; hi = 2! ∷ 2! ∷ [] }
+
+walls-of-a-short-position : sentMasks EePosition above (fin false 5 (pos 0) ∷ []) 2 ≡ record { low = 2; high = 1 }
+unfolding sentMasks setpointMasks wallMasks bitsWhere eight padded over side lt
+walls-of-a-short-position = refl
+
+-- where min(dim, pos_dim) is 1, the masks have the first axis alone
+walls-cut : sentMasks EePosition above (fin false 5 (pos 0) ∷ []) 1 ≡ record { low = 0; high = 1 }
+unfolding sentMasks setpointMasks wallMasks bitsWhere eight padded over side lt
+walls-cut = refl
+
+no-wall-for-a-velocity : sentMasks JointVelocity above (fin false 5 (pos 0) ∷ []) 2 ≡ unmoved
+unfolding sentMasks
+no-wall-for-a-velocity = refl

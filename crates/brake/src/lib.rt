@@ -19,7 +19,7 @@ ghost use Rattle.course.specs.Of.{leftOf, runOf};
 ghost use Rattle.rollout.specs.Of as rolled;
 ghost use Rattle.stopping.specs.Rule as stopping-rule;
 ghost use Rattle.stopping.specs.Of as stopped;
-ghost use Rattle.brake.specs.Rule.{armOf, forecastOf, ramp, scaledAt, slowed, slower, shorter, brakeRow, holdRow};
+ghost use Rattle.brake.specs.Rule.{live, armOf, forecastOf, ramp, scaledAt, slowed, slower, shorter, brakeRow, holdRow, sentMasks};
 ghost use Rattle.brake.specs.Answer.{tooShort, outcome, lentJudged, forecastAnswer, forecastSlacks, rowLent, brakeAnswer, brakeOutput, holdAnswer, holdOutput};
 ghost use Rattle.brake.specs.Of.{workspaceFrom, workspaceFor, courseFor, startFor, countFor, Planned};
 ghost use Rattle.checked.specs.Of.{rowFrom, reckonedFrom};
@@ -37,6 +37,7 @@ use envelope::FuseConfig;
 use refusal::Refusal;
 use rollout::Law;
 use stopping::Arm;
+use workspace::WallMasks;
 use workspace::Workspace;
 
 // A forecast: its slack entries, the least of them, whether none is negative, and how far the arm comes; or why there is none.
@@ -50,9 +51,9 @@ pub enum BrakeOut {
     Refused(Refusal),
 }
 
-// What became of a lent row: it is written, or why it is not.
+// What became of a lent row: it is written, with the walls that moved it, or why it is not.
 pub enum Sent {
-    Done,
+    Done(WallMasks),
     Refused(Refusal),
 }
 
@@ -385,6 +386,19 @@ fn hold_row(kind: ActionKind, w: Workspace, pos: &[f64], n: usize) -> Row
     }
 }
 
+// The walls that move either row, by the kind of action, on the first min(dim, pos_dim) axes.
+fn sent_masks(c: FuseConfig, w: Workspace, pos: &[f64]) -> WallMasks
+    ensures { λ r. ⌜ r ≡ sentMasks (c .kind) (wallsOf w) (now (pos .entry)) (live c) ⌝ }
+{
+    let kind = c.kind;
+    let axes = fmath::fewer(c.dim, c.pos_dim);
+    match kind {
+        ActionKind::JointVelocity => workspace::unmoved(),
+        ActionKind::EeDelta => workspace::unmoved(),
+        _ => workspace::setpoint_masks(w, pos, axes),
+    }
+}
+
 // The number for a row before it is computed: the configuration's own, then 11, then 12; 0 where there is none.
 fn row_refusal(c: FuseConfig, number: u8, unfit: bool, room: usize) -> u8
     ensures { λ r. ⌜ ((t : Tables) → number ≡ refusal (configJudged binary64 c t) → r ≡ refusal (configJudged binary64 c t ++ rowLent c unfit room)) ⌝ }
@@ -394,7 +408,8 @@ fn row_refusal(c: FuseConfig, number: u8, unfit: bool, room: usize) -> u8
     Refusal::or_later(number, lent)
 }
 
-// The row that brakes, written over the output's first dim numbers. A refusal, by the first number of the order that applies, writes nothing.
+// The row that brakes, written over the output's first dim numbers, and which walls moved it, on the first min(dim, pos_dim) axes. A refusal, by
+// the first number of the order that applies, writes nothing.
 pub fn brake_action(
     c: FuseConfig,
     center: &[f64; 192],
@@ -419,7 +434,7 @@ pub fn brake_action(
     }
     let at = row.at;
     fmath::put(&at, c.dim, out);
-    Sent::Done
+    Sent::Done(sent_masks(c, w, pos))
 }
 
 // The row that holds a latched position, likewise.
@@ -446,5 +461,5 @@ pub fn hold_action(
     }
     let row = held.at;
     fmath::put(&row, c.dim, out);
-    Sent::Done
+    Sent::Done(sent_masks(c, w, pos))
 }

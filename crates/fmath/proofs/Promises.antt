@@ -1,4 +1,4 @@
--- What `sqrt` promises: 13 exactly below zero, at an infinity and at a NaN, and else a root. By cases on the number: the root of one above zero is
+-- What `sqrt` and `clamp` promise. Of the root: 13 exactly below zero, at an infinity and at a NaN, and else a root. By cases on the number: the root of one above zero is
 -- written with its digits and an exponent, so it is finite, and neither of the two zeros is below zero.
 use Prim.Native.Nat.{ℕ, zero, suc, _+_, _*_, _<_}
 use mathlib.Core.Path.{_≡_, refl, sym, ap, _∙_}
@@ -18,6 +18,7 @@ use Rattle.fmath.specs.declared.Number.the-variants.{Value, Refused}
 use Rattle.checked.specs.Finite.{finite, +0}
 use Rattle.fmath.specs.Answer.{noRoot, numberOr, sqrtAnswer}
 use Rattle.fmath.specs.Promises.{Promised}
+use Rattle.fmath.proofs.Clamping.{side-exactly, value-by-side, side-of-nan, zero-untouched}
 
 odd-fine : (d : ℕ) (s : Bool) (q k l : ℕ) → finite (odd d s q k l) ≡ true
 unfolding finite odd
@@ -72,4 +73,8 @@ promised = record {
   sqrt-answer = sqrt-answer;
   sqrt-refused-where = λ f x e. sqrt-answer f x ∙ rw e;
   sqrt-refused-only = λ f x. only-then (noRoot x) (rootOf f x) (sqrtAnswer f x) (sqrt-answer f x);
+  side-exactly = side-exactly;
+  value-by-side = value-by-side;
+  side-of-nan = side-of-nan;
+  zero-untouched = zero-untouched;
 }

@@ -2,3 +2,4 @@ pub mod Clamp
 pub mod Norm
 pub mod Answer
 pub mod Promises
+pub mod Worked

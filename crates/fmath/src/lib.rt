@@ -10,13 +10,19 @@ ghost use Rattle.fmath.specs.Norm.{norm, dist};
 ghost use Rattle.fmath.specs.Answer.{someLentNotFinite, sqrtAnswer, normAnswer, distAnswer};
 ghost use Rattle.checked.specs.Finite.{finite, aboveZero, notBelowZero, allFinite, allAboveZero};
 ghost use Rattle.checked.specs.Least.{lesser, greater};
-ghost use Rattle.fmath.specs.Clamp.{clamped};
+ghost use Rattle.fmath.specs.Clamp.{sided};
 use refusal::Refusal;
 
 // A number, or why there is none.
 pub enum Number {
     Value(f64),
     Refused(Refusal),
+}
+
+// A number between two walls, and which of them moved it: -1 where lo raised it, 1 where hi lowered it, 0 where neither did.
+pub struct Sided {
+    pub value: f64,
+    pub side: i64,
 }
 
 // Neither a NaN nor an infinity.
@@ -129,14 +135,21 @@ pub fn max(a: f64, b: f64) -> f64
     if a > b { a } else { b }
 }
 
-// lo below lo, hi above hi, else x itself.
-pub fn clamp(x: f64, lo: f64, hi: f64) -> f64
-    ensures { λ r. ⌜ r ≡ clamped x lo hi ⌝ }
+// lo below lo, hi above hi, else x itself, with its side. A number that touches a wall is not moved.
+pub fn clamp(x: f64, lo: f64, hi: f64) -> Sided
+    ensures { λ r. ⌜ r ≡ sided x lo hi ⌝ }
 {
     if x < lo {
-        return lo;
+        return Sided {
+            value: lo,
+            side: -1,
+        };
     }
-    if x > hi { hi } else { x }
+    if x > hi {
+        Sided { value: hi, side: 1 }
+    } else {
+        Sided { value: x, side: 0 }
+    }
 }
 
 // The root, to nearest; 13 below zero, at an infinity and at a NaN.

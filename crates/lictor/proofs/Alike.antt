@@ -42,7 +42,7 @@ use Rattle.chunk.specs.Of.{fillOf}
 use Rattle.chunk.proofs.Judged.{accepted-fits, lent-accepted}
 use Rattle.layout.specs.Chunk.{headerFrom}
 use Rattle.lictor.specs.Asked.{bare, rowsOver}
-use Rattle.lictor.specs.Answer.{fitting, NumberGiven, FilledGiven, MaskGiven, RecordedGiven, CountGiven, EmptinessGiven, DerivedGiven, CheckPut, CheckGiven, FeaturedGiven, StateLaid, ClearedGiven, ForecastPut, ForecastGiven, sentNumber, SentGiven, ScoredGiven, VerdictGiven, BinGiven}
+use Rattle.lictor.specs.Answer.{fitting, NumberGiven, FilledGiven, MaskGiven, RecordedGiven, CountGiven, EmptinessGiven, DerivedGiven, CheckPut, CheckGiven, FeaturedGiven, StateLaid, ClearedGiven, ForecastPut, ForecastGiven, SentPut, SentGiven, ScoredGiven, VerdictGiven, BinGiven}
 
 pub number-alike : {a b : Number} {r : ℕ} {old new : Float} → a ≡ b → NumberGiven a r old new → NumberGiven b r old new
 number-alike e g = rw e at g
@@ -117,11 +117,11 @@ pub forecast-fits : {f g : Bool} {a b : BrakeOut} {l : List Float} {r : ℕ} {m�
 forecast-fits e y q g = let z = sym y ∙ e in record { number = rw (z, ← q .0) (g .number); marks = rw (z, ← q .0) (g .marks); distances = rw (z, ← q .0) (g .distances); place = rw (z, ← q .0) (g .place); slacks = rw z (q .1) }
 
 -- a row whose counts do not fit is not written, and one whose counts fit is
-pub sent-misfit : {f g : Bool} {a : Sent} {l o : List Float} → f ≡ false → f ≡ g → SentGiven g a l 255 o o
-sent-misfit e q = let z = sym q ∙ e in record { number = rw z; output = rw z }
+pub sent-misfit : {f g : Bool} {a : Sent} {l : List Float} {m : List ℕ} {o : List Float} → f ≡ false → f ≡ g → SentGiven g a l 255 m m o o
+sent-misfit e q = let z = sym q ∙ e in record { number = rw z; marks = rw z; output = rw z }
 
-pub sent-fits : {f g : Bool} {a b : Sent} {l : List Float} {r : ℕ} {o₀ o : List Float} → f ≡ true → f ≡ g → (a ≡ b) × (o ≡ l) → r ≡ sentNumber a → SentGiven g b l r o₀ o
-sent-fits e y q g = let z = sym y ∙ e in record { number = rw (z, ← q .0) g; output = rw z (q .1) }
+pub sent-fits : {f g : Bool} {a b : Sent} {l : List Float} {r : ℕ} {m₀ m : List ℕ} {o₀ o : List Float} → f ≡ true → f ≡ g → (a ≡ b) × (o ≡ l) → SentPut a r m₀ m → SentGiven g b l r m₀ m o₀ o
+sent-fits e y q g = let z = sym y ∙ e in record { number = rw (z, ← q .0) (g .number); marks = rw (z, ← q .0) (g .marks); output = rw z (q .1) }
 
 -- ---- an entry's answer on equal arguments
 

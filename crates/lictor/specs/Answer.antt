@@ -121,18 +121,18 @@ pub record DerivedGiven (n : ℕ) (d : Derived) (r : ℕ) (old new : List Float)
   pub number : r ≡ n
   pub numbers : new ≡ written n (derivedFlat d) old
 
--- ---- tier0 (R5): trips and clamped_dims in 2 counts, a speed, and the output
+-- ---- tier0 (R5): trips, clamped_dims and the masks of the low and the high walls in 4 counts, a speed, and the output
 
 unfoldable pub checkNumber : Tier0Out → ℕ
-checkNumber (T.Passed trips dims speed) = 0
+checkNumber (T.Passed trips dims speed walls) = 0
 checkNumber (T.Refused r) = r .number
 
 unfoldable pub checkMarks : Tier0Out → List ℕ → List ℕ
-checkMarks (T.Passed trips dims speed) old = trips ∷ dims ∷ []
+checkMarks (T.Passed trips dims speed walls) old = trips ∷ dims ∷ walls .low ∷ walls .high ∷ []
 checkMarks (T.Refused r) old = old
 
 unfoldable pub checkSpeed : Tier0Out → Float → Float
-checkSpeed (T.Passed trips dims speed) old = speed
+checkSpeed (T.Passed trips dims speed walls) old = speed
 checkSpeed (T.Refused r) old = old
 
 -- r is returned, and the places of the marks and of the speed hold m and x
@@ -210,13 +210,23 @@ pub record ForecastGiven (fits : Bool) (a : BrakeOut) (l : List Float) (r : ℕ)
   pub place : p ≡ (if fits then forecastPlace a p₀ else p₀)
   pub slacks : s ≡ (if fits then l else s₀)
 
--- a row that brakes or holds
+-- a row that brakes or holds, and the masks of the walls in 2 counts
 unfoldable pub sentNumber : Sent → ℕ
-sentNumber S.Done = 0
+sentNumber (S.Done walls) = 0
 sentNumber (S.Refused r) = r .number
 
-pub record SentGiven (fits : Bool) (a : Sent) (l : List Float) (r : ℕ) (o₀ o : List Float) : Type 0 where
+unfoldable pub sentMarks : Sent → List ℕ → List ℕ
+sentMarks (S.Done walls) old = walls .low ∷ walls .high ∷ []
+sentMarks (S.Refused r) old = old
+
+pub record SentPut (a : Sent) (r : ℕ) (m₀ m : List ℕ) : Type 0 where
+  pub number : r ≡ sentNumber a
+  pub marks : m ≡ sentMarks a m₀
+
+-- of a configuration whose counts may not fit; the entry leaves l in the output
+pub record SentGiven (fits : Bool) (a : Sent) (l : List Float) (r : ℕ) (m₀ m : List ℕ) (o₀ o : List Float) : Type 0 where
   pub number : r ≡ fitting fits (sentNumber a)
+  pub marks : m ≡ (if fits then sentMarks a m₀ else m₀)
   pub output : o ≡ (if fits then l else o₀)
 
 -- ---- conformal (R8): scores, a verdict, a time bin

@@ -4,7 +4,7 @@ ghost use mathlib.Core.Bool.{true};
 ghost use Rattle.bits.specs.Choice.{if_then_else_};
 ghost use Rattle.layout.specs.Chunk.{headerFrom};
 ghost use Rattle.lictor.specs.Asked.{rowsOver};
-ghost use Rattle.lictor.specs.Answer.{fitting, NumberGiven, MaskGiven, RecordedGiven, CountGiven, EmptinessGiven, DerivedGiven, CheckPut, ClearedGiven, ForecastPut, sentNumber, ScoredGiven, VerdictGiven, BinGiven};
+ghost use Rattle.lictor.specs.Answer.{fitting, NumberGiven, MaskGiven, RecordedGiven, CountGiven, EmptinessGiven, DerivedGiven, CheckPut, ClearedGiven, ForecastPut, SentPut, ScoredGiven, VerdictGiven, BinGiven};
 use brake::BrakeOut;
 use brake::Sent;
 use chunk::Header;
@@ -119,7 +119,7 @@ pub(crate) fn put_derived(number: u64, d: Derived, derived: &mut [f64; 29]) -> u
     number
 }
 
-pub(crate) fn put_check(a: Tier0Out, marks: &mut [u64; 2], speed: &mut f64) -> u64
+pub(crate) fn put_check(a: Tier0Out, marks: &mut [u64; 4], speed: &mut f64) -> u64
     ensures { λ r. ⌜ CheckPut a r (now (marks .entry)) (now (marks .exit)) (now (speed .entry)) (now (speed .exit)) ⌝ }
 {
     match a {
@@ -127,8 +127,14 @@ pub(crate) fn put_check(a: Tier0Out, marks: &mut [u64; 2], speed: &mut f64) -> u
             trips,
             clamped_dims,
             peak_speed,
+            walls,
         } => {
-            *marks = [trips as u64, clamped_dims as u64];
+            *marks = [
+                trips as u64,
+                clamped_dims as u64,
+                walls.low as u64,
+                walls.high as u64,
+            ];
             *speed = peak_speed;
             0
         }
@@ -188,12 +194,15 @@ pub(crate) fn put_forecast(
     }
 }
 
-// A row is written by its entry; C is given the number.
-pub(crate) fn sent(a: Sent) -> u64
-    ensures { λ r. ⌜ r ≡ sentNumber a ⌝ }
+// A row is written by its entry; C is given the number, and the walls that moved the row.
+pub(crate) fn put_sent(a: Sent, marks: &mut [u64; 2]) -> u64
+    ensures { λ r. ⌜ SentPut a r (now (marks .entry)) (now (marks .exit)) ⌝ }
 {
     match a {
-        Sent::Done => 0,
+        Sent::Done(walls) => {
+            *marks = [walls.low as u64, walls.high as u64];
+            0
+        }
         Sent::Refused(r) => r.number as u64,
     }
 }

@@ -53,8 +53,9 @@ pub extern "C" fn lictor_brake_action(
     pos: &[f64],
     vel: &[f64],
     out: &mut [f64],
+    walls: &mut [u64; 2],
 ) -> u64
-    ensures { λ r. ⌜ SentGiven (countsFit (now (counts .entry))) (brakeAnswer binary64 (configOf (now (numbers .entry)) (now (counts .entry))) (tables (now (center .entry)) (now (scale .entry))) (now (pos .entry)) (now (vel .entry)) (length (now (out .entry)))) (brakeOutput binary64 (configOf (now (numbers .entry)) (now (counts .entry))) (tables (now (center .entry)) (now (scale .entry))) (now (pos .entry)) (now (vel .entry)) (now (out .entry))) r (now (out .entry)) (now (out .exit)) ⌝ }
+    ensures { λ r. ⌜ SentGiven (countsFit (now (counts .entry))) (brakeAnswer binary64 (configOf (now (numbers .entry)) (now (counts .entry))) (tables (now (center .entry)) (now (scale .entry))) (now (pos .entry)) (now (vel .entry)) (length (now (out .entry)))) (brakeOutput binary64 (configOf (now (numbers .entry)) (now (counts .entry))) (tables (now (center .entry)) (now (scale .entry))) (now (pos .entry)) (now (vel .entry)) (now (out .entry))) r (now (walls .entry)) (now (walls .exit)) (now (out .entry)) (now (out .exit)) ⌝ }
 {
     let fits = layout::config::counts_fit(counts);
     if !fits {
@@ -62,7 +63,7 @@ pub extern "C" fn lictor_brake_action(
     }
     let c = layout::config::config_of(numbers, counts);
     let a = brake::brake_action(c, center, scale, pos, vel, out);
-    crate::answer::sent(a)
+    crate::answer::put_sent(a, walls)
 }
 
 #[no_mangle]
@@ -73,8 +74,9 @@ pub extern "C" fn lictor_hold_action(
     scale: &[f64; 192],
     pos: &[f64],
     out: &mut [f64],
+    walls: &mut [u64; 2],
 ) -> u64
-    ensures { λ r. ⌜ SentGiven (countsFit (now (counts .entry))) (holdAnswer binary64 (configOf (now (numbers .entry)) (now (counts .entry))) (tables (now (center .entry)) (now (scale .entry))) (now (pos .entry)) (length (now (out .entry)))) (holdOutput binary64 (configOf (now (numbers .entry)) (now (counts .entry))) (tables (now (center .entry)) (now (scale .entry))) (now (pos .entry)) (now (out .entry))) r (now (out .entry)) (now (out .exit)) ⌝ }
+    ensures { λ r. ⌜ SentGiven (countsFit (now (counts .entry))) (holdAnswer binary64 (configOf (now (numbers .entry)) (now (counts .entry))) (tables (now (center .entry)) (now (scale .entry))) (now (pos .entry)) (length (now (out .entry)))) (holdOutput binary64 (configOf (now (numbers .entry)) (now (counts .entry))) (tables (now (center .entry)) (now (scale .entry))) (now (pos .entry)) (now (out .entry))) r (now (walls .entry)) (now (walls .exit)) (now (out .entry)) (now (out .exit)) ⌝ }
 {
     let fits = layout::config::counts_fit(counts);
     if !fits {
@@ -82,5 +84,5 @@ pub extern "C" fn lictor_hold_action(
     }
     let arm = layout::config::config_of(numbers, counts);
     let held = brake::hold_action(arm, center, scale, pos, out);
-    crate::answer::sent(held)
+    crate::answer::put_sent(held, walls)
 }

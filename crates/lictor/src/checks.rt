@@ -21,7 +21,7 @@ pub extern "C" fn lictor_check_chunk(
     dim: u16,
     exec_steps: u16,
     out: &mut [f64],
-    marks: &mut [u64; 2],
+    marks: &mut [u64; 4],
     speed: &mut f64,
 ) -> u64
     ensures { λ r. ⌜ CheckGiven (countsFit (now (counts .entry))) (chunkAnswer binary64 (configOf (now (numbers .entry)) (now (counts .entry))) (tables (now (center .entry)) (now (scale .entry))) (now (pos .entry)) (now (aux .entry)) (now (rows .entry)) (sizesAsked horizon dim «exec_steps») (length (now (out .entry)))) (chunkOut binary64 (configOf (now (numbers .entry)) (now (counts .entry))) (tables (now (center .entry)) (now (scale .entry))) (now (pos .entry)) (now (aux .entry)) (now (rows .entry)) (sizesAsked horizon dim «exec_steps») (now (out .entry))) r (now (marks .entry)) (now (marks .exit)) (now (speed .entry)) (now (speed .exit)) (now (out .entry)) (now (out .exit)) ⌝ }
@@ -53,7 +53,7 @@ pub extern "C" fn lictor_check_action(
     prev: &[f64],
     action: &[f64],
     out: &mut [f64],
-    marks: &mut [u64; 2],
+    marks: &mut [u64; 4],
     speed: &mut f64,
 ) -> u64
     ensures { λ r. ⌜ CheckGiven (countsFit (now (counts .entry))) (actionAnswer binary64 (configOf (now (numbers .entry)) (now (counts .entry))) (tables (now (center .entry)) (now (scale .entry))) (now (pos .entry)) (now (aux .entry)) (now (prev .entry)) (now (action .entry)) (length (now (out .entry)))) (actionOut binary64 (configOf (now (numbers .entry)) (now (counts .entry))) (tables (now (center .entry)) (now (scale .entry))) (now (pos .entry)) (now (aux .entry)) (now (prev .entry)) (now (action .entry)) (now (out .entry))) r (now (marks .entry)) (now (marks .exit)) (now (speed .entry)) (now (speed .exit)) (now (out .entry)) (now (out .exit)) ⌝ }

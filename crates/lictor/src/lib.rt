@@ -6,7 +6,7 @@ ghost use lib.ListN.{length};
 ghost use lib.Ieee.{binary64};
 ghost use Rattle.refusal.specs.Order.{refusal};
 ghost use Rattle.checked.specs.Least.{lesser, greater};
-ghost use Rattle.fmath.specs.Clamp.{clamped};
+ghost use Rattle.fmath.specs.Clamp as clamping;
 ghost use Rattle.fmath.specs.Answer.{sqrtAnswer, normAnswer, distAnswer};
 ghost use Rattle.chunk.specs.Rule.{rowOf, rowSet, heldRows};
 ghost use Rattle.chunk.specs.Of.{fillOf};
@@ -65,9 +65,19 @@ pub extern "C" fn lictor_max(a: f64, b: f64) -> f64
 
 #[no_mangle]
 pub extern "C" fn lictor_clamp(x: f64, lo: f64, hi: f64) -> f64
-    ensures { λ r. ⌜ r ≡ clamped x lo hi ⌝ }
+    ensures { λ r. ⌜ r ≡ clamping.clamped x lo hi ⌝ }
 {
-    fmath::clamp(x, lo, hi)
+    fmath::clamp(x, lo, hi).value
+}
+
+#[no_mangle]
+pub extern "C" fn lictor_clamp_side(x: f64, lo: f64, hi: f64, side: &mut i64) -> f64
+    ensures { λ r. ⌜ (r ≡ clamping.clamped x lo hi) × (now (side .exit) ≡ clamping.side x lo hi) ⌝ }
+{
+    let c = fmath::clamp(x, lo, hi);
+    let moved = c.side;
+    *side = moved;
+    c.value
 }
 
 #[no_mangle]

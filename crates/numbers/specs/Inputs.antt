@@ -113,7 +113,7 @@ plane = record {
 
 -- trips, clamped_dims, the greatest speed
 abbrev pub checkTold : Tier0Out → List ℕ
-checkTold (check.Passed trips clamped peak) = 0 ∷ trips ∷ clamped ∷ bits peak ∷ []
+checkTold (check.Passed trips clamped peak walls) = 0 ∷ trips ∷ clamped ∷ bits peak ∷ []
 checkTold (check.Refused r) = refused r
 
 -- the answer for one row from (0,0), and then the projected row

@@ -29,7 +29,7 @@ use Rattle.tier0.proofs.NoContact.{no-contact-chunk-answer, no-contact-chunk-ro
 use Rattle.course.specs.Forecast.{placeOf}
 use Rattle.brake.specs.declared.BrakeOut.the-variants as forecast
 use Rattle.brake.specs.declared.Sent.the-variants as sent
-use Rattle.brake.specs.Answer.{answerAt as foreseen, plan, lentJudged, forecastRefusal, forecastAnswer, rowLent, sentAt, brakeSent, brakeRefusal, brakeAnswer, holdSent, holdRefusal, holdAnswer}
+use Rattle.brake.specs.Answer.{answerAt as foreseen, plan, lentJudged, forecastRefusal, forecastAnswer, rowLent, sentAt, masksSent, brakeSent, brakeRefusal, brakeAnswer, holdSent, holdRefusal, holdAnswer}
 use Rattle.brake.proofs.Promises.{feasible-exactly}
 use Rattle.promises.specs.Beliefs.{EmptyBoxSlowsNothing, OneChannelIs4, OneChannelIsRefused, TouchingTripsNothing, StartIsNotInspected}
 
@@ -83,11 +83,11 @@ module _ (c : FuseConfig) (tabs : Tables) (four : refusal (configJudged binary64
 
   brake-4 : (p v : List Float) (room : ℕ) → brakeAnswer binary64 c tabs p v room ≡ sent.Refused (refusedFor 4)
   unfolding brakeAnswer brakeRefusal
-  brake-4 p v room = ap sentAt (is-4 (rowLent c (someNotFinite p || someNotFinite v) room ++ ((computed when not (brakeSent binary64 c p v .sound)) ∷ [])))
+  brake-4 p v room = ap (λ (n : ℕ). sentAt n (masksSent binary64 c p)) (is-4 (rowLent c (someNotFinite p || someNotFinite v) room ++ ((computed when not (brakeSent binary64 c p v .sound)) ∷ [])))
 
   hold-4 : (p : List Float) (room : ℕ) → holdAnswer binary64 c tabs p room ≡ sent.Refused (refusedFor 4)
   unfolding holdAnswer holdRefusal
-  hold-4 p room = ap sentAt (is-4 (rowLent c (someNotFinite p) room ++ (computed when not (holdSent binary64 c p .sound) ∷ [])))
+  hold-4 p room = ap (λ (n : ℕ). sentAt n (masksSent binary64 c p)) (is-4 (rowLent c (someNotFinite p) room ++ (computed when not (holdSent binary64 c p .sound) ∷ [])))
 
   all-4 : OneChannelIs4 c tabs
   all-4 = record { configuration-is-4 = four; chunk-is-4 = chunk-4; action-is-4 = action-4; forecast-is-4 = forecast-4; brake-is-4 = brake-4; hold-is-4 = hold-4 }

@@ -41,6 +41,7 @@ use Rattle.tier1.specs.Refusals.{none, prevJudged, stateJudged}
 use Rattle.tier1.specs.Of as tier1
 use Rattle.course.specs.Forecast.{Forecast, placeOf}
 use Rattle.brake.specs.declared.BrakeOut.the-variants as out
+use Rattle.workspace.specs.declared.WallMasks.{WallMasks}
 use Rattle.brake.specs.Answer.{plan, lentJudged, rowLent, outcome, answerAt, sentAt, forecastRefusal, forecastAnswer, brakeSent, brakeRefusal, brakeAnswer, holdSent, holdRefusal, holdAnswer}
 use Rattle.lictor.specs.Answer.{numberOf as numberIn, maskNumber, countNumber, emptinessNumber, verdictNumber, binNumber, checkNumber, forecastNumber, sentNumber}
 
@@ -214,20 +215,20 @@ module _ (c : FuseConfig) (tabs : Tables) (p v rows : List Float) (k : Header) (
       let last = exactly-first (among forecastJudged) computed .1 in
       exactly _ (forecast-told (plan binary64 c p v rows k from) (refusal forecastJudged) (λ z. none z computed) (λ z. applied _ _ _ (last z)))
 
-sent-told : (n : ℕ) → sentNumber (sentAt n) ≡ n
+sent-told : (n : ℕ) (m : WallMasks) → sentNumber (sentAt n m) ≡ n
 unfolding sentNumber
-sent-told zero = refl
-sent-told (suc k) = refl
+sent-told zero m = refl
+sent-told (suc k) m = refl
 
 pub brake-action-exactly :
     (c : FuseConfig) (tabs : Tables) (p v : List Float) (room : ℕ)
     → Exactly (sentNumber (brakeAnswer binary64 c tabs p v room)) (among (configJudged binary64 c tabs ++ (rowLent c (someNotFinite p || someNotFinite v) room ++ (computed when not (brakeSent binary64 c p v .sound) ∷ []))))
 unfolding brakeAnswer brakeRefusal
-brake-action-exactly c tabs p v room = exactly _ (sent-told _)
+brake-action-exactly c tabs p v room = exactly _ (sent-told _ _)
 
 pub hold-action-exactly : (c : FuseConfig) (tabs : Tables) (p : List Float) (room : ℕ) → Exactly (sentNumber (holdAnswer binary64 c tabs p room)) (among (configJudged binary64 c tabs ++ (rowLent c (someNotFinite p) room ++ (computed when not (holdSent binary64 c p .sound) ∷ []))))
 unfolding holdAnswer holdRefusal
-hold-action-exactly c tabs p room = exactly _ (sent-told _)
+hold-action-exactly c tabs p room = exactly _ (sent-told _ _)
 
 -- ---- conformal (R8)
 

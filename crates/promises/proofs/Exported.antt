@@ -26,6 +26,7 @@ use Rattle.lictor.proofs.lictor_environment.Reads as lictor-environment
 use Rattle.lictor.proofs.lictor_min.Reads as lictor-min
 use Rattle.lictor.proofs.lictor_max.Reads as lictor-max
 use Rattle.lictor.proofs.lictor_clamp.Reads as lictor-clamp
+use Rattle.lictor.proofs.lictor_clamp_side.Reads as lictor-clamp-side
 use Rattle.lictor.proofs.lictor_sqrt.Reads as lictor-sqrt
 use Rattle.lictor.proofs.lictor_norm.Reads as lictor-norm
 use Rattle.lictor.proofs.lictor_dist.Reads as lictor-dist
@@ -95,8 +96,8 @@ cleared-given p q = (unique (p .number) (q .number), (unique (p .rows) (q .rows)
 forecast-given : {fits : Bool} {a : BrakeOut} {l : List Float} {r r′ : ℕ} {m₀ : List ℕ} {m m′ : List ℕ} {x₀ : List Float} {x x′ : List Float} {p₀ : ℕ} {p p′ : ℕ} {s₀ : List Float} {s s′ : List Float} → ForecastGiven fits a l r m₀ m x₀ x p₀ p s₀ s → ForecastGiven fits a l r′ m₀ m′ x₀ x′ p₀ p′ s₀ s′ → (r ≡ r′) × ((m ≡ m′) × ((x ≡ x′) × ((p ≡ p′) × (s ≡ s′))))
 forecast-given p q = (unique (p .number) (q .number), (unique (p .marks) (q .marks), (unique (p .distances) (q .distances), (unique (p .place) (q .place), unique (p .slacks) (q .slacks)))))
 
-sent-given : {fits : Bool} {a : Sent} {l : List Float} {r r′ : ℕ} {o₀ : List Float} {o o′ : List Float} → SentGiven fits a l r o₀ o → SentGiven fits a l r′ o₀ o′ → (r ≡ r′) × (o ≡ o′)
-sent-given p q = (unique (p .number) (q .number), unique (p .output) (q .output))
+sent-given : {fits : Bool} {a : Sent} {l : List Float} {r r′ : ℕ} {m₀ : List ℕ} {m m′ : List ℕ} {o₀ : List Float} {o o′ : List Float} → SentGiven fits a l r m₀ m o₀ o → SentGiven fits a l r′ m₀ m′ o₀ o′ → (r ≡ r′) × ((m ≡ m′) × (o ≡ o′))
+sent-given p q = (unique (p .number) (q .number), (unique (p .marks) (q .marks), unique (p .output) (q .output)))
 
 scored-given : {fits : Bool} {a : Scored} {r r′ : ℕ} {s₀ : List Float} {s s′ : List Float} {m₀ : List ℕ} {m m′ : List ℕ} → ScoredGiven fits a r s₀ s m₀ m → ScoredGiven fits a r′ s₀ s′ m₀ m′ → (r ≡ r′) × ((s ≡ s′) × (m ≡ m′))
 scored-given p q = (unique (p .number) (q .number), (unique (p .scores) (q .scores), unique (p .marks) (q .marks)))
@@ -139,6 +140,9 @@ one-lictor-max l a r s x y = unique
 
 pub one-lictor-clamp : One lictor-clamp.Post (λ r x. r)
 one-lictor-clamp l a r s x y = unique
+
+pub one-lictor-clamp-side : OneWithLent lictor-clamp-side.Post (λ x. x .1 .1 .1 .0 .now)
+one-lictor-clamp-side l a r s x y p q = (unique (p .0) (q .0), unique (p .1) (q .1))
 
 pub one-lictor-sqrt : OneWithLent lictor-sqrt.Post (λ x. x .1 .0 .now)
 one-lictor-sqrt l a r s x y = number-given
@@ -221,10 +225,10 @@ one-lictor-tier1-reset l a r s x y = cleared-given
 pub one-lictor-brake-feasible : With4 lictor-brake-feasible.Post (λ x. x .1 .1 .1 .1 .1 .1 .1 .1 .1 .1 .1 .1 .0 .now) (λ x. x .1 .1 .1 .1 .1 .1 .1 .1 .1 .1 .1 .1 .1 .0 .now) (λ x. x .1 .1 .1 .1 .1 .1 .1 .1 .1 .1 .1 .1 .1 .1 .0 .now) (λ x. x .1 .1 .1 .1 .1 .1 .1 .1 .1 .1 .1 .0 .now)
 one-lictor-brake-feasible l a r s x y = forecast-given
 
-pub one-lictor-brake-action : OneWithLent lictor-brake-action.Post (λ x. x .1 .1 .1 .1 .1 .1 .0 .now)
+pub one-lictor-brake-action : With2 lictor-brake-action.Post (λ x. x .1 .1 .1 .1 .1 .1 .1 .0 .now) (λ x. x .1 .1 .1 .1 .1 .1 .0 .now)
 one-lictor-brake-action l a r s x y = sent-given
 
-pub one-lictor-hold-action : OneWithLent lictor-hold-action.Post (λ x. x .1 .1 .1 .1 .1 .0 .now)
+pub one-lictor-hold-action : With2 lictor-hold-action.Post (λ x. x .1 .1 .1 .1 .1 .1 .0 .now) (λ x. x .1 .1 .1 .1 .1 .0 .now)
 one-lictor-hold-action l a r s x y = sent-given
 
 -- ---- conformal (R8)

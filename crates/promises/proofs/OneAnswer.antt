@@ -52,7 +52,10 @@ use Rattle.envelope.proofs.compile.Reads as compile
 use Rattle.pull.proofs.pulled.Reads as pulled
 use Rattle.workspace.proofs.outside.Reads as outside
 use Rattle.workspace.proofs.inward.Reads as inward
+use Rattle.workspace.proofs.unmoved.Reads as unmoved
+use Rattle.workspace.proofs.wall_masks.Reads as wall-masks
 use Rattle.workspace.proofs.setpoint.Reads as setpoint
+use Rattle.workspace.proofs.setpoint_masks.Reads as setpoint-masks
 use Rattle.workspace.proofs.slack.Reads as slack
 use Rattle.workspace.proofs.slack_abreast.Reads as slack-abreast
 use Rattle.workspace.proofs.slack_r.Reads as slack-within
@@ -298,8 +301,17 @@ one-outside l a r s x y = unique
 pub one-inward : One inward.Post (λ r x. r)
 one-inward l a r s x y = unique
 
+pub one-unmoved : One unmoved.Post (λ r x. r)
+one-unmoved l a r s x y = unique
+
+pub one-wall-masks : One wall-masks.Post (λ r x. r)
+one-wall-masks l a r s x y = unique
+
 pub one-setpoint : One setpoint.Post (λ r x. r)
 one-setpoint l a r s x y = unique
+
+pub one-setpoint-masks : One setpoint-masks.Post (λ r x. r)
+one-setpoint-masks l a r s x y = unique
 
 pub one-slack : One slack.Post (λ r x. r)
 one-slack l a r s x y = unique

@@ -31,7 +31,8 @@ use Rattle.tier1.specs.Refusals.{stateJudged}
 use Rattle.tier1.specs.Of.{Tick, featuredAt, ticked, featuresRefusal, featuresOf, clearedAt, resetOf}
 use Rattle.course.specs.Forecast.{Forecast, placeOf, marginOf, feasibleOf, writtenOf}
 use Rattle.brake.specs.declared.BrakeOut.the-variants as out
-use Rattle.brake.specs.Answer.{outcome, answerAt, slacksAt, plan, forecastRefusal, forecastAnswer, forecastSlacks, sentAt, rowAt, brakeSent, brakeRefusal, brakeAnswer, brakeOutput, holdSent, holdRefusal, holdAnswer, holdOutput}
+use Rattle.workspace.specs.declared.WallMasks.{WallMasks}
+use Rattle.brake.specs.Answer.{outcome, answerAt, slacksAt, plan, forecastRefusal, forecastAnswer, forecastSlacks, sentAt, masksSent, rowAt, brakeSent, brakeRefusal, brakeAnswer, brakeOutput, holdSent, holdRefusal, holdAnswer, holdOutput}
 use Rattle.lictor.specs.Answer.{checkNumber, forecastNumber, sentNumber}
 use Rattle.promises.specs.Refused.{Refuses, RefusalChangesNothing}
 
@@ -100,18 +101,18 @@ reset-kept : (rt : Tier1Rt) → Refuses (resetOf rt .refusal .number) → resetO
 unfolding resetOf
 reset-kept rt = cleared-kept (given (stateJudged rt)) rt
 
-row-kept : (n : ℕ) (row : List Float) (k : ℕ) (l : List Float) → Refuses (sentNumber (sentAt n)) → rowAt n row k l ≡ l
+row-kept : (n : ℕ) (m : WallMasks) (row : List Float) (k : ℕ) (l : List Float) → Refuses (sentNumber (sentAt n m)) → rowAt n row k l ≡ l
 unfolding sentNumber
-row-kept zero row k l is = absurd (is refl)
-row-kept (suc n) row k l is = refl
+row-kept zero m row k l is = absurd (is refl)
+row-kept (suc n) m row k l is = refl
 
 brake-kept : (c : FuseConfig) (tabs : Tables) (p v l : List Float) → Refuses (sentNumber (brakeAnswer binary64 c tabs p v (length l))) → brakeOutput binary64 c tabs p v l ≡ l
 unfolding brakeAnswer brakeOutput
-brake-kept c tabs p v l = row-kept (brakeRefusal binary64 c tabs p v (length l)) (brakeSent binary64 c p v .value) (c .dim) l
+brake-kept c tabs p v l = row-kept (brakeRefusal binary64 c tabs p v (length l)) (masksSent binary64 c p) (brakeSent binary64 c p v .value) (c .dim) l
 
 hold-kept : (c : FuseConfig) (tabs : Tables) (p l : List Float) → Refuses (sentNumber (holdAnswer binary64 c tabs p (length l))) → holdOutput binary64 c tabs p l ≡ l
 unfolding holdAnswer holdOutput
-hold-kept c tabs p l = row-kept (holdRefusal binary64 c tabs p (length l)) (holdSent binary64 c p .value) (c .dim) l
+hold-kept c tabs p l = row-kept (holdRefusal binary64 c tabs p (length l)) (masksSent binary64 c p) (holdSent binary64 c p .value) (c .dim) l
 
 -- ---- a forecast: what it comes to is accepted or 13
 

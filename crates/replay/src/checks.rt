@@ -10,13 +10,14 @@ use crate::record::rows_of;
 use sample::agrees;
 use tier0::Tier0Out;
 
-// Whether an answer has the trips, clamped dims and peak speed kept.
+// Whether an answer has the trips, clamped dims and peak speed kept. Which walls moved the rows the sample, which is the Rust's, does not say.
 fn is_check(a: Tier0Out, trips: u64, dims: u64, peak: f64) -> bool {
     match a {
         Tier0Out::Passed {
             trips: t,
             clamped_dims,
             peak_speed,
+            walls: _,
         } => agrees(
             &[exact(trips), exact(dims), peak],
             &[t as f64, clamped_dims as f64, peak_speed],

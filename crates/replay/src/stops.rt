@@ -48,7 +48,7 @@ pub(crate) fn forecast_agrees(w: &Words, x: &Numbers) -> bool {
 // Whether a row was written, as it is kept.
 fn is_sent(s: Sent, out: &[f64], kept: &[f64]) -> bool {
     match s {
-        Sent::Done => agrees(kept, out),
+        Sent::Done(_) => agrees(kept, out),
         Sent::Refused(_) => false,
     }
 }

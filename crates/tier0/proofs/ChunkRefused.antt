@@ -145,7 +145,7 @@ module _ (f : Format) (c : FuseConfig) (t : Tables) (p aux rows : List Float) (k
       not-sound y i = whole (by-computed Refused (passedFor (ruling .value)) l written (before (length l)) (ruling .sound) number-is g sound-is y i)
 
       pub passes : v .sound ≡ true → {o : List Float} {n : ℕ} → o ≡ over (at z) l (min (h * c .dim) (min n (length l))) → 512 ≤ n
-          → (Passed (v .trips) (v .mask) (v .peak) ≡ chunkAnswer f c t p aux rows k (length l)) × (o ≡ chunkOut f c t p aux rows k l)
+          → (Passed (v .trips) (v .mask) (v .peak) (v .walls) ≡ chunkAnswer f c t p aux rows k (length l)) × (o ≡ chunkOut f c t p aux rows k l)
       passes y i b =
           let w = accepted-sizes (length l) g in
           let whole-rows = all-put l z (le-trans (w .small) b) (w .out) i in

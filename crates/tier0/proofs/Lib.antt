@@ -1,7 +1,9 @@
 pub mod Steps
 pub mod Refused
+pub mod Masks
 pub mod Rows
 pub mod ChunkRefused
 pub mod Promises
 pub mod Within
+pub mod Walled
 pub mod NoContact

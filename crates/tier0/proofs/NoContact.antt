@@ -21,11 +21,12 @@ use Rattle.envelope.specs.Refusals.{sizesOk, numbersFrom, stepsOk}
 use Rattle.tier0.specs.declared.Checks.{Checks}
 use Rattle.tier0.specs.declared.Difference.{Difference}
 use Rattle.tier0.specs.declared.Difference.the-variants.{Accel, Jerk}
-use Rattle.tier0.specs.Rule.{WORKSPACE, SPEED, ACCEL, JERK, REACH, CONTACT, arms, weight, clear, outOfBox, outOfReach, boxed, leashed, reached, moves, project, projection, checkAction}
-use Rattle.tier0.specs.Chunk.{rawRow, startRow, someOutOfBox, someOf, largeAt, tooLarge, nextRow, runRows, projectedRows, checkChunk}
+use Rattle.tier0.specs.Rule.{WORKSPACE, SPEED, ACCEL, JERK, REACH, CONTACT, arms, weight, clear, outOfBox, outOfReach, boxed, leashed, reached, moves, project, projection, boxesRows, rowMasks, checkAction}
+use Rattle.tier0.specs.Chunk.{rawRow, startRow, someOutOfBox, someOf, largeAt, tooLarge, nextRow, runRows, projectedRows, rowsMasks, checkChunk}
 use Rattle.tier0.specs.Of.{checksOf, actionRuling, actionRefusal, actionAnswer, actionOut, chunkRuling, chunkRefusal, chunkAnswer, chunkOut}
 use Rattle.tier0.specs.Promises.{raised, withoutContact, contactUnarmed, Promised}
 use Rattle.tier0.proofs.Promises.{chunk-raised, action-raised, walls-touched, no-contact, outside-radius, no-zone-no-leash, unarmed-action, unarmed-chunk}
+use Rattle.tier0.proofs.Walled.{chunk-walls, action-walls}
 use Rattle.tier0.proofs.Within.{chunk-workspace-touched, chunk-speed-touched, chunk-contact-touched, chunk-accel-touched, chunk-jerk-touched, chunk-reach-touched, chunk-touched, action-workspace-touched, action-speed-touched, action-contact-touched, action-reach-touched, action-touched}
 
 -- ---- every other check is armed as before
@@ -87,6 +88,19 @@ module _ (f : Format) (s : Checks) (p : List Float) where
   unfolding outOfBox
   same-box a = rw (workspace-as-before s)
 
+  same-mode : (m : ClampMode) → boxesRows (quiet s) m ≡ boxesRows s m
+  unfolding boxesRows
+  same-mode Off = refl
+  same-mode Project = workspace-as-before s
+
+  same-row-masks : (a : List Float) → rowMasks (quiet s) a ≡ rowMasks s a
+  unfolding rowMasks
+  same-row-masks a = rw (same-mode (s .clamp))
+
+  same-rows-masks : (rows : List Float) (h : ℕ) → rowsMasks (quiet s) rows h ≡ rowsMasks s rows h
+  unfolding rowsMasks
+  same-rows-masks rows h = rw (same-mode (s .clamp))
+
   same-reach : (a : List Float) → outOfReach f (quiet s) p a ≡ outOfReach f s p a
   unfolding outOfReach
   same-reach a = rw (reach-as-before s)
@@ -127,6 +141,7 @@ module _ (f : Format) (s : Checks) (p : List Float) where
           same-box a,
           same-reach a,
           same-projection (s .clamp) prev (padded a (s .dim)),
+          same-row-masks a,
         )
 
     same-chunk : (rows l : List Float) (h : ℕ) → checkChunk f (quiet s) p aux rows l h ≡ checkChunk f s p aux rows l h
@@ -142,6 +157,7 @@ module _ (f : Format) (s : Checks) (p : List Float) where
           same-large rows q Jerk h,
           same-reach (rawRow rows (s .dim) 0),
           same-projected rows q (s .clamp) l h,
+          same-rows-masks rows h,
         )
 
 -- ---- the entries
@@ -209,6 +225,8 @@ promised = record {
     reach-touched = action-reach-touched f c t p aux prev a room;
     all-touched = action-touched f c t p aux prev a room;
   };
+  chunk-walls = chunk-walls;
+  action-walls = action-walls;
   no-contact-as-unarmed = λ f c t none. record {
     same-chunk-answer = no-contact-chunk-answer f c t none;
     same-chunk-rows = no-contact-chunk-rows f c t none;

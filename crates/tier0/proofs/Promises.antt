@@ -20,7 +20,7 @@ use Rattle.checked.proofs.Copy.{padded-at}
 use Rattle.checked.proofs.Ordered.{lt-irrefl}
 use Rattle.workspace.specs.Rule.{Walls}
 use Rattle.bits.specs.Bits.{bit, bitsWhere}
-use Rattle.bits.proofs.Bits.{bit-where}
+use Rattle.bits.proofs.Bits.{bit-where, bits-none}
 use Rattle.envelope.specs.declared.ClampMode.{ClampMode}
 use Rattle.envelope.specs.declared.ClampMode.the-variants.{Off, Project}
 use Rattle.envelope.specs.declared.Contact.{Contact}
@@ -153,9 +153,7 @@ equal-itself (fin false m e) h = rw (eq-eqb (m * up e * down e) (m * up e * down
 
 -- of a row that stays no bit is set in clamped_dims
 pub unmoved : (a : List Float) (n : ℕ) → ((j : ℕ) → j < n → finite (at a j) ≡ true) → movedDims a a n ≡ 0
-unfolding bitsWhere
-unmoved a zero e = refl
-unmoved a (suc n) e = rw (unmoved a n (λ j l. e j (omega arith)), equal-itself (at a n) (e n (omega arith)))
+unmoved a n e = bits-none (λ (j : ℕ). ne (at a j) (at a j)) n (λ j l. equal-itself (at a j) (e j l))
 
 -- ---- with everything unarmed, said of the whole checks
 
@@ -163,7 +161,7 @@ unmoved a (suc n) e = rw (unmoved a n (λ j l. e j (omega arith)), equal-itself 
 row-at : (rows : List Float) (n i : ℕ) → n ≤ 8 → (j : ℕ) → j < n → at (rawRow rows n i) j ≡ at rows (i * n + j)
 row-at rows n i w j k = padded-at (drop (i * n) rows) n j w k ∙ getD-drop (i * n) rows j nan
 
-below-rows : (i h j n : ℕ) → i < h → j < n → i * n + j < h * n
+pub below-rows : (i h j n : ℕ) → i < h → j < n → i * n + j < h * n
 below-rows i h j n a b = omega (arith, row-fits i h n (h * n) a (omega arith))
 
 -- what is put over the first k numbers from k on is put over the first k + n

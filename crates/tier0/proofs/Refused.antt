@@ -120,7 +120,7 @@ module _ (f : Format) (c : FuseConfig) (t : Tables) (p aux prev a : List Float) 
       not-sound h g = whole (by-computed Refused (passedFor (ruling .value)) l written (before (length l)) (ruling .sound) number-is e sound-is h g)
 
       pub passes : v .sound ≡ true → {m : List Float} {k : ℕ} → m ≡ over (at (v .at)) l (min (c .dim) (min k (length l))) → 8 ≤ k
-          → (Passed (v .trips) (v .mask) (v .peak) ≡ actionAnswer f c t p aux prev a (length l)) × (m ≡ actionOut f c t p aux prev a l)
+          → (Passed (v .trips) (v .mask) (v .peak) (v .walls) ≡ actionAnswer f c t p aux prev a (length l)) × (m ≡ actionOut f c t p aux prev a l)
       passes h g b =
           let w = accepted-sizes (length l) e in
           let whole-row = all-put l (v .at) (le-trans (w .narrow) b) (w .out) g in

@@ -22,6 +22,7 @@ use Rattle.checked.proofs.Extremes.{greatest-more}
 use Rattle.checked.proofs.Told.{Tells, implied}
 use Rattle.fmath.proofs.Lengths.{dist-tells, norm-tells}
 use Rattle.chunk.proofs.Rows.{row-fits}
+use Rattle.workspace.specs.declared.WallMasks.{WallMasks}
 use Rattle.envelope.specs.declared.ClampMode.{ClampMode}
 use Rattle.envelope.specs.declared.ClampMode.the-variants as M
 use Rattle.tier0.specs.declared.Checks.{Checks}
@@ -34,7 +35,7 @@ use Rattle.checked.specs.declared.Test.{Test}
 use Rattle.tier0.specs.declared.Stride.{Stride}
 use Rattle.tier0.specs.declared.MovedRows.{MovedRows}
 use Rattle.tier0.specs.Rule.{Slow, SPEED, arms, slowZone, outOfBox, outOfReach, tripBits, moves, movedDims, Projected}
-use Rattle.tier0.specs.Chunk.{rawRow, startRow, rowBefore, stepTo, peakStep, someLonger, someOutOfBox, someOf, bend, jolt, bends, jolts, exceeds, largeAt, further, tripOf, tooLarge, putRow, Run, nextRow, runRows, projectedRows, checkChunk}
+use Rattle.tier0.specs.Chunk.{rawRow, startRow, rowBefore, stepTo, peakStep, someLonger, someOutOfBox, someOf, bend, jolt, bends, jolts, exceeds, largeAt, further, tripOf, tooLarge, putRow, Run, nextRow, runRows, projectedRows, rowsMasks, checkChunk}
 use Rattle.tier0.specs.Of.{slowOf, zoneFrom, stepsFrom, runFrom, movedRowsFrom, judgedChunkFrom}
 use Rattle.checked.specs.Of.{rowFrom, testFrom}
 
@@ -242,7 +243,7 @@ module _ (f : Format) (s : Checks) (m : ClampMode) (z : Slow) (p rows q l : List
   unfolding projectedRows
   rows-on e u = rw (e, and-true) u
 
-pub judge-chunk-is : (f : Format) (s : Checks) (p aux rows l : List Float) (h : ℕ) {z : SlowZone} {q first m : List Float} {t : Stride} {k speed : Bool} {bent jolted far : Test} {c : MovedRows} {bits : ℕ}
+pub judge-chunk-is : (f : Format) (s : Checks) (p aux rows l : List Float) (h : ℕ) {z : SlowZone} {q first m : List Float} {t : Stride} {k speed : Bool} {bent jolted far : Test} {c : MovedRows} {bits : ℕ} {w : WallMasks}
     → z ≡ zoneFrom (slowZone f s p aux)
     → q ≡ startRow s p rows
     → t ≡ stepsFrom f s (z .step) q rows h
@@ -254,10 +255,11 @@ pub judge-chunk-is : (f : Format) (s : Checks) (p aux rows l : List Float) (h : 
     → speed ≡ arms s SPEED
     → bits ≡ tripBits (t .out .holds) (speed && t .fast) (bent .holds) (jolted .holds) (far .holds) (z .inside && t .close)
     → (c ≡ movedRowsFrom (projectedRows f s (s .clamp) (slowOf z) p rows q l h)) × (m ≡ projectedRows f s (s .clamp) (slowOf z) p rows q l h .value .rows)
-    → (_≡_ {A = JudgedChunk} (record { trips = bits; mask = c .mask; peak = mul f (t .peak) (s .«inv_dt»); sound = z .sound && (t .sound && (k && (t .out .sound && (bent .sound && (jolted .sound && (far .sound && c .sound)))))) })
+    → w ≡ rowsMasks s rows h
+    → (_≡_ {A = JudgedChunk} (record { trips = bits; mask = c .mask; peak = mul f (t .peak) (s .«inv_dt»); walls = w; sound = z .sound && (t .sound && (k && (t .out .sound && (bent .sound && (jolted .sound && (far .sound && c .sound)))))) })
     (judgedChunkFrom (checkChunk f s p aux rows l h))) × (m ≡ checkChunk f s p aux rows l h .value .after .rows)
 unfolding checkChunk
-judge-chunk-is f s p aux rows l h ez eq et ek eb ej e1 ef es ew ec = (rw (ew, ec .0, ef, e1, ej, eb, es, ek, et, eq, ez, and-true), ec .1 ∙ rw (eq, ez))
+judge-chunk-is f s p aux rows l h ez eq et ek eb ej e1 ef es ew ec em = (rw (em, ew, ec .0, ef, e1, ej, eb, es, ek, et, eq, ez, and-true), ec .1 ∙ rw (eq, ez))
 
 -- the first row lies in the rows
 pub first-fits : (h n len : ℕ) → 0 < h → h * n ≤ len → n ≤ len

@@ -12,6 +12,7 @@ use Rattle.fmath.specs.Norm.{dist}
 use Rattle.checked.proofs.Absorbing.{fine-mul-left}
 use Rattle.fmath.proofs.Lengths.{dist-tells, dist-sound}
 use Rattle.pull.specs.Rule.{pulled}
+use Rattle.workspace.specs.declared.WallMasks.{WallMasks}
 use Rattle.workspace.specs.Of.{wallsOf}
 use Rattle.workspace.specs.Rule.{outside, inward}
 use Rattle.envelope.specs.declared.ClampMode.{ClampMode}
@@ -24,7 +25,7 @@ use Rattle.checked.specs.declared.Row.{Row}
 use Rattle.checked.specs.declared.Test.{Test}
 use Rattle.tier0.specs.declared.Clamped.{Clamped}
 use Rattle.tier0.specs.declared.JudgedAction.{JudgedAction}
-use Rattle.tier0.specs.Rule.{Slow, WORKSPACE, SPEED, ACCEL, JERK, REACH, CONTACT, arms, boxDims, clear, seen, inZone, zoneIn, slowZone, outOfBox, outOfReach, weight, tripBits, leash, boxed, leashed, reached, moves, movedDims, project, projection, checkAction}
+use Rattle.tier0.specs.Rule.{Slow, WORKSPACE, SPEED, ACCEL, JERK, REACH, CONTACT, arms, boxDims, clear, seen, inZone, zoneIn, slowZone, outOfBox, outOfReach, weight, tripBits, leash, boxed, leashed, reached, moves, movedDims, project, projection, rowMasks, checkAction}
 use Rattle.tier0.specs.Of.{slowOf, zoneFrom, clampedFrom, judgedActionFrom}
 use Rattle.checked.specs.Of.{rowFrom, testFrom}
 
@@ -157,7 +158,7 @@ absorbed false true z h = absurd-is (h refl) z
     absurd-is e false = refl
 absorbed false false z h = refl
 
-pub judge-is : (f : Format) (s : Checks) (p aux prev a : List Float) {z : SlowZone} {n : Float} {k speed : Bool} {out far : Test} {raw : List Float} {c : Clamped} {bits : ℕ}
+pub judge-is : (f : Format) (s : Checks) (p aux prev a : List Float) {z : SlowZone} {n : Float} {k speed : Bool} {out far : Test} {raw : List Float} {c : Clamped} {bits : ℕ} {m : WallMasks}
     → z ≡ zoneFrom (slowZone f s p aux)
     → n ≡ dist f a prev (s .dim) .value
     → k ≡ finite (mul f n (s .«inv_dt»))
@@ -167,9 +168,10 @@ pub judge-is : (f : Format) (s : Checks) (p aux prev a : List Float) {z : SlowZo
     → speed ≡ arms s SPEED
     → bits ≡ tripBits (out .holds) (speed && lt (s .«step_max») n) false false (far .holds) (z .inside && lt (z .step) n)
     → c ≡ clampedFrom (projection f s (s .clamp) (slowOf z) p prev raw)
-    → _≡_ {A = JudgedAction} (record { trips = bits; mask = c .mask; peak = mul f n (s .«inv_dt»); at = c .at; sound = z .sound && (k && (out .sound && (far .sound && c .sound))) })
+    → m ≡ rowMasks s a
+    → _≡_ {A = JudgedAction} (record { trips = bits; mask = c .mask; peak = mul f n (s .«inv_dt»); at = c .at; walls = m; sound = z .sound && (k && (out .sound && (far .sound && c .sound))) })
     (judgedActionFrom (checkAction f s p aux prev a))
 unfolding checkAction
-judge-is f s p aux prev a ez en ek eo ef ew es eb ec =
+judge-is f s p aux prev a ez en ek eo ef ew es eb ec em =
     let n = dist f a prev (s .dim) in
-    rw (eb, ec, ew, ef, eo, es, ek, en, ez, and-true, dist-tells f a prev (s .dim), absorbed _ _ _ (fine-mul-left f (n .value) (s .«inv_dt»)))
+    rw (em, eb, ec, ew, ef, eo, es, ek, en, ez, and-true, dist-tells f a prev (s .dim), absorbed _ _ _ (fine-mul-left f (n .value) (s .«inv_dt»)))

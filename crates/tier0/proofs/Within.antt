@@ -3,12 +3,11 @@ use Prim.Native.Nat.{ℕ, zero, suc, _-_, _<_}
 use mathlib.Core.Path.{_≡_, refl, _∙_}
 use mathlib.Core.Bool.{Bool, true, false, _&&_}
 use mathlib.Core.List.{List}
-use native.Mathlib.Omega.{arith}
 use lib.ListN.{replicate}
 use lib.Ieee.{Float, Format, lt}
 use Rattle.bits.specs.Choice.{if_then_else_}
-use Rattle.checked.specs.Each.{some}
 use Rattle.checked.specs.Finite.{+0}
+use Rattle.checked.proofs.Each.{some-none}
 use Rattle.checked.specs.Checked.{Checked, pure}
 use Rattle.fmath.specs.Norm.{dist}
 use Rattle.workspace.specs.Of.{wallsOf}
@@ -28,11 +27,6 @@ use Rattle.tier0.proofs.Promises.{chunk-raised, action-raised}
 
 -- ---- comparisons of which none holds
 
-none-so : (g : ℕ → Bool) (n : ℕ) → ((j : ℕ) → j < n → g j ≡ false) → some g n ≡ false
-unfolding some
-none-so g zero h = refl
-none-so g (suc n) h = rw (none-so g n (λ j l. h j (omega arith)), h n (omega arith))
-
 where-so : (b x : Bool) → (b ≡ true → x ≡ false) → (b && x) ≡ false
 where-so true x h = h refl
 where-so false x h = refl
@@ -43,7 +37,7 @@ if-so false x h = refl
 
 in-box : (f : Format) (s : Checks) (a : List Float) → ((j : ℕ) → j < boxDims s → beyond (wallsOf (s .walls)) a j ≡ false) → outOfBox f s a .value ≡ false
 unfolding outOfBox outside
-in-box f s a h = if-so (arms s WORKSPACE) _ (none-so (beyond (wallsOf (s .walls)) a) (boxDims s) h)
+in-box f s a h = if-so (arms s WORKSPACE) _ (some-none (beyond (wallsOf (s .walls)) a) (boxDims s) h)
 
 in-reach : (f : Format) (s : Checks) (p a : List Float) → lt (s .«reach_max») (dist f a p (boxDims s) .value) ≡ false → outOfReach f s p a .value ≡ false
 unfolding outOfReach
@@ -51,7 +45,7 @@ in-reach f s p a h = if-so (arms s REACH) _ h
 
 none-large : (f : Format) (s : Checks) (d : Difference) (q rows : List Float) (h : ℕ) → ((i : ℕ) → i < h - further d → largeAt f s d q rows i .value ≡ false) → tooLarge f s d q rows h .value ≡ false
 unfolding tooLarge someOf
-none-large f s d q rows h e = if-so (arms s (tripOf d)) _ (none-so (λ (i : ℕ). largeAt f s d q rows i .value) (h - further d) e)
+none-large f s d q rows h e = if-so (arms s (tripOf d)) _ (some-none (λ (i : ℕ). largeAt f s d q rows i .value) (h - further d) e)
 
 -- ---- the trips of an answer are those of the rule, or none
 
@@ -81,11 +75,11 @@ module _ (f : Format) (c : FuseConfig) (t : Tables) (p aux rows : List Float) (k
 
   not-out : ChunkInBox f c p aux rows h → someOutOfBox f s rows h .value ≡ false
   unfolding someOutOfBox someOf
-  not-out w = none-so (λ (i : ℕ). outOfBox f s (rawRow rows (s .dim) i) .value) h (λ i b. in-box f s (rawRow rows (s .dim) i) (w i b))
+  not-out w = some-none (λ (i : ℕ). outOfBox f s (rawRow rows (s .dim) i) .value) h (λ i b. in-box f s (rawRow rows (s .dim) i) (w i b))
 
   not-longer : (most : Float) → ((i : ℕ) → i < h → lt most (stepTo f (beforeFirst f c p aux rows) rows (s .dim) i .value) ≡ false) → someLonger f (beforeFirst f c p aux rows) rows (s .dim) most h ≡ false
   unfolding someLonger
-  not-longer most = none-so (λ (i : ℕ). lt most (stepTo f (beforeFirst f c p aux rows) rows (s .dim) i .value)) h
+  not-longer most = some-none (λ (i : ℕ). lt most (stepTo f (beforeFirst f c p aux rows) rows (s .dim) i .value)) h
 
   not-fast : ChunkSlowEnough f c p aux rows h → (arms s SPEED && someLonger f (beforeFirst f c p aux rows) rows (s .dim) (s .«step_max») h) ≡ false
   not-fast w = where-so (arms s SPEED) _ (λ a. not-longer (s .«step_max») w)

@@ -14,12 +14,15 @@ use Rattle.checked.specs.Row.{padded}
 use Rattle.checked.specs.Checked.{Checked, _>>=_, pure, plus, minus, times, each}
 use Rattle.checked.specs.Least.{greatest}
 use Rattle.fmath.specs.Norm.{norm, dist}
+use Rattle.workspace.specs.declared.WallMasks.{WallMasks}
+use Rattle.workspace.specs.Of.{wallsOf}
+use Rattle.workspace.specs.Rule.{anyMasks, unmoved}
 use Rattle.envelope.specs.declared.ClampMode.{ClampMode}
 use Rattle.envelope.specs.declared.ClampMode.the-variants.{Off, Project}
 use Rattle.tier0.specs.declared.Checks.{Checks}
 use Rattle.tier0.specs.declared.Difference.{Difference}
 use Rattle.tier0.specs.declared.Difference.the-variants.{Accel, Jerk}
-use Rattle.tier0.specs.Rule.{SPEED, ACCEL, JERK, arms, boxDims, Slow, slowZone, outOfBox, outOfReach, tripBits, moves, movedDims, Projected, Judgement}
+use Rattle.tier0.specs.Rule.{SPEED, ACCEL, JERK, arms, boxDims, Slow, slowZone, outOfBox, outOfReach, tripBits, moves, movedDims, Projected, boxesRows, Judgement}
 
 -- ---- rows
 
@@ -139,6 +142,10 @@ projectedRows f s Project z p rows q l h = do
   t ← runRows f s z p rows q l h
   pure (record { rows = t .out; mask = t .mask })
 
+-- the walls that moved any of h rows, each as it came
+unfoldable pub rowsMasks : Checks → List Float → ℕ → WallMasks
+rowsMasks s rows h = if boxesRows s (s .clamp) then anyMasks (wallsOf (s .walls)) (rawRow rows (s .dim)) h (boxDims s) else unmoved
+
 -- ---- the check of a chunk of h rows; the projected rows are written over l
 
 unfoldable pub checkChunk : Format → Checks → List Float → List Float → List Float → List Float → ℕ → Checked Judgement
@@ -154,4 +161,4 @@ checkChunk f s p aux rows l h = do
   after ← projectedRows f s (s .clamp) z p rows q l h
   let fast = arms s SPEED && someLonger f q rows (s .dim) (s .«step_max») h
   let close = z .inside && someLonger f q rows (s .dim) (z .step) h
-  pure (record { trips = tripBits out fast bent jolted far close; peak = v; after = after })
+  pure (record { trips = tripBits out fast bent jolted far close; peak = v; after = after; walls = rowsMasks s rows h })

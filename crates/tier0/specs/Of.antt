@@ -68,6 +68,7 @@ judgedActionFrom x = record {
   mask = x .value .after .mask;
   peak = x .value .peak;
   at = x .value .after .rows;
+  walls = x .value .walls;
   sound = x .sound;
 }
 
@@ -92,6 +93,7 @@ judgedChunkFrom x = record {
   trips = x .value .trips;
   mask = x .value .after .mask;
   peak = x .value .peak;
+  walls = x .value .walls;
   sound = x .sound;
 }
 

@@ -2,11 +2,12 @@
 -- projected row that passes its check again is not promised.
 use Prim.Native.Nat.{ℕ, _+_, _-_, _*_, _/_, _%_, _≤_, _<_}
 use mathlib.Core.Path.{_≡_}
-use mathlib.Core.Bool.{Bool, true, false, _&&_}
+use mathlib.Core.Bool.{Bool, true, false, _&&_, _||_}
 use mathlib.Core.List.{List, [], _∷_}
 use lib.Dec.{eqb}
-use lib.ListN.{replicate}
-use lib.Ieee.{Float, Format, mul, lt, le}
+use lib.ListN.{length, replicate}
+use lib.Ieee.{Float, Format, mul, lt, le, eq}
+use Rattle.bits.specs.Bits.{bit}
 use Rattle.bits.specs.Choice.{if_then_else_}
 use Rattle.checked.specs.Each.{at, over}
 use Rattle.checked.specs.Row.{padded}
@@ -14,9 +15,12 @@ use Rattle.checked.specs.Finite.{+0, finite}
 use Rattle.checked.specs.Checked.{Checked, each, pure}
 use Rattle.fmath.specs.Norm.{norm, dist}
 use Rattle.workspace.specs.Of.{wallsOf}
-use Rattle.workspace.specs.Rule.{Walls, beyond}
+use Rattle.workspace.specs.declared.WallMasks.{WallMasks}
+use Rattle.workspace.specs.Rule.{Walls, beyond, raisedAt, loweredAt, unmoved}
+use Rattle.workspace.specs.Promises.{AxisTold, AxisOfAnyTold, NoBitPast}
 use Rattle.chunk.specs.declared.Header.{Header}
 use Rattle.conformal.specs.Rule.{Tables}
+use Rattle.envelope.specs.declared.ClampMode.the-variants.{Off, Project}
 use Rattle.envelope.specs.declared.Contact.the-variants.{None, Zone}
 use Rattle.envelope.specs.Promises.{armedBy}
 use Rattle.envelope.specs.declared.FuseConfig.{FuseConfig}
@@ -24,13 +28,13 @@ use Rattle.tier0.specs.declared.Tier0Out.{Tier0Out}
 use Rattle.tier0.specs.declared.Tier0Out.the-variants.{Passed, Refused}
 use Rattle.tier0.specs.declared.Checks.{Checks}
 use Rattle.tier0.specs.declared.Difference.the-variants.{Accel, Jerk}
-use Rattle.tier0.specs.Rule.{WORKSPACE, SPEED, ACCEL, JERK, REACH, CONTACT, weight, arms, boxDims, Slow, clear, slowZone, outOfBox, outOfReach, leash, checkAction}
+use Rattle.tier0.specs.Rule.{WORKSPACE, SPEED, ACCEL, JERK, REACH, CONTACT, weight, arms, boxDims, Slow, clear, slowZone, outOfBox, outOfReach, leash, boxed, checkAction}
 use Rattle.tier0.specs.Chunk.{rawRow, startRow, rowBefore, stepTo, bends, jolts, someLonger, someOutOfBox, tooLarge, checkChunk}
 use Rattle.tier0.specs.Of.{checksOf, actionAnswer, actionOut, chunkAnswer, chunkOut}
 
 -- the trips of an answer: none where it is refused
 abbrev pub tripsIn : Tier0Out → ℕ
-tripsIn (Passed trips clamped peak) = trips
+tripsIn (Passed trips clamped peak walls) = trips
 tripsIn (Refused r) = 0
 
 -- a bit of the trips is raised
@@ -182,6 +186,43 @@ UnarmedAction = (f : Format) (s : Checks) → s .armed ≡ 0 → (p aux prev a :
 abbrev pub UnarmedChunk : Type 0
 UnarmedChunk = (f : Format) (s : Checks) → s .armed ≡ 0 → (p aux rows l : List Float) (h : ℕ) → s .dim ≤ 8 → ((k : ℕ) → k < h * s .dim → finite (at rows k) ≡ true) → checkChunk f s p aux rows l h .value .after ≡ record { rows = over (at rows) l (h * s .dim); mask = 0 }
 
+-- ---- which walls moved the rows
+
+-- coordinate j of row i, as `check_chunk` leaves it in the lent output, is as a number what the box made of it: neither leash nor reach moved it
+abbrev pub RowAsBoxed : Format → FuseConfig → Tables → (p aux rows : List Float) → Header → List Float → ℕ → ℕ → Type 0
+RowAsBoxed f c t p aux rows k l i j = eq (at (chunkOut f c t p aux rows k l) (i * checksOf f c .dim + j)) (at (boxed f (checksOf f c) (rawRow rows (checksOf f c .dim) i) .value) j) ≡ true
+
+-- what the masks of an accepted `check_chunk` say, beside its clamped_dims and the output
+pub record ChunkWalls (f : Format) (c : FuseConfig) (t : Tables) (p aux rows : List Float) (k : Header) (l : List Float) (dims : ℕ) (walls : WallMasks) : Type 0 where
+  -- nothing under ClampMode Off, nor with WORKSPACE unarmed
+  pub off-none : c .clamp ≡ Off → walls ≡ unmoved
+  pub unarmed-none : arms (checksOf f c) WORKSPACE ≡ false → walls ≡ unmoved
+  -- else, on each axis that has a box, what its walls do to any row as it came
+  pub each-axis : c .clamp ≡ Project → arms (checksOf f c) WORKSPACE ≡ true → (j : ℕ) → j < boxDims (checksOf f c) → AxisOfAnyTold (wallsOf (checksOf f c .walls)) (rawRow rows (checksOf f c .dim)) (k .horizon) j walls
+  -- nothing past those axes
+  pub none-past : NoBitPast walls (boxDims (checksOf f c))
+  -- of a chunk of one row no axis has both
+  pub one-row-never-both : k .horizon ≡ 1 → (j : ℕ) → (bit (walls .low) j && bit (walls .high) j) ≡ false
+  -- where neither leash nor reach moved it, a coordinate that a wall moved is one of clamped_dims
+  pub in-clamped-dims :
+      c .clamp ≡ Project → arms (checksOf f c) WORKSPACE ≡ true → (i j : ℕ) → i < k .horizon → j < boxDims (checksOf f c) → RowAsBoxed f c t p aux rows k l i j
+      → (raisedAt (wallsOf (checksOf f c .walls)) (rawRow rows (checksOf f c .dim) i) j || loweredAt (wallsOf (checksOf f c .walls)) (rawRow rows (checksOf f c .dim) i) j) ≡ true → bit dims j ≡ true
+
+-- of an action likewise
+abbrev pub ActionAsBoxed : Format → FuseConfig → Tables → (p aux prev a l : List Float) → ℕ → Type 0
+ActionAsBoxed f c t p aux prev a l j = eq (at (actionOut f c t p aux prev a l) j) (at (boxed f (checksOf f c) (padded a (checksOf f c .dim)) .value) j) ≡ true
+
+-- what those of an accepted `check_action` say: of the one row, so no axis has both
+pub record ActionWalls (f : Format) (c : FuseConfig) (t : Tables) (p aux prev a l : List Float) (dims : ℕ) (walls : WallMasks) : Type 0 where
+  pub off-none : c .clamp ≡ Off → walls ≡ unmoved
+  pub unarmed-none : arms (checksOf f c) WORKSPACE ≡ false → walls ≡ unmoved
+  pub each-axis : c .clamp ≡ Project → arms (checksOf f c) WORKSPACE ≡ true → (j : ℕ) → j < boxDims (checksOf f c) → AxisTold (wallsOf (checksOf f c .walls)) a j walls
+  pub none-past : NoBitPast walls (boxDims (checksOf f c))
+  pub never-both : (j : ℕ) → (bit (walls .low) j && bit (walls .high) j) ≡ false
+  pub in-clamped-dims :
+      c .clamp ≡ Project → arms (checksOf f c) WORKSPACE ≡ true → (j : ℕ) → j < boxDims (checksOf f c) → ActionAsBoxed f c t p aux prev a l j
+      → (bit (walls .low) j || bit (walls .high) j) ≡ true → bit dims j ≡ true
+
 -- ---- all of it
 
 -- a limit that is not exceeded is not raised by `check_chunk`, and where none is exceeded nothing is
@@ -212,6 +253,12 @@ pub record AsUnarmed (f : Format) (c : FuseConfig) (t : Tables) : Type 0 where
 pub record Promised : Type 0 where
   pub chunk-may-touch : (f : Format) (c : FuseConfig) (t : Tables) (p aux rows : List Float) (k : Header) (room : ℕ) → ChunkTouched f c t p aux rows k room
   pub action-may-touch : (f : Format) (c : FuseConfig) (t : Tables) (p aux prev a : List Float) (room : ℕ) → ActionTouched f c t p aux prev a room
+  pub chunk-walls :
+      (f : Format) (c : FuseConfig) (t : Tables) (p aux rows : List Float) (k : Header) (l : List Float) (trips dims : ℕ) (speed : Float) (walls : WallMasks)
+      → chunkAnswer f c t p aux rows k (length l) ≡ Passed trips dims speed walls → ChunkWalls f c t p aux rows k l dims walls
+  pub action-walls :
+      (f : Format) (c : FuseConfig) (t : Tables) (p aux prev a l : List Float) (trips dims : ℕ) (speed : Float) (walls : WallMasks)
+      → actionAnswer f c t p aux prev a (length l) ≡ Passed trips dims speed walls → ActionWalls f c t p aux prev a l dims walls
   pub no-contact-as-unarmed : (f : Format) (c : FuseConfig) (t : Tables) → c .contact ≡ None → AsUnarmed f c t
   pub chunk-raised : (f : Format) (s : Checks) (p aux rows l : List Float) (h : ℕ) → ChunkRaised f s p aux rows l h
   pub action-raised : (f : Format) (s : Checks) (p aux prev a : List Float) → ActionRaised f s p aux prev a

@@ -19,7 +19,7 @@ unfoldable pub chunkTooShort : ℕ → ℕ → ℕ → ℕ → Bool
 chunkTooShort pos-dim p size room = ltb p pos-dim || ltb room size
 
 abbrev pub passedFor : Judgement → Tier0Out
-passedFor j = Passed (j .trips) (j .after .mask) (j .peak)
+passedFor j = Passed (j .trips) (j .after .mask) (j .peak) (j .walls)
 
 -- the judgement where the refusal is 0
 abbrev pub answerAt : ℕ → Judgement → Tier0Out

@@ -15,7 +15,8 @@ use Rattle.fmath.specs.Norm.{dist}
 use Rattle.bits.specs.Bits.{bitsWhere}
 use Rattle.pull.specs.Rule.{pulled}
 use Rattle.workspace.specs.Of.{wallsOf}
-use Rattle.workspace.specs.Rule.{outside, inward}
+use Rattle.workspace.specs.declared.WallMasks.{WallMasks}
+use Rattle.workspace.specs.Rule.{outside, inward, wallMasks, unmoved}
 use Rattle.envelope.specs.declared.ClampMode.{ClampMode}
 use Rattle.envelope.specs.declared.ClampMode.the-variants.{Off, Project}
 use Rattle.envelope.specs.declared.Contact.{Contact}
@@ -140,12 +141,23 @@ unfoldable pub projection : Format → Checks → ClampMode → Slow → List Fl
 projection f s Off z p prev a = pure (record { rows = a; mask = 0 })
 projection f s Project z p prev a = project f s z p prev a
 
+-- ---- which walls moved a row: the first move's alone, of the row as it came
+
+-- the first move is made
+unfoldable pub boxesRows : Checks → ClampMode → Bool
+boxesRows s Off = false
+boxesRows s Project = arms s WORKSPACE
+
+unfoldable pub rowMasks : Checks → List Float → WallMasks
+rowMasks s a = if boxesRows s (s .clamp) then wallMasks (wallsOf (s .walls)) a (boxDims s) else unmoved
+
 -- ---- the check of one action against its predecessor
 
 pub record Judgement : Type 0 where
   pub trips : ℕ
   pub peak : Float
   pub after : Projected
+  pub walls : WallMasks
 
 unfoldable pub checkAction : Format → Checks → List Float → List Float → List Float → List Float → Checked Judgement
 checkAction f s p aux prev a = do
@@ -157,4 +169,4 @@ checkAction f s p aux prev a = do
   after ← projection f s (s .clamp) z p prev (padded a (s .dim))
   let fast = arms s SPEED && lt (s .«step_max») n
   let close = z .inside && lt (z .step) n
-  pure (record { trips = tripBits out fast false false far close; peak = v; after = after })
+  pure (record { trips = tripBits out fast false false far close; peak = v; after = after; walls = rowMasks s a })

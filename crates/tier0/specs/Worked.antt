@@ -1,30 +1,36 @@
--- What is not promised of projection, by computation.
+-- What is not promised of projection, and which walls moved rows, by computation.
+use Prim.Native.Nat.{ℕ, _+_}
 use mathlib.Core.Path.{_≡_, refl}
-use mathlib.Core.Bool.{false}
+use mathlib.Core.Bool.{true, false}
 use mathlib.Core.List.{[], _∷_}
 use lib.IntN.{pos, negsuc}
 use lib.ListN.{replicate}
 use lib.Ieee.{Float, binary64, fin, add, sub, mul, div, lt, ne}
 use Rattle.root.specs.Root.{rootOf, number, rootExponent, half, nearRoot, floorRoot, scaled}
-use Rattle.checked.specs.Constants.{1! }
-use Rattle.checked.specs.Each.{over}
+use Rattle.checked.specs.Constants.{1!, 2! }
+use Rattle.checked.specs.Each.{over, some}
 use Rattle.checked.specs.Finite.{finite, +0}
 use Rattle.checked.specs.Row.{padded}
 use Rattle.checked.specs.Checked.{Checked, sumFrom, each}
 use Rattle.fmath.specs.Norm.{squaredGap, dist}
 use Rattle.bits.specs.Bits.{bitsWhere}
-use Rattle.envelope.specs.declared.ClampMode.the-variants.{Project}
+use Rattle.fmath.specs.Clamp.{clamped, side}
+use Rattle.workspace.specs.declared.Workspace.{Workspace}
+use Rattle.workspace.specs.Rule.{inward, wallMasks, anyMasks, unmoved}
+use Rattle.envelope.specs.declared.ClampMode.{ClampMode}
+use Rattle.envelope.specs.declared.ClampMode.the-variants.{Off, Project}
 use Rattle.envelope.specs.declared.Contact.the-variants.{None}
 use Rattle.pull.specs.Rule.{toward, shortened, pulled}
 use Rattle.tier0.specs.declared.Checks.{Checks}
-use Rattle.tier0.specs.Rule.{SPEED, arms, slowZone, outOfBox, outOfReach, tripBits, boxed, leashed, reached, moves, project, projection, Judgement, checkAction}
+use Rattle.tier0.specs.Rule.{WORKSPACE, SPEED, arms, slowZone, outOfBox, outOfReach, tripBits, boxed, leashed, reached, moves, project, projection, boxesRows, rowMasks, Judgement, checkAction}
+use Rattle.tier0.specs.Chunk.{rowsMasks}
 
--- one coordinate, SPEED alone armed, step 1.5
-abbrev line : Checks
-line = record {
+-- one coordinate
+abbrev one-axis : ℕ → Float → Workspace → Checks
+one-axis armed step walls = record {
   dim = 1;
   «pos_dim» = 1;
-  armed = SPEED;
+  armed = armed;
   contact = None;
   clamp = Project;
   dt = 1!;
@@ -34,9 +40,13 @@ line = record {
   «inv_dt» = 1!;
   «inv_dt2» = 1!;
   «inv_dt3» = 1!;
-  «step_max» = fin false 3 (negsuc 0);
-  walls = record { lo = []; hi = [] };
+  «step_max» = step;
+  walls = walls;
 }
+
+-- SPEED alone armed, step 1.5
+abbrev line : Checks
+line = one-axis SPEED (fin false 3 (negsuc 0)) (record { lo = []; hi = [] })
 
 -- from 2^53 to x
 abbrev along : Float → Checked Judgement
@@ -56,3 +66,65 @@ projected-to = refl
 pub trips-again : along 2^53+2 .value .trips ≡ SPEED
 unfolding checkAction tripBits mul projection slowZone outOfBox dist project moves arms lt rootOf reached bitsWhere sumFrom add leashed ne squaredGap sub outOfReach pulled padded over finite boxed shortened each toward div number rootExponent half nearRoot floorRoot scaled
 trips-again = refl
+
+-- ---- which walls moved rows
+
+-- two coordinates, of which the position has one, between -1 and 2
+abbrev between : ClampMode → ℕ → Checks
+between m armed = record {
+  dim = 2;
+  «pos_dim» = 1;
+  armed = armed;
+  contact = None;
+  clamp = m;
+  dt = 1!;
+  «a_max» = 1!;
+  «j_max» = 1!;
+  «reach_max» = 1!;
+  «inv_dt» = 1!;
+  «inv_dt2» = 1!;
+  «inv_dt3» = 1!;
+  «step_max» = 1!;
+  walls = record { lo = fin true 1 (pos 0) ∷ replicate 7 +0; hi = 2! ∷ replicate 7 +0 };
+}
+
+abbrev -5! : Float
+-5! = fin true 5 (pos 0)
+
+abbrev 5! : Float
+5! = fin false 5 (pos 0)
+
+-- rows (-5, 5) and (5, 5): the first is raised on axis 0, the second is lowered there. Axis 1 is outside its box of 0..0 in both, and has no bit
+pub both-walls : rowsMasks (between Project (WORKSPACE + SPEED)) (-5! ∷ 5! ∷ 5! ∷ 5! ∷ []) 2 ≡ record { low = 1; high = 1 }
+unfolding rowsMasks boxesRows arms anyMasks bitsWhere some padded over side lt
+both-walls = refl
+
+-- rows (-1, 5) and (2, 5) touch the walls
+pub walls-touched : rowsMasks (between Project (WORKSPACE + SPEED)) (fin true 1 (pos 0) ∷ 5! ∷ 2! ∷ 5! ∷ []) 2 ≡ unmoved
+unfolding rowsMasks boxesRows arms anyMasks bitsWhere some padded over side lt
+walls-touched = refl
+
+pub none-under-off : rowsMasks (between Off (WORKSPACE + SPEED)) (-5! ∷ 5! ∷ 5! ∷ 5! ∷ []) 2 ≡ unmoved
+unfolding rowsMasks boxesRows
+none-under-off = refl
+
+pub none-unarmed : rowsMasks (between Project SPEED) (-5! ∷ 5! ∷ 5! ∷ 5! ∷ []) 2 ≡ unmoved
+unfolding rowsMasks boxesRows arms
+none-unarmed = refl
+
+-- the leash takes a box move back: from 2, an action at 2 is lowered to the wall at 1, and a leash of 2^-70 leaves it at 2. The high mask tells of the box move,
+-- clamped_dims of the row as it goes out
+abbrev held-back : Checked Judgement
+held-back = checkAction binary64 (one-axis (WORKSPACE + SPEED) (fin false 1 (negsuc 69)) (record { lo = +0 ∷ []; hi = 1! ∷ [] })) (2! ∷ []) [] (2! ∷ []) (2! ∷ [])
+
+pub taken-back : held-back .value .after .rows ≡ 2! ∷ replicate 7 +0
+unfolding checkAction tripBits mul projection slowZone outOfBox dist project moves arms lt rootOf reached bitsWhere sumFrom add leashed ne squaredGap sub outOfReach pulled padded over finite boxed shortened each toward div number rootExponent half nearRoot floorRoot scaled inward clamped
+taken-back = refl
+
+pub taken-back-dims : held-back .value .after .mask ≡ 0
+unfolding checkAction tripBits mul projection slowZone outOfBox dist project moves arms lt rootOf reached bitsWhere sumFrom add leashed ne squaredGap sub outOfReach pulled padded over finite boxed shortened each toward div number rootExponent half nearRoot floorRoot scaled inward clamped
+taken-back-dims = refl
+
+pub taken-back-walls : held-back .value .walls ≡ record { low = 0; high = 1 }
+unfolding checkAction rowMasks boxesRows arms wallMasks bitsWhere side lt
+taken-back-walls = refl

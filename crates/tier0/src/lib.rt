@@ -20,6 +20,8 @@ use crate::trips::out_of_reach;
 use crate::trips::step_rows;
 use crate::trips::too_large;
 use crate::trips::trip_bits;
+use crate::walls::row_masks;
+use crate::walls::rows_masks;
 use crate::zone::slow_zone;
 use checked::Test;
 use chunk::Header;
@@ -29,20 +31,23 @@ use envelope::Derived;
 use envelope::FuseConfig;
 use envelope::TripMask;
 use refusal::Refusal;
+use workspace::WallMasks;
 use workspace::Workspace;
 
 mod measure;
 mod projected;
 mod refusals;
 mod trips;
+mod walls;
 mod zone;
 
-// The trips, the coordinates that projection moved and the greatest speed, or why there are none.
+// The trips, the coordinates that projection moved, the greatest speed and the walls that moved a row, or why there are none.
 pub enum Tier0Out {
     Passed {
         trips: u32,
         clamped_dims: u32,
         peak_speed: f64,
+        walls: WallMasks,
     },
     Refused(Refusal),
 }
@@ -92,6 +97,7 @@ pub struct JudgedAction {
     pub mask: u32,
     pub peak: f64,
     pub at: [f64; 8],
+    pub walls: WallMasks,
     pub sound: bool,
 }
 
@@ -115,6 +121,7 @@ pub struct JudgedChunk {
     pub trips: u32,
     pub mask: u32,
     pub peak: f64,
+    pub walls: WallMasks,
     pub sound: bool,
 }
 
@@ -146,13 +153,14 @@ fn checks_of(c: FuseConfig, d: Derived) -> Checks
 }
 
 // The answer where nothing is refused.
-fn found(trips: u32, clamped_dims: u32, peak_speed: f64) -> Tier0Out
-    ensures { λ r. ⌜ r ≡ Passed trips «clamped_dims» «peak_speed» ⌝ }
+fn found(trips: u32, clamped_dims: u32, peak_speed: f64, walls: WallMasks) -> Tier0Out
+    ensures { λ r. ⌜ r ≡ Passed trips «clamped_dims» «peak_speed» walls ⌝ }
 {
     Tier0Out::Passed {
         trips,
         clamped_dims,
         peak_speed,
+        walls,
     }
 }
 
@@ -181,17 +189,19 @@ fn judge_action(s: Checks, pos: &[f64], aux: &[f64], prev: &[f64], a: &[f64]) ->
     );
     let p = projection(s, z, pos, prev, raw);
     let at = p.at;
+    let walls = row_masks(s, out.holds, a);
     JudgedAction {
         trips,
         mask: p.mask,
         peak,
         at,
+        walls,
         sound: z.sound & (fine & (out.sound & (far.sound & p.sound))),
     }
 }
 
-// The check of the action a against its predecessor: which limits it exceeds, its speed, and, in out, its projection; the
-// rest of out stays. A refusal, by the first number of the order that applies, leaves out as it was.
+// The check of the action a against its predecessor: which limits it exceeds, its speed, which walls moved it, and, in out, its
+// projection; the rest of out stays. A refusal, by the first number of the order that applies, leaves out as it was.
 pub fn check_action(
     c: FuseConfig,
     center: &[f64; 192],
@@ -216,7 +226,7 @@ pub fn check_action(
     }
     let at = v.at;
     fmath::put(&at, c.dim, out);
-    found(v.trips, v.mask, v.peak)
+    found(v.trips, v.mask, v.peak, v.walls)
 }
 
 // ---- the check of a chunk
@@ -254,16 +264,18 @@ fn judge_chunk(
     let p = projected_rows(s, z, pos, rows, q, h, out);
     let rest = bent.sound & (jolted.sound & (far.sound & p.sound));
     let judged = t.sound & (fine & (t.out.sound & rest));
+    let walls = rows_masks(s, t.out.holds, rows, h);
     JudgedChunk {
         trips,
         mask: p.mask,
         peak,
+        walls,
         sound: z.sound & judged,
     }
 }
 
-// The check of a chunk of rows: which limits they exceed, the greatest speed, and, in out, the projected rows; the rest of
-// out stays. A refusal, by the first number of the order that applies, leaves out as it was.
+// The check of a chunk of rows: which limits they exceed, the greatest speed, which walls moved them, and, in out, the projected
+// rows; the rest of out stays. A refusal, by the first number of the order that applies, leaves out as it was.
 pub fn check_chunk(
     c: FuseConfig,
     center: &[f64; 192],
@@ -289,5 +301,5 @@ pub fn check_chunk(
         return Tier0Out::Refused(Refusal::of(Refusal::COMPUTED));
     }
     fmath::put(&all, h * c.dim, out);
-    found(v.trips, v.mask, v.peak)
+    found(v.trips, v.mask, v.peak, v.walls)
 }

@@ -3,8 +3,9 @@
 // A record has 104 little-endian words: the 44 numbers and the 26 counts of a configuration, in the places of include/lictor.h; the
 // position, how many numbers it has and eight of them; the camera's, likewise; eight of the row before, and eight of the action. The line
 // is the refusal's number or, accepted, 0 with the trips, the moved coordinates, the peak speed and the projected row, whose numbers are
-// the sixteen hexadecimal digits of their bits. The answer is that of `tier0::check_action`, whose contract says what it is. Of the line
-// only that it ends and stays in bounds is proved; its text is seen in the runs (tools/test-desk).
+// the sixteen hexadecimal digits of their bits, and the masks of the low and the high walls that moved it. The answer is that of
+// `tier0::check_action`, whose contract says what it is. Of the line only that it ends and stays in bounds is proved; its text is seen in the
+// runs (tools/test-desk).
 ghost use mathlib.Core.Path.{_≡_};
 ghost use lib.ListN.{length};
 use envelope::FuseConfig;
@@ -132,6 +133,7 @@ fn say_answer(a: Tier0Out, row: &[f64; 8]) -> bool {
             trips,
             clamped_dims,
             peak_speed,
+            walls,
         } => {
             say(b"0 ")
                 & say_count(trips as u64)
@@ -139,6 +141,10 @@ fn say_answer(a: Tier0Out, row: &[f64; 8]) -> bool {
                 & say_count(clamped_dims as u64)
                 & say_number(peak_speed)
                 & say_row(row)
+                & say(b" ")
+                & say_count(walls.low as u64)
+                & say(b" ")
+                & say_count(walls.high as u64)
                 & say(b"\n")
         }
         Tier0Out::Refused(r) => say_refusal(r),

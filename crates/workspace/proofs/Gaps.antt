@@ -31,7 +31,7 @@ past : (l : List Float) (j : ℕ) → length l ≤ j → at l j ≡ nan
 past l j h = List·getD-eq-default l nan h
 
 -- a coordinate, or its walls, that are not there: it is not beyond them
-none-beyond : (w : Walls) (a : List Float) (j : ℕ) → length (w .lo) ≡ 8 → length (w .hi) ≡ 8 → min (length a) 8 ≤ j → beyond w a j ≡ false
+pub none-beyond : (w : Walls) (a : List Float) (j : ℕ) → length (w .lo) ≡ 8 → length (w .hi) ≡ 8 → min (length a) 8 ≤ j → beyond w a j ≡ false
 none-beyond w a j hl hh h = go (decLe (length a) j)
   where
     go : Dec (length a ≤ j) → beyond w a j ≡ false

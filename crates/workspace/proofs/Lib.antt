@@ -1,2 +1,3 @@
 pub mod Gaps
 pub mod Inside
+pub mod Masks

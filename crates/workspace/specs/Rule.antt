@@ -1,5 +1,5 @@
--- The workspace, over the format: whether a point is outside, a point moved inside, the setpoint at a position, and the slack that is left. Nothing else
--- reads the walls, and whatever is computed is checked, so that another shape is another case here.
+-- The workspace, over the format: whether a point is outside, a point moved inside and by which walls, the setpoint at a position, and the slack that is
+-- left. Nothing else reads the walls, and whatever is computed is checked, so that another shape is another case here.
 use Prim.Native.Nat.{ℕ}
 use mathlib.Core.Bool.{Bool, _||_}
 use mathlib.Core.List.{List}
@@ -7,8 +7,10 @@ use lib.Ieee.{Float, Format, lt}
 use Rattle.checked.specs.Each.{at, some, over}
 use Rattle.checked.specs.Least.{lesser}
 use Rattle.checked.specs.Row.{eight}
-use Rattle.fmath.specs.Clamp.{clamped}
+use Rattle.bits.specs.Bits.{bitsWhere}
+use Rattle.fmath.specs.Clamp.{clamped, raised, lowered}
 use Rattle.checked.specs.Checked.{Checked, _>>=_, pure, minus, leastOf}
+use Rattle.workspace.specs.declared.WallMasks.{WallMasks}
 
 -- the walls of the box, already moved inward by the margin
 pub record Walls : Type 0 where
@@ -29,9 +31,39 @@ outside f w a n = pure (some (beyond w a) n)
 unfoldable pub inward : Format → Walls → List Float → ℕ → Checked (List Float)
 inward f w a n = pure (over (λ (j : ℕ). clamped (at a j) (at (w .lo) j) (at (w .hi) j)) a n)
 
+-- ---- which walls move a point, in the move above
+
+-- the low wall of axis j raises a point; the high wall lowers it
+abbrev pub raisedAt : Walls → List Float → ℕ → Bool
+raisedAt w a j = raised (at a j) (at (w .lo) j) (at (w .hi) j)
+
+abbrev pub loweredAt : Walls → List Float → ℕ → Bool
+loweredAt w a j = lowered (at a j) (at (w .lo) j) (at (w .hi) j)
+
+-- a bit for each of the first n coordinates that is raised, and for each that is lowered
+unfoldable pub wallMasks : Walls → List Float → ℕ → WallMasks
+wallMasks w a n = record { low = bitsWhere (raisedAt w a) n; high = bitsWhere (loweredAt w a) n }
+
+-- a bit for each coordinate on which any of h points is raised, and for each on which any is lowered
+unfoldable pub anyMasks : Walls → (ℕ → List Float) → ℕ → ℕ → WallMasks
+anyMasks w a h n = record {
+  low = bitsWhere (λ (j : ℕ). some (λ (i : ℕ). raisedAt w (a i) j) h) n;
+  high = bitsWhere (λ (j : ℕ). some (λ (i : ℕ). loweredAt w (a i) j) h) n;
+}
+
+-- no wall moves it
+abbrev pub unmoved : WallMasks
+unmoved = record { low = 0; high = 0 }
+
+-- ---- the setpoint
+
 -- what stays at a position goes towards: the position, 0.0 where it has no such coordinate, moved inside on the first n
 unfoldable pub setpoint : Format → Walls → List Float → ℕ → Checked (List Float)
 setpoint f w p n = inward f w (eight p 8) n
+
+-- the walls that move it there, on the first n
+unfoldable pub setpointMasks : Walls → List Float → ℕ → WallMasks
+setpointMasks w p n = wallMasks w (eight p 8) n
 
 -- ---- the slack: the least distance to a wall, over the first n coordinates
 

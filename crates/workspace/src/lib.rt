@@ -1,5 +1,5 @@
-// The workspace: whether a point is outside, a point moved inside, the setpoint at a position, and the slack that is left. Nothing else reads
-// the walls.
+// The workspace: whether a point is outside, a point moved inside and by which walls, the setpoint at a position, and the slack that is left.
+// Nothing else reads the walls.
 ghost use mathlib.Core.Path.{_≡_};
 ghost use mathlib.Core.Bool.{true};
 ghost use Prim.Native.Nat.{ℕ, _≤_, _<_};
@@ -8,7 +8,7 @@ ghost use Rattle.checked.specs.Each.{at};
 ghost use Rattle.checked.specs.Finite.{finite};
 ghost use Rattle.checked.specs.Least.{least};
 ghost use Rattle.checked.specs.Of.{reckonedFrom, rowFrom, testFrom};
-ghost use Rattle.workspace.specs.Rule.{outside, inward, setpoint, between, betweenR, gap, slack, slackR};
+ghost use Rattle.workspace.specs.Rule.{outside, inward, wallMasks, unmoved, setpoint, setpointMasks, between, betweenR, gap, slack, slackR};
 ghost use Rattle.workspace.specs.Of.{wallsOf};
 use checked::Reckoned;
 use checked::Row;
@@ -18,6 +18,12 @@ use checked::Test;
 pub struct Workspace {
     pub lo: [f64; 8],
     pub hi: [f64; 8],
+}
+
+// Which walls moved a point, or some point of several: a bit for each axis whose low wall raised it, and for each whose high wall lowered it.
+pub struct WallMasks {
+    pub low: u32,
+    pub high: u32,
 }
 
 // One of the first n coordinates lies strictly beyond a wall.
@@ -45,10 +51,36 @@ pub fn inward(w: Workspace, a: [f64; 8], n: usize) -> Row
     let mut r = a;
     let mut j = 0;
     while j < m {
-        r[j] = fmath::clamp(a[j], w.lo[j], w.hi[j]);
+        r[j] = fmath::clamp(a[j], w.lo[j], w.hi[j]).value;
         j += 1;
     }
     Row { at: r, sound: true }
+}
+
+// No wall moved anything.
+pub fn unmoved() -> WallMasks
+    ensures { λ r. ⌜ r ≡ unmoved ⌝ }
+{
+    WallMasks { low: 0, high: 0 }
+}
+
+// The walls that move a point on its first n coordinates.
+pub fn wall_masks(w: Workspace, a: &[f64], n: usize) -> WallMasks
+    ensures { λ r. ⌜ r ≡ wallMasks (wallsOf w) (now (a .entry)) n ⌝ }
+{
+    let m = fmath::fewer(n, fmath::fewer(a.len(), 8));
+    let mut low = 0u32;
+    let mut high = 0u32;
+    let mut power = 1u32;
+    let mut j = 0;
+    while j < m {
+        let c = fmath::clamp(a[j], w.lo[j], w.hi[j]);
+        low = low + bits::weight(c.side < 0, power);
+        high = high + bits::weight(0 < c.side, power);
+        power = power * 2;
+        j += 1;
+    }
+    WallMasks { low, high }
 }
 
 // The position, 0.0 where it has no such coordinate, with its first n coordinates moved inside their walls.
@@ -57,6 +89,14 @@ pub fn setpoint(w: Workspace, pos: &[f64], n: usize) -> Row
 {
     let p = fmath::padded(pos, 8);
     inward(w, p, n)
+}
+
+// The walls that move the setpoint on its first n coordinates.
+pub fn setpoint_masks(w: Workspace, pos: &[f64], n: usize) -> WallMasks
+    ensures { λ r. ⌜ r ≡ setpointMasks (wallsOf w) (now (pos .entry)) n ⌝ }
+{
+    let point = fmath::padded(pos, 8);
+    wall_masks(w, &point, n)
 }
 
 fn gap(lo: f64, hi: f64, p: f64) -> Reckoned

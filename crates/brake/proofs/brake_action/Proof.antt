@@ -7,9 +7,10 @@ use lib.ListN.{length}
 use lib.Ieee.{binary64}
 use Rattle.conformal.specs.Of.{tables}
 use Rattle.envelope.proofs.Accepted.{compiled-number, compiled-derived}
-use Rattle.brake.specs.Answer.{brakeSent, brakeAnswer, brakeOutput}
+use Rattle.brake.specs.declared.Sent.the-variants as sent
+use Rattle.brake.specs.Answer.{masksSent, brakeSent, brakeAnswer, brakeOutput}
 use Rattle.brake.specs.Of.{workspaceFrom}
-use Rattle.brake.proofs.Sending.{sized, row-refused, row-unsound, row-done, brake-judged, brake-is-sent}
+use Rattle.brake.proofs.Sending.{masks-are-sent, sized, row-refused, row-unsound, row-done, brake-judged, brake-is-sent}
 use borrow.Author.Needs.{needs}
 use Rattle.brake.proofs.brake_action.Statement.{statement}
 use Rattle.brake.proofs.brake_action.Tie as tie
@@ -34,7 +35,7 @@ of-requires c κs = search needs
 
 returns : tie.Need-returns
 unfolding brakeAnswer brakeOutput
-returns c = let g = c .before .before .before .before .before .before .before .before .before .args in let w = row-refused binary64 (g .c) (tables (now (g .center)) (now (g .scale))) (now (g .out)) (either (c .before .before .before .before .all-finite .ensures) (c .before .before .before .all-finite2 .ensures)) (brakeSent binary64 (g .c) (now (g .pos)) (now (g .vel))) (brake-judged binary64 (g .c) (now (g .pos)) (now (g .vel)) (tables (now (g .center)) (now (g .scale))) (length (now (g .out)))) (c .before .before .row-refusal .ensures _ (compiled-number (c .before .before .before .before .before .compile .ensures))) (c .before .if1 .taken) (c .of .ensures) in (w .gives, w .leaves)
+returns c = let g = c .before .before .before .before .before .before .before .before .before .args in let w = row-refused binary64 (g .c) (tables (now (g .center)) (now (g .scale))) (now (g .out)) (either (c .before .before .before .before .all-finite .ensures) (c .before .before .before .all-finite2 .ensures)) (brakeSent binary64 (g .c) (now (g .pos)) (now (g .vel))) (sent.Done (masksSent binary64 (g .c) (now (g .pos)))) (brake-judged binary64 (g .c) (now (g .pos)) (now (g .vel)) (tables (now (g .center)) (now (g .scale))) (length (now (g .out)))) (c .before .before .row-refusal .ensures _ (compiled-number (c .before .before .before .before .before .compile .ensures))) (c .before .if1 .taken) (c .of .ensures) in (w .gives, w .leaves)
 
 workspace-of-requires : tie.Need-workspace-of-requires
 workspace-of-requires c κs = search needs
@@ -47,13 +48,16 @@ of-requires-2 c κs = search needs
 
 returns-2 : tie.Need-returns-2
 unfolding brakeAnswer brakeOutput
-returns-2 c = let g = c .before .before .before .before .before .before .before .before .before .before .before .before .before .args in let w = row-unsound binary64 (g .c) (tables (now (g .center)) (now (g .scale))) (now (g .out)) (either (c .before .before .before .before .before .before .before .before .all-finite .ensures) (c .before .before .before .before .before .before .before .all-finite2 .ensures)) (brakeSent binary64 (g .c) (now (g .pos)) (now (g .vel))) (brake-judged binary64 (g .c) (now (g .pos)) (now (g .vel)) (tables (now (g .center)) (now (g .scale))) (length (now (g .out)))) (sym (c .before .before .before .before .before .before .row-refusal .ensures _ (compiled-number (c .before .before .before .before .before .before .before .before .before .compile .ensures))) ∙ c .before .before .before .before .before .if1 .left) (brake-is-sent binary64 (g .c) (now (g .pos)) (now (g .vel)) (c .before .before .before .before .workspace-of .ensures ∙ ap workspaceFrom (compiled-derived (c .before .before .before .before .before .before .before .before .before .compile .ensures))) (c .before .before .before .brake-row .ensures)) (not-true _ (c .before .if2 .taken)) (c .of2 .ensures) in (w .gives, w .leaves)
+returns-2 c = let g = c .before .before .before .before .before .before .before .before .before .before .before .before .before .args in let w = row-unsound binary64 (g .c) (tables (now (g .center)) (now (g .scale))) (now (g .out)) (either (c .before .before .before .before .before .before .before .before .all-finite .ensures) (c .before .before .before .before .before .before .before .all-finite2 .ensures)) (brakeSent binary64 (g .c) (now (g .pos)) (now (g .vel))) (sent.Done (masksSent binary64 (g .c) (now (g .pos)))) (brake-judged binary64 (g .c) (now (g .pos)) (now (g .vel)) (tables (now (g .center)) (now (g .scale))) (length (now (g .out)))) (sym (c .before .before .before .before .before .before .row-refusal .ensures _ (compiled-number (c .before .before .before .before .before .before .before .before .before .compile .ensures))) ∙ c .before .before .before .before .before .if1 .left) (brake-is-sent binary64 (g .c) (now (g .pos)) (now (g .vel)) (c .before .before .before .before .workspace-of .ensures ∙ ap workspaceFrom (compiled-derived (c .before .before .before .before .before .before .before .before .before .compile .ensures))) (c .before .before .before .brake-row .ensures)) (not-true _ (c .before .if2 .taken)) (c .of2 .ensures) in (w .gives, w .leaves)
 
 slice-aggregate-put : tie.Need-slice-aggregate-put
 slice-aggregate-put c = search needs
 
 put-requires : tie.Need-put-requires
 put-requires c κs = search needs
+
+sent-masks-requires : tie.Need-sent-masks-requires
+sent-masks-requires c κs = search needs
 
 same-length : tie.Need-same-length
 same-length c = search needs
@@ -64,7 +68,7 @@ long c = search needs
 
 returns-3 : tie.Need-returns-3
 unfolding brakeAnswer brakeOutput
-returns-3 c = let g = c .before .before .before .before .before .before .before .before .before .before .before .before .before .before .before .before .before .before .args in let w = row-done binary64 (g .c) (tables (now (g .center)) (now (g .scale))) (now (g .out)) (either (c .before .before .before .before .before .before .before .before .before .before .before .before .before .all-finite .ensures) (c .before .before .before .before .before .before .before .before .before .before .before .before .all-finite2 .ensures)) (brakeSent binary64 (g .c) (now (g .pos)) (now (g .vel))) (brake-judged binary64 (g .c) (now (g .pos)) (now (g .vel)) (tables (now (g .center)) (now (g .scale))) (length (now (g .out)))) (sym (c .before .before .before .before .before .before .before .before .before .before .before .row-refusal .ensures _ (compiled-number (c .before .before .before .before .before .before .before .before .before .before .before .before .before .before .compile .ensures))) ∙ c .before .before .before .before .before .before .before .before .before .before .if1 .left) (brake-is-sent binary64 (g .c) (now (g .pos)) (now (g .vel)) (c .before .before .before .before .before .before .before .before .before .workspace-of .ensures ∙ ap workspaceFrom (compiled-derived (c .before .before .before .before .before .before .before .before .before .before .before .before .before .before .compile .ensures))) (c .before .before .before .before .before .before .before .before .brake-row .ensures)) (not-false _ (c .before .before .before .before .before .before .if2 .left)) (long (c .before .before)) (c .before .before .put .ensures) in (w .gives, w .leaves)
+returns-3 c = let g = c .before .before .before .before .before .before .before .before .before .before .before .before .before .before .before .before .before .before .before .args in let walls = c .before .before .before .before .before .before .before .before .before .before .workspace-of .ensures ∙ ap workspaceFrom (compiled-derived (c .before .before .before .before .before .before .before .before .before .before .before .before .before .before .before .compile .ensures)) in let w = row-done binary64 (g .c) (tables (now (g .center)) (now (g .scale))) (now (g .out)) (either (c .before .before .before .before .before .before .before .before .before .before .before .before .before .before .all-finite .ensures) (c .before .before .before .before .before .before .before .before .before .before .before .before .before .all-finite2 .ensures)) (brakeSent binary64 (g .c) (now (g .pos)) (now (g .vel))) (sent.Done (masksSent binary64 (g .c) (now (g .pos)))) (brake-judged binary64 (g .c) (now (g .pos)) (now (g .vel)) (tables (now (g .center)) (now (g .scale))) (length (now (g .out)))) (sym (c .before .before .before .before .before .before .before .before .before .before .before .before .row-refusal .ensures _ (compiled-number (c .before .before .before .before .before .before .before .before .before .before .before .before .before .before .before .compile .ensures))) ∙ c .before .before .before .before .before .before .before .before .before .before .before .if1 .left) (brake-is-sent binary64 (g .c) (now (g .pos)) (now (g .vel)) walls (c .before .before .before .before .before .before .before .before .before .brake-row .ensures)) (not-false _ (c .before .before .before .before .before .before .before .if2 .left)) (long (c .before .before .before)) (c .before .before .before .put .ensures) (masks-are-sent binary64 (g .c) (now (g .pos)) walls (c .sent-masks .ensures)) in (w .gives, w .leaves)
 
 pub brake-action-spec : {M : Type 1} → statement M
 brake-action-spec =
@@ -82,5 +86,6 @@ brake-action-spec =
     returns-2
     slice-aggregate-put
     put-requires
+    sent-masks-requires
     same-length
     returns-3)

@@ -1,5 +1,7 @@
 -- `tier0::judge_action` meets its contract: each part is its rule's, and the speed's test tells of the step.
+use mathlib.Core.Path.{ap}
 use lib.Ieee.{binary64}
+use Rattle.checked.specs.declared.Test.{Test}
 use Rattle.checked.proofs.Copy.{all-padded}
 use Rattle.tier0.proofs.Steps.{judge-is}
 use borrow.Author.Needs.{needs}
@@ -33,8 +35,11 @@ trip-bits-requires c κs = search needs
 projection-requires : tie.Need-projection-requires
 projection-requires c κs = c .before .before .before .before .before .before .before .before .before .before .before .before .before .before .before .before .pre .0
 
+row-masks-requires : tie.Need-row-masks-requires
+row-masks-requires c κs = ap (λ (t : Test). t .holds) (c .before .before .before .before .before .before .before .before .before .out-of-box .ensures)
+
 returns : tie.Need-returns
-returns c = judge-is binary64 _ _ _ _ _ (c .before .before .before .before .before .before .before .before .before .before .before .before .before .before .before .before .before .slow-zone .ensures) (c .before .before .before .before .before .before .before .before .before .before .before .before .before .before .before .before .distance .ensures) (c .before .before .before .before .before .before .before .before .before .before .before .before .before .before .finite .ensures) (c .before .before .before .before .before .before .before .before .before .before .before .before .before .out-of-box .ensures) (c .before .before .before .before .before .before .before .before .before .before .before .before .out-of-reach .ensures) (all-padded _ (c .before .before .before .before .before .before .before .before .before .before .before .before .before .before .before .before .before .before .before .before .before .before .pre .0) (c .before .before .before .before .before .before .before .before .before .before .before .before .before .before .before .before .before .before .before .before .before .before .pre .1) (c .before .before .before .before .before .before .before .before .before .before .before .padded .ensures)) (c .before .before .before .before .before .before .before .before .before .before .armed .ensures) (c .before .before .before .before .before .before .trip-bits .ensures) (c .before .before .before .before .before .projection .ensures)
+returns c = judge-is binary64 _ _ _ _ _ (c .before .before .before .before .before .before .before .before .before .before .before .before .before .before .before .before .before .before .slow-zone .ensures) (c .before .before .before .before .before .before .before .before .before .before .before .before .before .before .before .before .before .distance .ensures) (c .before .before .before .before .before .before .before .before .before .before .before .before .before .before .before .finite .ensures) (c .before .before .before .before .before .before .before .before .before .before .before .before .before .before .out-of-box .ensures) (c .before .before .before .before .before .before .before .before .before .before .before .before .before .out-of-reach .ensures) (all-padded _ (c .before .before .before .before .before .before .before .before .before .before .before .before .before .before .before .before .before .before .before .before .before .before .before .pre .0) (c .before .before .before .before .before .before .before .before .before .before .before .before .before .before .before .before .before .before .before .before .before .before .before .pre .1) (c .before .before .before .before .before .before .before .before .before .before .before .before .padded .ensures)) (c .before .before .before .before .before .before .before .before .before .before .before .armed .ensures) (c .before .before .before .before .before .before .before .trip-bits .ensures) (c .before .before .before .before .before .before .projection .ensures) (c .before .before .before .before .row-masks .ensures)
 
 pub judge-action-spec : {M : Type 1} → statement M
-judge-action-spec = tie.close (tie.spec slow-zone-requires distance-requires finite-requires out-of-box-requires out-of-reach-requires padded-requires armed-requires trip-bits-requires projection-requires returns)
+judge-action-spec = tie.close (tie.spec slow-zone-requires distance-requires finite-requires out-of-box-requires out-of-reach-requires padded-requires armed-requires trip-bits-requires projection-requires row-masks-requires returns)

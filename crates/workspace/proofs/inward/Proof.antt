@@ -6,6 +6,7 @@ use borrow.Author.Needs.{needs}
 use lib.Ieee.{binary64}
 use Rattle.checked.specs.Each.{at, over}
 use Rattle.fmath.specs.Clamp.{clamped}
+use Rattle.fmath.specs.declared.Sided.{Sided}
 use Rattle.checked.proofs.Each.{over-more}
 use Rattle.workspace.specs.Of.{wallsOf}
 use Rattle.workspace.proofs.Gaps.{inward-is}
@@ -62,7 +63,7 @@ loop-again : tie.Need-loop-again Inv-loop μ-loop
 loop-again c =
     let l = c .before .before .before .before .loop in
     let s = c .before .before .before .before .before .before .args in
-    (omega arith, l .inv .1, over-more (λ (i : ℕ). clamped (at (s .t2) i) (at (s .t1 .lo) i) (at (s .t1 .hi) i)) (s .t2) (l .r) (l .j) _ (l .inv .2) (c .clamp .ensures))
+    (omega arith, l .inv .1, over-more (λ (i : ℕ). clamped (at (s .t2) i) (at (s .t1 .lo) i) (at (s .t1 .hi) i)) (s .t2) (l .r) (l .j) _ (l .inv .2) (ap (λ (s : Sided). s .value) (c .clamp .ensures)))
 
 returns : tie.Need-returns Inv-loop μ-loop
 returns c =

@@ -19,18 +19,18 @@ config-of-requires c κs = search needs
 brake-action-requires : tie.Need-brake-action-requires
 brake-action-requires c κs = search needs
 
-sent-requires : tie.Need-sent-requires
-sent-requires c κs = search needs
+put-sent-requires : tie.Need-put-sent-requires
+put-sent-requires c κs = search needs
 
 same-length : tie.Need-same-length
 same-length c = search needs
 
 returns-2 : tie.Need-returns-2
 returns-2 c =
-    let s = c .before .before .before .before .before .before .before .before .before .before .before .args in
-    sent-fits (not-false _ (c .before .before .before .before .before .before .if1 .left)) (c .before .before .before .before .before .before .before .counts-fit .ensures)
-    (brake-alike (tables (now (s .center)) (now (s .scale))) (now (s .pos)) (now (s .vel)) (now (s .out)) (c .before .before .before .brake-action .ensures) (c .before .before .before .before .before .config-of .ensures))
-    (c .sent .ensures)
+    let s = c .before .before .before .before .before .before .before .before .before .before .before .before .args in
+    sent-fits (not-false _ (c .before .before .before .before .before .before .before .if1 .left)) (c .before .before .before .before .before .before .before .before .counts-fit .ensures)
+    (brake-alike (tables (now (s .center)) (now (s .scale))) (now (s .pos)) (now (s .vel)) (now (s .out)) (c .before .before .before .before .brake-action .ensures) (c .before .before .before .before .before .before .config-of .ensures))
+    (c .put-sent .ensures)
 
 pub lictor-brake-action-spec : {M : Type 1} → statement M
 lictor-brake-action-spec =
@@ -40,6 +40,6 @@ lictor-brake-action-spec =
     returns
     config-of-requires
     brake-action-requires
-    sent-requires
+    put-sent-requires
     same-length
     returns-2)

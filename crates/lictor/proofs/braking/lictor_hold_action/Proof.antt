@@ -19,18 +19,18 @@ config-of-requires c κs = search needs
 hold-action-requires : tie.Need-hold-action-requires
 hold-action-requires c κs = search needs
 
-sent-requires : tie.Need-sent-requires
-sent-requires c κs = search needs
+put-sent-requires : tie.Need-put-sent-requires
+put-sent-requires c κs = search needs
 
 same-length : tie.Need-same-length
 same-length c = search needs
 
 returns-2 : tie.Need-returns-2
 returns-2 c =
-    let s = c .before .before .before .before .before .before .before .before .before .before .args in
-    sent-fits (not-false _ (c .before .before .before .before .before .before .if1 .left)) (c .before .before .before .before .before .before .before .counts-fit .ensures)
-    (hold-alike (tables (now (s .center)) (now (s .scale))) (now (s .pos)) (now (s .out)) (c .before .before .before .hold-action .ensures) (c .before .before .before .before .before .config-of .ensures))
-    (c .sent .ensures)
+    let s = c .before .before .before .before .before .before .before .before .before .before .before .args in
+    sent-fits (not-false _ (c .before .before .before .before .before .before .before .if1 .left)) (c .before .before .before .before .before .before .before .before .counts-fit .ensures)
+    (hold-alike (tables (now (s .center)) (now (s .scale))) (now (s .pos)) (now (s .out)) (c .before .before .before .before .hold-action .ensures) (c .before .before .before .before .before .before .config-of .ensures))
+    (c .put-sent .ensures)
 
 pub lictor-hold-action-spec : {M : Type 1} → statement M
 lictor-hold-action-spec =
@@ -40,6 +40,6 @@ lictor-hold-action-spec =
     returns
     config-of-requires
     hold-action-requires
-    sent-requires
+    put-sent-requires
     same-length
     returns-2)
