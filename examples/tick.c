@@ -1,9 +1,13 @@
-/* One control tick of a packing arm on a plane: from the position that was measured and the chunk that was planned to the
+/* One control tick of a packing arm over a table: from the position that was measured and the chunk that was planned to the
    row that goes to the motors. bindings/rust/examples/tick.rs is the same in Rust. */
 #include "lictor.h"
 
 #include <math.h>
 #include <stdio.h>
+
+/* two axes along the table, and its height; a chunk has four rows */
+#define AXES 3
+#define ROWS 4
 
 /* the window holds 3 ticks, and 2 hits stop the arm */
 #define PUSHES 3
@@ -21,7 +25,7 @@ struct guard {
 /* what was measured and what was planned at tick t, numbered from 1; this arm has no camera */
 struct measured {
     uint32_t t;
-    double pos[2], vel[2];
+    double pos[AXES], vel[AXES];
     struct lictor_chunk planned;
 };
 
@@ -34,7 +38,7 @@ static uint64_t configure(struct guard *g) {
     n->brake_k_p = 2.0, n->brake_k_v = 1.0, n->brake_dt = 0.5, n->tau = 0.25;
     for (int i = 0; i < 8; i++) n->norm_scale[i] = n->box_hi[i] = 1.0, n->box_lo[i] = -1.0;
     for (int i = 0; i < 192; i++) g->config.scale[i] = 1.0;
-    c->dim = c->pos_dim = 2, c->clamp = LICTOR_CLAMP_PROJECT, c->armed = LICTOR_TRIP_ALL;
+    c->dim = c->pos_dim = AXES, c->clamp = LICTOR_CLAMP_PROJECT, c->armed = LICTOR_TRIP_ALL;
     c->substeps = 2, c->commit = 1, c->brake_steps = 4, c->react_ticks = 1;
     c->calibrated = 1, c->mask = c->terms[0] = 1u << LICTOR_REACH, c->n_terms = 1, c->horizon_ticks = 200;
     lictor_tier1_new(LICTOR_TIER1_PARTS(&g->state));
@@ -45,8 +49,8 @@ static uint64_t configure(struct guard *g) {
 static uint64_t score(struct guard *g, const struct measured *m) {
     uint64_t bin, trips, mask, number;
     struct lictor_tier1 *s = &g->state;
-    if ((number = lictor_trail_push(s->trail, &s->samples, m->pos, 2, 2))) return number;
-    if ((number = lictor_guard_features(&g->config, s, m->pos, 2, NULL, 0, &m->planned, &g->scores, &g->marks))) return number;
+    if ((number = lictor_trail_push(s->trail, &s->samples, m->pos, AXES, AXES))) return number;
+    if ((number = lictor_guard_features(&g->config, s, m->pos, AXES, NULL, 0, &m->planned, &g->scores, &g->marks))) return number;
     if ((number = lictor_guard_time_bin(&g->config, m->t, &bin))) return number;
     if ((number = lictor_guard_standardise(&g->config, bin, &g->scores, &g->marks))) return number;
     if ((number = lictor_guard_aggregate(&g->config, &g->scores, &g->marks))) return number;
@@ -56,26 +60,40 @@ static uint64_t score(struct guard *g, const struct measured *m) {
     return LICTOR_ACCEPTED;
 }
 
+/* Writes to the log which axes the box stopped at which wall, in the chunk or in a row that brakes or holds. Axes are counted from 0, as the
+   masks' bits and the box's entries are: axis 2 is bit 2, and its high wall is box_hi[2] less the margin. */
+static void log_walls(uint32_t t, const char *what, uint64_t low_dims, uint64_t high_dims) {
+    for (unsigned axis = 0; axis < AXES; axis++) {
+        if (low_dims >> axis & 1) printf("tick %u: %s, axis %u at its low wall\n", (unsigned)t, what, axis);
+        if (high_dims >> axis & 1) printf("tick %u: %s, axis %u at its high wall\n", (unsigned)t, what, axis);
+    }
+}
+
 /* The row to send: the planned one where no limit trips, few of the last scores were hits, and the arm can still stop; else
    the one that brakes. Gives the number of a refusal. */
-static uint64_t tick(struct guard *g, const struct measured *m, const char **deed, double row[2]) {
+static uint64_t tick(struct guard *g, const struct measured *m, const char **deed, double row[AXES]) {
     struct lictor_check_marks found;
+    struct lictor_wall_marks walls;
     struct lictor_forecast_marks forecast;
     struct lictor_forecast_distances distances;
     struct lictor_chunk projected = m->planned;
-    double inside[8], speed;
+    double inside[ROWS * AXES], speed;
     uint64_t place, number;
     if ((number = score(g, m))) return number;
-    if ((number = lictor_guard_check_chunk(&g->config, m->pos, 2, NULL, 0, &m->planned, inside, 8, &found, &speed))) return number;
+    if ((number = lictor_guard_check_chunk(&g->config, m->pos, AXES, NULL, 0, &m->planned, inside, ROWS * AXES, &found, &speed)))
+        return number;
+    log_walls(m->t, "chunk", found.low_dims, found.high_dims);
     projected.rows = inside;
-    if ((number = lictor_guard_brake_feasible(&g->config, m->pos, 2, m->vel, 2, &projected, 0, g->slacks, 64, &forecast, &distances,
-                                              &place)))
+    if ((number = lictor_guard_brake_feasible(&g->config, m->pos, AXES, m->vel, AXES, &projected, 0, g->slacks, 64, &forecast,
+                                              &distances, &place)))
         return number;
     *deed = "follow";
-    if (found.trips == 0 && lictor_hits(g->window) < STOPS && forecast.feasible && lictor_guard_action(&projected, 0, row, 2) == 2)
+    if (found.trips == 0 && lictor_hits(g->window) < STOPS && forecast.feasible && lictor_guard_action(&projected, 0, row, AXES) == AXES)
         return LICTOR_ACCEPTED;
     *deed = "brake";
-    return lictor_guard_brake_action(&g->config, m->pos, 2, m->vel, 2, row, 2);
+    if ((number = lictor_guard_brake_action(&g->config, m->pos, AXES, m->vel, AXES, row, AXES, &walls))) return number;
+    log_walls(m->t, *deed, walls.low_dims, walls.high_dims);
+    return LICTOR_ACCEPTED;
 }
 
 /* Says why a call was refused, and gives its number. */
@@ -86,26 +104,34 @@ static uint64_t refused(const char *what, uint64_t number) {
 
 int main(void) {
     static struct guard g;
-    static const double first[6] = {0.125, 0.25, 0.25, 0.75, 0.75, 0.25}, step[6] = {0.125, 0.5, 0.125, 0.0, 0.0, 0.0};
-    const double pos[6] = {0.0, 0.125, 0.125, 0.25, 0.25, NAN}, vel[6] = {0.0, 0.25, 8.0, 0.0, 0.0, 0.0};
-    double last[2] = {0.0, 0.0};
+    /* each tick's position and speed along the first axis, and the rows of its chunk: where they start there, and their steps there and up */
+    const struct {
+        double pos, vel, first, step, up;
+    } ticks[] = {
+        {0.0, 0.0, 0.125, 0.125, 0.0}, {0.125, 0.25, 0.25, 0.5, 0.0}, {0.125, 8.0, 0.25, 0.125, 0.0}, {0.25, 0.0, 0.75, 0.0, 0.0},
+        {0.25, 0.0, 0.75, 0.0, 0.0},   {0.25, 0.0, 0.25, 0.0, 0.5},  {-1.25, 0.0, -1.0, 0.0, 0.0},   {NAN, 0.0, 0.25, 0.0, 0.0},
+    };
+    double last[AXES] = {0.0};
     if (!lictor_environment_ok()) {
         fputs("the processor does not round to nearest, or takes small numbers for 0\n", stderr);
         return 1;
     }
     if (refused("the configuration", configure(&g))) return 1;
-    for (uint32_t t = 1; t <= 6; t++) {
-        double rows[8] = {0.0}, row[2];
-        struct measured m = {t, {pos[t - 1], 0.0}, {vel[t - 1], 0.0}, {rows, 8, t, t, 4, 2, 1}};
+    for (uint32_t t = 1; t <= sizeof ticks / sizeof *ticks; t++) {
+        double rows[ROWS * AXES] = {0.0}, row[AXES];
+        struct measured m = {t, {ticks[t - 1].pos}, {ticks[t - 1].vel}, {rows, ROWS * AXES, t, t, ROWS, AXES, 1}};
         const char *deed = "";
-        for (int i = 0; i < 4; i++) rows[2 * i] = first[t - 1] + step[t - 1] * i;
+        for (int i = 0; i < ROWS; i++)
+            rows[AXES * i] = ticks[t - 1].first + ticks[t - 1].step * i, rows[AXES * i + 2] = ticks[t - 1].up * i;
         uint64_t number = tick(&g, &m, &deed, row);
         if (number == LICTOR_ACCEPTED) {
-            printf("tick %u: %s %g %g\n", (unsigned)t, deed, row[0], row[1]);
-            last[0] = row[0], last[1] = row[1];
+            printf("tick %u: %s %g %g %g\n", (unsigned)t, deed, row[0], row[1], row[2]);
+            for (int i = 0; i < AXES; i++) last[i] = row[i];
         } else {
-            if (refused("the row that holds", lictor_guard_hold_action(&g.config, last, 2, row, 2))) return 1;
-            printf("tick %u: refused with %u, hold %g %g\n", (unsigned)t, (unsigned)number, row[0], row[1]);
+            struct lictor_wall_marks walls;
+            if (refused("the row that holds", lictor_guard_hold_action(&g.config, last, AXES, row, AXES, &walls))) return 1;
+            log_walls(t, "hold", walls.low_dims, walls.high_dims);
+            printf("tick %u: refused with %u, hold %g %g %g\n", (unsigned)t, (unsigned)number, row[0], row[1], row[2]);
         }
     }
     return 0;

@@ -36,10 +36,10 @@
 /* ---- the version of this file, and so of the archive that it was installed with */
 
 #define LICTOR_VERSION_MAJOR 0
-#define LICTOR_VERSION_MINOR 3
+#define LICTOR_VERSION_MINOR 4
 #define LICTOR_VERSION_PATCH 0
-#define LICTOR_VERSION "0.3.0"
-/* for comparisons: LICTOR_VERSION_NUMBER >= 300 is 0.3.0 or later */
+#define LICTOR_VERSION "0.4.0"
+/* for comparisons: LICTOR_VERSION_NUMBER >= 400 is 0.4.0 or later */
 #define LICTOR_VERSION_NUMBER (LICTOR_VERSION_MAJOR * 10000 + LICTOR_VERSION_MINOR * 100 + LICTOR_VERSION_PATCH)
 
 /* ---- what a compiler is told: a result that is dropped and a null pointer are mistakes */
@@ -165,6 +165,11 @@ double lictor_max(double a, double b);
 /* lo where x < lo, hi where x > hi, else x */
 LICTOR_MUST_USE
 double lictor_clamp(double x, double lo, double hi);
+
+/* The same value, and which side it was moved to: side is -1 where it is raised to lo, 1 where it is lowered to hi, and 0 where it is
+   untouched, as at a NaN and, where lo is at most hi, on a limit (the two zeros are one). lo is tried first. Refuses nothing. */
+LICTOR_MUST_USE LICTOR_NOT_NULL
+double lictor_clamp_side(double x, double lo, double hi, int64_t *side);
 
 /* The root of x, to nearest. LICTOR_COMPUTED below zero, at an infinity and at a NaN. */
 LICTOR_MUST_USE LICTOR_NOT_NULL
@@ -336,9 +341,15 @@ uint64_t lictor_derive(const struct lictor_numbers *numbers, const struct lictor
    the armed limits, each by the box, the leash to the projected row before it and, the first row, the reach; under
    LICTOR_CLAMP_OFF it is the rows as they came. */
 
+/* Bit j of the last three is coordinate j, counted from 0. low_dims and high_dims tell of the box alone, row by row as it came: an axis may
+   have both, neither the leash nor the reach sets one, and one stays where they bring the coordinate back, which clamped_dims then may
+   not tell. They are cut at min(dim, pos_dim), and 0 under LICTOR_CLAMP_OFF and where LICTOR_TRIP_WORKSPACE is not armed. A row on its
+   wall sets none. */
 struct lictor_check_marks {
     uint64_t trips;        /* trip bits */
     uint64_t clamped_dims; /* a bit for each coordinate that was moved in any row */
+    uint64_t low_dims;     /* a bit for each axis that the box raised to its low wall in any row, as the row came */
+    uint64_t high_dims;    /* a bit for each axis that the box lowered to its high wall in any row, as the row came */
 };
 
 /* Checks a chunk from a position; aux is what the camera saw, and a slow zone whose channels it lacks is off. Writes the
@@ -486,21 +497,29 @@ uint64_t lictor_brake_feasible(const struct lictor_numbers *numbers, const struc
                                double *slacks, size_t slacks_count, struct lictor_forecast_marks *marks,
                                struct lictor_forecast_distances *distances, uint64_t *place);
 
-/* The row that brakes, over the first dim numbers of out: the position inside its box, or the velocity ramped down. A position
-   or velocity may be short: what is missing counts as 0. LICTOR_MISFIT, LICTOR_SIZE to LICTOR_WITHDRAWN, LICTOR_SHORT to
-   LICTOR_COMPUTED. */
+/* At which wall the position of a row that brakes or holds was stopped: bit j is coordinate j, counted from 0, of the first min(dim,
+   pos_dim). A position on its wall sets none, and what a short one lacks counts as 0. Both are 0 for LICTOR_EE_DELTA and
+   LICTOR_JOINT_VELOCITY; what is armed and the clamp code don't matter. */
+struct lictor_wall_marks {
+    uint64_t low_dims;  /* a bit for each axis that was raised to its low wall */
+    uint64_t high_dims; /* a bit for each axis that was lowered to its high wall */
+};
+
+/* The row that brakes, over the first dim numbers of out: the position inside its box, or the velocity ramped down; and the marks of
+   the walls that moved it. A position or velocity may be short: what is missing counts as 0. LICTOR_MISFIT, LICTOR_SIZE to
+   LICTOR_WITHDRAWN, LICTOR_SHORT to LICTOR_COMPUTED. */
 LICTOR_MUST_USE LICTOR_NOT_NULL
 uint64_t lictor_brake_action(const struct lictor_numbers *numbers, const struct lictor_counts *counts,
                              const double center[192], const double scale[192], const double *position,
                              size_t position_count, const double *velocity, size_t velocity_count, double *out,
-                             size_t out_count);
+                             size_t out_count, struct lictor_wall_marks *walls);
 
-/* The row that holds, over the first dim numbers of out: the latched position inside its box, or no velocity.
+/* The row that holds, over the first dim numbers of out: the latched position inside its box, or no velocity; and the marks likewise.
    LICTOR_MISFIT, LICTOR_SIZE to LICTOR_WITHDRAWN, LICTOR_SHORT to LICTOR_COMPUTED, the last never at a box. */
 LICTOR_MUST_USE LICTOR_NOT_NULL
 uint64_t lictor_hold_action(const struct lictor_numbers *numbers, const struct lictor_counts *counts,
                             const double center[192], const double scale[192], const double *position,
-                            size_t position_count, double *out, size_t out_count);
+                            size_t position_count, double *out, size_t out_count, struct lictor_wall_marks *walls);
 
 /* ---- guard forms: the entries that take a configuration, a calibration or a chunk, on one struct for each
 
@@ -671,21 +690,23 @@ static inline uint64_t lictor_guard_brake_feasible(const struct lictor_config *c
 LICTOR_MUST_USE
 static inline uint64_t lictor_guard_brake_action(const struct lictor_config *config, const double *position,
                                                  size_t position_count, const double *velocity, size_t velocity_count,
-                                                 double *out, size_t out_count) {
+                                                 double *out, size_t out_count, struct lictor_wall_marks *walls) {
     double none = 0.0;
     if (lictor_missing(position, position_count) || lictor_missing(velocity, velocity_count) || lictor_missing(out, out_count))
         return LICTOR_MISFIT;
     return lictor_brake_action(LICTOR_CONFIG_PARTS(config), lictor_lent(position), position_count, lictor_lent(velocity),
-                               velocity_count, out ? out : &none, out_count);
+                               velocity_count, out ? out : &none, out_count, walls);
 }
 
 /* lictor_hold_action */
 LICTOR_MUST_USE
 static inline uint64_t lictor_guard_hold_action(const struct lictor_config *config, const double *position,
-                                                size_t position_count, double *out, size_t out_count) {
+                                                size_t position_count, double *out, size_t out_count,
+                                                struct lictor_wall_marks *walls) {
     double none = 0.0;
     if (lictor_missing(position, position_count) || lictor_missing(out, out_count)) return LICTOR_MISFIT;
-    return lictor_hold_action(LICTOR_CONFIG_PARTS(config), lictor_lent(position), position_count, out ? out : &none, out_count);
+    return lictor_hold_action(LICTOR_CONFIG_PARTS(config), lictor_lent(position), position_count, out ? out : &none, out_count,
+                              walls);
 }
 
 /* ---- the structs have nothing between their fields */
@@ -700,11 +721,12 @@ LICTOR_ASSERT(lictor_trail_marks, 2);
 LICTOR_ASSERT(lictor_numbers, 44);
 LICTOR_ASSERT(lictor_counts, 26);
 LICTOR_ASSERT(lictor_derived, 29);
-LICTOR_ASSERT(lictor_check_marks, 2);
+LICTOR_ASSERT(lictor_check_marks, 4);
 LICTOR_ASSERT(lictor_held_marks, 2);
 LICTOR_ASSERT(lictor_tier1, 784);
 LICTOR_ASSERT(lictor_forecast_marks, 2);
 LICTOR_ASSERT(lictor_forecast_distances, 2);
+LICTOR_ASSERT(lictor_wall_marks, 2);
 LICTOR_ASSERT(lictor_scores, 25);
 LICTOR_ASSERT(lictor_marks, 2);
 LICTOR_ASSERT(lictor_config, 44 + 26 + 192 + 192);

@@ -11,6 +11,11 @@ pub fn numbers(n: usize) -> Vec<f64> {
     (0..n).map(|_| rng.unit()).collect()
 }
 
+/// Numbers in [-4, 4), about half of them beyond a wall of the box.
+pub fn about_the_walls(n: usize) -> Vec<f64> {
+    numbers(n).iter().map(|x| 8.0 * x - 4.0).collect()
+}
+
 pub fn chunk(dim: usize, data: &[f64]) -> ChunkView<'_> {
     let horizon = (data.len() / dim) as u16;
     ChunkView { seq: 1, t_emit: 1, horizon, dim: dim as u16, exec_steps: 1, data }

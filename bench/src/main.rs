@@ -70,7 +70,8 @@ fn main() {
     trail(&port);
     forecast(&port, 1);
     forecast(&port, 8);
-    check_chunk(&port);
+    check_chunk(&port, "check_chunk 64 x 8, all armed", &inputs::numbers(512));
+    check_chunk(&port, "check_chunk 64 x 8, rows outside", &inputs::about_the_walls(512));
     check_action(&port);
     features(&port, true);
     features(&port, false);
@@ -175,11 +176,12 @@ fn forecast(port: &Port, dim: usize) {
     line(&format!("forecast 4,096 substeps, axes: {dim}"), 10, Some(rust), ported);
 }
 
-fn check_chunk(port: &Port) {
+/// Everything armed. Beside the Rust's trips and moved axes the port gives the walls that stopped them.
+fn check_chunk(port: &Port, name: &str, data: &[f64]) {
     let cfg = inputs::all_armed(8);
     let raw = oracle::config(&cfg);
-    let (pos, aux, data) = (inputs::numbers(8), [0.5, 0.5], inputs::numbers(512));
-    let ch = inputs::chunk(8, &data);
+    let (pos, aux) = (inputs::numbers(8), [0.5, 0.5]);
+    let ch = inputs::chunk(8, data);
     let mut buf = oracle::rust::ChunkBuf::new();
     let rust = calls(100, || {
         tier0::check_chunk(black_box(&raw), oracle::obs(&pos, &aux, &[]), oracle::chunk_view(ch), &mut buf)
@@ -189,7 +191,7 @@ fn check_chunk(port: &Port) {
     let ported = port
         .check_chunk
         .map(|_| calls(100, move || lictor::tier0::check_chunk(black_box(&cfg), pos, aux, ch, &mut out)));
-    line("check_chunk 64 x 8, all armed", 100, Some(rust), ported);
+    line(name, 100, Some(rust), ported);
 }
 
 fn check_action(port: &Port) {

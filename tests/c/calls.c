@@ -4,6 +4,7 @@
 #include <inttypes.h>
 #include <math.h>
 #include <stdio.h>
+#include <string.h>
 
 static int failed;
 
@@ -15,12 +16,37 @@ static int failed;
         }                                                 \
     } while (0)
 
+/* lictor_clamp_side: the side, and bit for bit the value of lictor_clamp */
+static void sides(void) {
+    const struct {
+        double x, lo, hi;
+        int64_t side;
+    } cases[] = {
+        /* one step below each limit, on it, and one above */
+        {nextafter(1.0, 0.0), 1.0, 2.0, -1}, {1.0, 1.0, 2.0, 0}, {nextafter(1.0, 2.0), 1.0, 2.0, 0},
+        {nextafter(2.0, 1.0), 1.0, 2.0, 0}, {2.0, 1.0, 2.0, 0}, {nextafter(2.0, 3.0), 1.0, 2.0, 1},
+        /* a zero of either sign on a zero limit */
+        {-0.0, 0.0, 1.0, 0}, {0.0, -0.0, 1.0, 0}, {0.0, -1.0, -0.0, 0}, {-0.0, -1.0, 0.0, 0},
+        {-0x1p-1074, 0.0, 1.0, -1}, {0x1p-1074, -1.0, -0.0, 1},
+        {INFINITY, 1.0, 2.0, 1}, {-INFINITY, 1.0, 2.0, -1}, {INFINITY, 1.0, INFINITY, 0}, {NAN, 1.0, 2.0, 0}, {1.0, NAN, NAN, 0},
+        /* crossed limits: the low one is tried first */
+        {2.0, 3.0, 1.0, -1}, {3.0, 3.0, 1.0, 1}, {5.0, 3.0, 1.0, 1},
+    };
+    for (size_t i = 0; i < sizeof cases / sizeof *cases; i++) {
+        int64_t side = 7;
+        double given = lictor_clamp_side(cases[i].x, cases[i].lo, cases[i].hi, &side), due = lictor_clamp(cases[i].x, cases[i].lo, cases[i].hi);
+        EXPECT(side == cases[i].side && memcmp(&given, &due, sizeof given) == 0);
+        EXPECT(side != 0 || memcmp(&given, &cases[i].x, sizeof given) == 0);
+    }
+}
+
 static void numbers(void) {
     double r = 7.0;
     const double v[3] = {3.0, 4.0, INFINITY};
     EXPECT(lictor_min(1.0, 2.0) == 1.0);
     EXPECT(lictor_max(1.0, 2.0) == 2.0);
     EXPECT(lictor_clamp(3.0, 0.0, 2.0) == 2.0);
+    sides();
     EXPECT(lictor_sqrt(25.0, &r) == LICTOR_ACCEPTED && r == 5.0);
     EXPECT(lictor_sqrt(-1.0, &r) == LICTOR_COMPUTED && r == 5.0);
     EXPECT(lictor_norm(v, 2, 2, &r) == LICTOR_ACCEPTED && r == 5.0);
@@ -262,7 +288,7 @@ static void held_widths(void) {
 static void checks(void) {
     struct lictor_numbers n = {0};
     struct lictor_counts c = {0};
-    struct lictor_check_marks m = {7, 7};
+    struct lictor_check_marks m = {7, 7, 7, 7};
     const double origin[2] = {0.0, 0.0}, far[2] = {6.0, 8.0}, near[2] = {3.0, 4.0};
     const double short_of = 1.0 - 1.0 / 68719476736.0;
     double out[3] = {7.0, 7.0, 7.0}, speed = 7.0;
@@ -273,6 +299,8 @@ static void checks(void) {
 #define ACTION(row) lictor_check_action(&n, &c, center, scale, origin, 2, origin, 0, origin, 2, row, 2, out, 3, &m, &speed)
     EXPECT(CHUNK(far) == LICTOR_ACCEPTED && m.trips == LICTOR_TRIP_SPEED && m.clamped_dims == 3 && speed == 10.0);
     EXPECT(out[0] == 3.0 * short_of && out[1] == 4.0 * short_of && out[2] == 7.0);
+    /* the leash sets neither mask */
+    EXPECT(m.low_dims == 0 && m.high_dims == 0);
     EXPECT(CHUNK(near) == LICTOR_ACCEPTED && m.trips == 0 && m.clamped_dims == 0 && speed == 5.0);
     EXPECT(out[0] == 3.0 && out[1] == 4.0 && out[2] == 7.0);
     EXPECT(ACTION(far) == LICTOR_ACCEPTED && m.trips == LICTOR_TRIP_SPEED && m.clamped_dims == 3 && speed == 10.0);
@@ -285,6 +313,42 @@ static void checks(void) {
     n.norm_scale[2] = 1.0;
     EXPECT(CHUNK(far) == LICTOR_WIDTH && ACTION(far) == LICTOR_SHORT && out[0] == 3.0 && m.trips == 0 && speed == 5.0);
 #undef CHUNK
+#undef ACTION
+}
+
+/* three axes, of which the position has two; walls at -1 and 1, the margin being taken off: the sides of the box move, row by row as it came */
+static void walls(void) {
+    struct lictor_numbers n = {0};
+    struct lictor_counts c = {0};
+    struct lictor_check_marks m = {7, 7, 7, 7};
+    /* the first axis beyond its high wall, then its low one; the second on each; the third has no box */
+    const double origin[3] = {0.0, 0.0, 0.0}, rows[6] = {1.25, 1.0, 9.0, -1.25, -1.0, -9.0}, low[3] = {-2.0, 0.0, 0.0};
+    double out[6], speed;
+    n.dt = n.v_max = n.a_max = n.j_max = n.reach_max = n.brake_k_v = n.brake_dt = 1.0;
+    for (int i = 0; i < 3; i++) n.norm_scale[i] = 1.0, n.box_lo[i] = -1.5, n.box_hi[i] = 1.5;
+    n.margin = 0.5;
+    c.dim = 3, c.pos_dim = 2, c.substeps = 1, c.clamp = LICTOR_CLAMP_PROJECT, c.armed = LICTOR_TRIP_WORKSPACE;
+#define CHUNK(room) lictor_check_chunk(&n, &c, center, scale, origin, 2, origin, 0, rows, 6, 2, 3, 1, out, room, &m, &speed)
+#define ALONE(row, from) lictor_check_chunk(&n, &c, center, scale, from, 2, origin, 0, row, 3, 1, 3, 1, out, 3, &m, &speed)
+#define ACTION(row, from) lictor_check_action(&n, &c, center, scale, from, 2, origin, 0, from, 3, row, 3, out, 3, &m, &speed)
+    EXPECT(CHUNK(6) == LICTOR_ACCEPTED && m.trips == LICTOR_TRIP_WORKSPACE && m.clamped_dims == 1 && m.low_dims == 1 && m.high_dims == 1);
+    EXPECT(out[0] == 1.0 && out[3] == -1.0 && out[2] == 9.0);
+    EXPECT(ACTION(rows, origin) == LICTOR_ACCEPTED && m.low_dims == 0 && m.high_dims == 1);
+    EXPECT(ACTION(rows + 3, origin) == LICTOR_ACCEPTED && m.low_dims == 1 && m.high_dims == 0);
+    /* a refusal leaves the marks */
+    EXPECT(CHUNK(5) == LICTOR_SHORT && m.trips == LICTOR_TRIP_WORKSPACE && m.clamped_dims == 1 && m.low_dims == 1 && m.high_dims == 0);
+    /* a leash so short that it brings the coordinate back to where it was */
+    c.armed = LICTOR_TRIP_WORKSPACE | LICTOR_TRIP_SPEED, n.v_max = 0x1p-60;
+    EXPECT(ACTION(low, low) == LICTOR_ACCEPTED && out[0] == -2.0 && m.clamped_dims == 0 && m.low_dims == 1 && m.high_dims == 0);
+    EXPECT(ALONE(low, low) == LICTOR_ACCEPTED && out[0] == -2.0 && m.clamped_dims == 0 && m.low_dims == 1 && m.high_dims == 0);
+    /* neither where the box is not armed, nor where nothing is moved */
+    c.armed = LICTOR_TRIP_ALL - LICTOR_TRIP_WORKSPACE;
+    EXPECT(CHUNK(6) == LICTOR_ACCEPTED && m.clamped_dims != 0 && m.low_dims == 0 && m.high_dims == 0);
+    c.armed = LICTOR_TRIP_ALL, c.clamp = LICTOR_CLAMP_OFF, m.low_dims = m.high_dims = 7;
+    EXPECT(CHUNK(6) == LICTOR_ACCEPTED && m.trips & LICTOR_TRIP_WORKSPACE && m.low_dims == 0 && m.high_dims == 0);
+    EXPECT(ACTION(rows, origin) == LICTOR_ACCEPTED && m.trips & LICTOR_TRIP_WORKSPACE && m.low_dims == 0 && m.high_dims == 0);
+#undef CHUNK
+#undef ALONE
 #undef ACTION
 }
 
@@ -338,7 +402,8 @@ static void brakes(void) {
     struct lictor_counts c = {0};
     struct lictor_forecast_marks m = {7, 7};
     struct lictor_forecast_distances r = {7.0, 7.0};
-    const double still[1] = {0.0}, rows[4] = {1.0, 1.0, 1.0, 1.0}, far[1] = {5.0};
+    struct lictor_wall_marks w = {7, 7};
+    const double still[1] = {0.0}, rows[4] = {1.0, 1.0, 1.0, 1.0}, far[1] = {5.0}, beyond[2] = {5.0, 5.0};
     double slacks[5] = {7.0, 7.0, 7.0, 7.0, 7.0}, out[2] = {7.0, 7.0};
     uint64_t place = 7;
     n.dt = n.v_max = n.a_max = n.j_max = n.reach_max = n.norm_scale[0] = 1.0;
@@ -358,12 +423,31 @@ static void brakes(void) {
     n.brake_k_p = 1e308;
     EXPECT(FORECAST(0, 5) == LICTOR_COMPUTED && place == 2 && m.count == 0 && slacks[0] < -1e307 && slacks[1] == 0.25);
 #undef FORECAST
-    EXPECT(lictor_brake_action(&n, &c, center, scale, far, 1, still, 1, out, 2) == LICTOR_ACCEPTED && out[0] == 1.25 && out[1] == 7.0);
-    EXPECT(lictor_hold_action(&n, &c, center, scale, still, 0, out, 2) == LICTOR_ACCEPTED && out[0] == 0.0 && out[1] == 7.0);
-    c.kind = LICTOR_JOINT_VELOCITY;
-    EXPECT(lictor_brake_action(&n, &c, center, scale, still, 1, far, 1, out, 0) == LICTOR_SHORT && out[0] == 0.0);
+#define BRAKE(pos, count, room) lictor_brake_action(&n, &c, center, scale, pos, count, still, 1, out, room, &w)
+#define HOLD(pos, count, room) lictor_hold_action(&n, &c, center, scale, pos, count, out, room, &w)
+    EXPECT(BRAKE(far, 1, 2) == LICTOR_ACCEPTED && out[0] == 1.25 && out[1] == 7.0 && w.low_dims == 0 && w.high_dims == 1);
+    EXPECT(HOLD(still, 0, 2) == LICTOR_ACCEPTED && out[0] == 0.0 && out[1] == 7.0 && w.low_dims == 0 && w.high_dims == 0);
+    /* a position that is missing counts as 0, below a low wall above 0 */
+    n.box_lo[0] = 0.5;
+    EXPECT(HOLD(still, 0, 2) == LICTOR_ACCEPTED && out[0] == 0.5 && w.low_dims == 1 && w.high_dims == 0);
+    EXPECT(BRAKE(far, 0, 2) == LICTOR_ACCEPTED && out[0] == 0.5 && w.low_dims == 1 && w.high_dims == 0);
+    /* a touched wall sets no bit */
+    EXPECT(HOLD(&n.box_hi[0], 1, 2) == LICTOR_ACCEPTED && out[0] == 1.25 && w.low_dims == 0 && w.high_dims == 0);
+    /* an axis past pos_dim is moved to 0 and sets none */
+    c.dim = 2, n.norm_scale[1] = 1.0;
+    EXPECT(HOLD(beyond, 2, 2) == LICTOR_ACCEPTED && out[0] == 1.25 && out[1] == 0.0 && w.low_dims == 0 && w.high_dims == 1);
+    EXPECT(BRAKE(beyond, 2, 2) == LICTOR_ACCEPTED && out[0] == 1.25 && out[1] == 0.0 && w.low_dims == 0 && w.high_dims == 1);
+    /* a refusal leaves them, and a velocity kind clears them */
+    w.low_dims = w.high_dims = UINT64_MAX, c.dim = 1, c.kind = LICTOR_JOINT_VELOCITY;
+    EXPECT(BRAKE(far, 1, 0) == LICTOR_SHORT && out[0] == 1.25 && w.low_dims == UINT64_MAX && w.high_dims == UINT64_MAX);
     c.kind = 5;
-    EXPECT(lictor_hold_action(&n, &c, center, scale, far, 1, out, 2) == LICTOR_MISFIT && out[0] == 0.0);
+    EXPECT(HOLD(far, 1, 2) == LICTOR_MISFIT && out[0] == 1.25 && w.low_dims == UINT64_MAX && w.high_dims == UINT64_MAX);
+    c.kind = LICTOR_EE_DELTA;
+    EXPECT(BRAKE(far, 1, 2) == LICTOR_ACCEPTED && out[0] == 0.0 && w.low_dims == 0 && w.high_dims == 0);
+    w.low_dims = w.high_dims = UINT64_MAX, c.kind = LICTOR_JOINT_VELOCITY;
+    EXPECT(HOLD(far, 1, 2) == LICTOR_ACCEPTED && out[0] == 0.0 && w.low_dims == 0 && w.high_dims == 0);
+#undef BRAKE
+#undef HOLD
 }
 
 /* the scope document: z (2,1), terms {0,1} and {0}: s = 2; tau 2 doesn't trip */
@@ -413,6 +497,7 @@ int main(void) {
     widths();
     held_widths();
     checks();
+    walls();
     features();
     brakes();
     gate();

@@ -55,6 +55,7 @@ struct tick {
     struct lictor_scores scores;
     struct lictor_marks marks;
     struct lictor_check_marks found;
+    struct lictor_wall_marks walls;
     struct lictor_forecast_marks forecast;
     struct lictor_forecast_distances distances;
     struct lictor_derived derived;
@@ -74,6 +75,8 @@ static const uint32_t terms[8] = {3, 60};
 static void forms(void) {
     static struct tick a, b;
     int refusals = 0;
+    const struct lictor_wall_marks none = {0, 0};
+    uint64_t stopped = 0;
     lictor_tier1_new(LICTOR_TIER1_PARTS(&a.state));
     for (uint32_t t = 0; t < 2000; t++) {
         struct lictor_config c = arm();
@@ -81,6 +84,7 @@ static void forms(void) {
         const size_t from = below(4), i = below(7), pos = AXES - (below(30) == 0), aux = below(3), ext = below(5);
         draw(a.pos, AXES), draw(a.vel, AXES), draw(a.aux, 2), draw(a.ext, 4), draw(a.rows, ROWS * AXES), draw(a.previous, AXES);
         c.counts.brake = below(5), c.counts.kind = below(5), c.counts.contact = below(2), c.counts.clamp = below(2);
+        c.numbers.margin = below(2) ? 1.5 : 0.0;
         if (below(30) == 0) chunk.exec_steps = 9;
         if (below(30) == 0) a.rows[4] = NAN;
         if (below(30) == 0) c.numbers.margin = -1.0;
@@ -109,17 +113,20 @@ static void forms(void) {
         SAME(lictor_brake_feasible(PARTS, a.pos, pos, a.vel, AXES, a.rows, ROWS * AXES, ROWS, AXES, chunk.exec_steps, from, a.slacks,
                                    64, &a.forecast, &a.distances, &a.place),
              lictor_guard_brake_feasible(&c, a.pos, pos, a.vel, AXES, &chunk, from, b.slacks, 64, &b.forecast, &b.distances, &b.place));
-        SAME(lictor_brake_action(PARTS, a.pos, pos, a.vel, AXES, a.row, AXES),
-             lictor_guard_brake_action(&c, a.pos, pos, a.vel, AXES, b.row, AXES));
-        SAME(lictor_hold_action(PARTS, a.pos, pos, a.row, AXES), lictor_guard_hold_action(&c, a.pos, pos, b.row, AXES));
+        a.walls = b.walls = none;
+        SAME(lictor_brake_action(PARTS, a.pos, pos, a.vel, AXES, a.row, AXES, &a.walls),
+             lictor_guard_brake_action(&c, a.pos, pos, a.vel, AXES, b.row, AXES, &b.walls));
+        stopped |= a.walls.low_dims | a.walls.high_dims << AXES;
+        a.walls = b.walls = none;
+        SAME(lictor_hold_action(PARTS, a.pos, pos, a.row, AXES, &a.walls), lictor_guard_hold_action(&c, a.pos, pos, b.row, AXES, &b.walls));
         a.length = lictor_action(a.rows, ROWS * AXES, ROWS, AXES, i, a.row, AXES);
         b.length = lictor_guard_action(&chunk, i, b.row, AXES);
         SAME(0, 0);
 #undef PARTS
 #undef GATE
     }
-    /* the draws reach refused calls too, and not those alone */
-    EXPECT(refusals > 500 && refusals < 12000);
+    /* the draws reach refused calls too, and not those alone; a brake is stopped at each wall */
+    EXPECT(refusals > 500 && refusals < 12000 && stopped == (1 << 2 * AXES) - 1);
 }
 
 /* No numbers are a null pointer with a count of 0; with any other count nothing is written, and LICTOR_MISFIT given. */
@@ -159,14 +166,14 @@ static void nulls(void) {
     EXPECT(FORECAST(a.pos, AXES, a.vel, AXES, &chunk, NULL, 64) == LICTOR_MISFIT);
     EXPECT(FORECAST(NULL, 0, NULL, 0, &chunk, NULL, 0) == LICTOR_SHORT);
     EXPECT(FORECAST(a.pos, AXES, a.vel, AXES, &chunk, NULL, 0) == LICTOR_SHORT);
-    EXPECT(lictor_guard_hold_action(&c, a.pos, AXES, NULL, 0) == LICTOR_SHORT);
+    EXPECT(lictor_guard_hold_action(&c, a.pos, AXES, NULL, 0, &a.walls) == LICTOR_SHORT);
     EXPECT(lictor_lent(NULL) == LICTOR_NONE && lictor_lent(a.pos) == a.pos);
-    EXPECT(lictor_guard_brake_action(&c, NULL, 1, a.vel, AXES, a.row, AXES) == LICTOR_MISFIT);
-    EXPECT(lictor_guard_brake_action(&c, a.pos, AXES, NULL, 1, a.row, AXES) == LICTOR_MISFIT);
-    EXPECT(lictor_guard_brake_action(&c, a.pos, AXES, a.vel, AXES, NULL, 1) == LICTOR_MISFIT);
-    EXPECT(lictor_guard_brake_action(&c, NULL, 0, NULL, 0, NULL, 0) == LICTOR_SHORT);
-    EXPECT(lictor_guard_hold_action(&c, NULL, 1, a.row, AXES) == LICTOR_MISFIT);
-    EXPECT(lictor_guard_hold_action(&c, a.pos, AXES, NULL, 1) == LICTOR_MISFIT);
+    EXPECT(lictor_guard_brake_action(&c, NULL, 1, a.vel, AXES, a.row, AXES, &a.walls) == LICTOR_MISFIT);
+    EXPECT(lictor_guard_brake_action(&c, a.pos, AXES, NULL, 1, a.row, AXES, &a.walls) == LICTOR_MISFIT);
+    EXPECT(lictor_guard_brake_action(&c, a.pos, AXES, a.vel, AXES, NULL, 1, &a.walls) == LICTOR_MISFIT);
+    EXPECT(lictor_guard_brake_action(&c, NULL, 0, NULL, 0, NULL, 0, &a.walls) == LICTOR_SHORT);
+    EXPECT(lictor_guard_hold_action(&c, NULL, 1, a.row, AXES, &a.walls) == LICTOR_MISFIT);
+    EXPECT(lictor_guard_hold_action(&c, a.pos, AXES, NULL, 1, &a.walls) == LICTOR_MISFIT);
     EXPECT(lictor_guard_action(&lost, 0, a.row, AXES) == 0 && lictor_guard_action(&without, 0, a.row, AXES) == 0);
     EXPECT(lictor_guard_action(&chunk, 0, NULL, AXES) == 0 && lictor_guard_action(&chunk, 0, NULL, 0) == AXES);
     EXPECT(memcmp(&a, &b, sizeof a) == 0);
@@ -175,9 +182,9 @@ static void nulls(void) {
     EXPECT(ACTION(a.pos, AXES, NULL, 0, a.previous, AXES, a.rows, AXES, a.row, AXES) == LICTOR_ACCEPTED);
     EXPECT(FEATURES(NULL, 0, NULL, 0, &chunk) == LICTOR_ACCEPTED && FEATURES(NULL, 0, NULL, 0, NULL) == LICTOR_ACCEPTED);
     a.row[0] = 7.0;
-    EXPECT(lictor_guard_brake_action(&c, NULL, 0, NULL, 0, a.row, AXES) == LICTOR_ACCEPTED && a.row[0] == 0.0);
+    EXPECT(lictor_guard_brake_action(&c, NULL, 0, NULL, 0, a.row, AXES, &a.walls) == LICTOR_ACCEPTED && a.row[0] == 0.0);
     a.row[0] = 7.0;
-    EXPECT(lictor_guard_hold_action(&c, NULL, 0, a.row, AXES) == LICTOR_ACCEPTED && a.row[0] == 0.0);
+    EXPECT(lictor_guard_hold_action(&c, NULL, 0, a.row, AXES, &a.walls) == LICTOR_ACCEPTED && a.row[0] == 0.0);
     c.counts.commit = c.counts.brake_steps = 0;
     EXPECT(FORECAST(a.pos, AXES, a.vel, AXES, &chunk, NULL, 0) == LICTOR_ACCEPTED && a.forecast.count == 0);
     /* the entries' own constant for it */
@@ -232,9 +239,12 @@ static void arming(void) {
     for (int i = 0; i < ROWS * AXES; i++) a.rows[i] = i % 2 ? 9.0 : -9.0;
     EXPECT(lictor_guard_check_chunk(&c, a.pos, AXES, NULL, 0, &chunk, a.out, ROWS * AXES, &a.found, &a.speed) == LICTOR_ACCEPTED);
     EXPECT(a.found.trips == (LICTOR_TRIP_ALL & ~LICTOR_TRIP_CONTACT) && a.found.clamped_dims == 7);
+    /* 9 and -9 in turn, with three axes and five rows: each axis meets both walls */
+    EXPECT(a.found.low_dims == 7 && a.found.high_dims == 7);
     c.counts.armed = UINT32_MAX - LICTOR_TRIP_ALL;
     EXPECT(lictor_guard_check_chunk(&c, a.pos, AXES, NULL, 0, &chunk, a.out, ROWS * AXES, &a.found, &a.speed) == LICTOR_ACCEPTED);
-    EXPECT(a.found.trips == 0 && a.found.clamped_dims == 0 && memcmp(a.out, a.rows, sizeof a.out) == 0);
+    EXPECT(a.found.trips == 0 && a.found.clamped_dims == 0 && a.found.low_dims == 0 && a.found.high_dims == 0);
+    EXPECT(memcmp(a.out, a.rows, sizeof a.out) == 0);
 }
 
 /* Each number has a text of its own, and the version's parts agree. */
@@ -247,7 +257,7 @@ static void words(void) {
         for (uint64_t j = 0; known && j < i; j++) EXPECT(strcmp(lictor_refusal_text(i), lictor_refusal_text(j)) != 0);
     }
     snprintf(version, sizeof version, "%d.%d.%d", LICTOR_VERSION_MAJOR, LICTOR_VERSION_MINOR, LICTOR_VERSION_PATCH);
-    EXPECT(strcmp(version, LICTOR_VERSION) == 0 && LICTOR_VERSION_NUMBER >= 300);
+    EXPECT(strcmp(version, LICTOR_VERSION) == 0 && LICTOR_VERSION_NUMBER >= 400);
 }
 
 int main(void) {

@@ -51,11 +51,13 @@ static void forecast(void) {
 }
 
 static void brake(void) {
-    if (lictor_brake_action(&n, &c, center, scale, still, 8, still, 8, out, 8)) abort();
+    struct lictor_wall_marks walls;
+    if (lictor_brake_action(&n, &c, center, scale, still, 8, still, 8, out, 8, &walls)) abort();
 }
 
 static void hold(void) {
-    if (lictor_hold_action(&n, &c, center, scale, still, 8, out, 8)) abort();
+    struct lictor_wall_marks walls;
+    if (lictor_hold_action(&n, &c, center, scale, still, 8, out, 8, &walls)) abort();
 }
 
 static void derive(void) {

@@ -1,4 +1,4 @@
-//! One control tick of a packing arm on a plane: from the position that was measured and the chunk that was planned to the
+//! One control tick of a packing arm over a table: from the position that was measured and the chunk that was planned to the
 //! row that goes to the motors. `examples/tick.c` is the same in C.
 
 use lictor::{
@@ -11,6 +11,10 @@ use lictor::{
     window::{self, Window},
     Answer,
 };
+
+/// Two axes along the table, and its height; a chunk has four rows.
+const AXES: usize = 3;
+const ROWS: usize = 4;
 
 /// The window holds 3 ticks, and 2 hits stop the arm.
 const PUSHES: u8 = 3;
@@ -53,7 +57,7 @@ impl Guard {
             react_ticks: 1,
         };
         let config = Config::builder()
-            .axes(2)
+            .axes(AXES)
             .dt(0.5)
             .v_max(1.0)
             .a_max(4.0)
@@ -69,8 +73,8 @@ impl Guard {
 
     /// The row to send: the planned one where no limit trips, few of the last scores were hits, and the arm can still stop;
     /// else the one that brakes.
-    fn tick(&mut self, m: &Measured<'_>, planned: ChunkView<'_>) -> Answer<(&'static str, [f64; 2])> {
-        self.state.trail.push(m.pos, 2)?;
+    fn tick(&mut self, m: &Measured<'_>, planned: ChunkView<'_>) -> Answer<(&'static str, [f64; AXES])> {
+        self.state.trail.push(m.pos, AXES)?;
         tier1::features(&self.config, &mut self.state, m.pos, &[], Some(planned), &mut self.scores)?;
         let calibration = self.config.calibration().expect("the configuration has one");
         conformal::standardise(calibration, self.config.time_bin(m.t)?, &mut self.scores)?;
@@ -78,48 +82,70 @@ impl Guard {
         let hit = conformal::trip(calibration, &self.scores)?;
         self.window.push(hit, window::mask(PUSHES)?);
 
-        let (mut projected, mut row) = ([0.0; 8], [0.0; 2]);
+        let (mut projected, mut row) = ([0.0; ROWS * AXES], [0.0; AXES]);
         let found = tier0::check_chunk(&self.config, m.pos, &[], planned, &mut projected)?;
+        log_walls(m.t, "chunk", found.low_dims, found.high_dims);
         let rows = ChunkView { data: &projected, ..planned };
         let forecast = brake::brake_feasible(&self.config, m.pos, m.vel, rows, 0, &mut self.slacks)?;
         let calm = found.trips == 0 && self.window.hits() < STOPS && forecast.feasible;
         if calm && rows.action(0, &mut row) == row.len() {
             return Ok(("follow", row));
         }
-        brake::brake_action(&self.config, m.pos, m.vel, &mut row)?;
+        let walls = brake::brake_action(&self.config, m.pos, m.vel, &mut row)?;
+        log_walls(m.t, "brake", walls.low_dims, walls.high_dims);
         Ok(("brake", row))
     }
 }
 
-/// Four rows, from the first in equal steps along the first axis.
-fn straight(first: f64, step: f64) -> [f64; 8] {
-    [first, 0.0, first + step, 0.0, first + step * 2.0, 0.0, first + step * 3.0, 0.0]
+/// Writes to the log which axes the box stopped at which wall, in the chunk or in a row that brakes or holds. Axes are counted
+/// from 0, as the masks' bits and the box's entries are: axis 2 is bit 2, and its high wall is `box_hi[2]` less the margin.
+fn log_walls(t: u32, what: &str, low_dims: u32, high_dims: u32) {
+    for axis in 0..AXES {
+        for (dims, wall) in [(low_dims, "low"), (high_dims, "high")] {
+            if dims >> axis & 1 == 1 {
+                println!("tick {t}: {what}, axis {axis} at its {wall} wall");
+            }
+        }
+    }
+}
+
+/// The rows of a chunk: where they start along the first axis, and their steps there and up.
+fn straight(first: f64, step: f64, up: f64) -> [f64; ROWS * AXES] {
+    let mut rows = [0.0; ROWS * AXES];
+    for (row, i) in rows.chunks_mut(AXES).zip([0.0, 1.0, 2.0, 3.0]) {
+        row.copy_from_slice(&[first + step * i, 0.0, up * i]);
+    }
+    rows
 }
 
 fn main() -> Answer<()> {
     assert!(lictor::environment_ok(), "the processor does not round to nearest, or takes small numbers for 0");
     let mut guard = Guard::new()?;
-    let mut last = [0.0; 2];
-    let plans = [
-        (straight(0.125, 0.125), [0.0, 0.0], 0.0),
-        (straight(0.25, 0.5), [0.125, 0.0], 0.25),
-        (straight(0.25, 0.125), [0.125, 0.0], 8.0),
-        (straight(0.75, 0.0), [0.25, 0.0], 0.0),
-        (straight(0.75, 0.0), [0.25, 0.0], 0.0),
-        (straight(0.25, 0.0), [f64::NAN, 0.0], 0.0),
+    let mut last = [0.0; AXES];
+    // each tick's position and speed along the first axis, and its chunk
+    let ticks = [
+        (0.0, 0.0, straight(0.125, 0.125, 0.0)),
+        (0.125, 0.25, straight(0.25, 0.5, 0.0)),
+        (0.125, 8.0, straight(0.25, 0.125, 0.0)),
+        (0.25, 0.0, straight(0.75, 0.0, 0.0)),
+        (0.25, 0.0, straight(0.75, 0.0, 0.0)),
+        (0.25, 0.0, straight(0.25, 0.0, 0.5)),
+        (-1.25, 0.0, straight(-1.0, 0.0, 0.0)),
+        (f64::NAN, 0.0, straight(0.25, 0.0, 0.0)),
     ];
-    for (t, (data, pos, vel)) in (1..).zip(&plans) {
-        let measured = Measured { t, pos, vel: &[*vel, 0.0] };
-        let planned = ChunkView::new(t, t, 2, 1, data);
+    for (t, (pos, vel, data)) in (1..).zip(&ticks) {
+        let measured = Measured { t, pos: &[*pos, 0.0, 0.0], vel: &[*vel, 0.0, 0.0] };
+        let planned = ChunkView::new(t, t, 3, 1, data);
         match guard.tick(&measured, planned) {
             Ok((deed, row)) => {
                 last = row;
-                println!("tick {t}: {deed} {} {}", row[0], row[1]);
+                println!("tick {t}: {deed} {} {} {}", row[0], row[1], row[2]);
             }
             Err(refusal) => {
-                let mut row = [0.0; 2];
-                brake::hold_action(&guard.config, &last, &mut row)?;
-                println!("tick {t}: refused with {}, hold {} {}", refusal.number(), row[0], row[1]);
+                let mut row = [0.0; AXES];
+                let walls = brake::hold_action(&guard.config, &last, &mut row)?;
+                log_walls(t, "hold", walls.low_dims, walls.high_dims);
+                println!("tick {t}: refused with {}, hold {} {} {}", refusal.number(), row[0], row[1], row[2]);
             }
         }
     }

@@ -20,6 +20,24 @@ pub struct BrakeOut {
     pub stop_dist: f64,
 }
 
+/// At which wall the position of a row that brakes or holds was stopped. Bit j is coordinate j, counted from 0, of the first
+/// min(dim, `pos_dim`): an axis past `pos_dim` sets none, though its box of 0..0 may move it. A position that touches its wall sets
+/// none, and what a short one lacks counts as 0. Both are 0 for the velocity kinds, `EeDelta` and `JointVelocity`; what is armed and the
+/// clamp mode do not matter.
+#[derive(Clone, Copy, Debug, Default, PartialEq, Eq)]
+pub struct WallMarks {
+    /// A bit for each axis that was raised to its low wall.
+    pub low_dims: u32,
+    /// A bit for each axis that was lowered to its high wall.
+    pub high_dims: u32,
+}
+
+impl WallMarks {
+    fn of(marks: [u64; 2]) -> Self {
+        Self { low_dims: marks[0] as u32, high_dims: marks[1] as u32 }
+    }
+}
+
 /// Forecasts from row `from` of a chunk through the committed rows and the braking after them. The slacks are written in
 /// order over the first `count` numbers of `slacks`. Where it is refused with 13, the slacks before the refusal's place are
 /// written.
@@ -81,19 +99,25 @@ pub fn brake_feasible(
     given_at(number, place, BrakeOut { count: marks[0] as usize, margin, feasible: marks[1] == 1, stop_dist })
 }
 
-/// The row that brakes, over the first dim numbers of `out`: the position inside its box, or the velocity ramped down. A short
-/// position or velocity counts as 0 past its end.
+/// The row that brakes, over the first dim numbers of `out`: the position inside its box, or the velocity ramped down. Gives the walls
+/// that stopped it. A short position or velocity counts as 0 past its end.
 ///
 /// ```
 /// # use lictor::config::{BrakeKind, BrakeModel, Config};
 /// # let brake = BrakeModel {
 /// #     kind: BrakeKind::PdSecondOrder, k_p: 2.0, k_v: 1.0, dt: 0.5, substeps: 2, commit: 1, brake_steps: 1, react_ticks: 1,
 /// # };
-/// # let builder = Config::builder().axes(1).dt(1.0).v_max(1.0).a_max(9.0).j_max(9.0).reach_max(99.0).brake(brake);
+/// # let builder = Config::builder().axes(3).dt(1.0).v_max(1.0).a_max(9.0).j_max(9.0).reach_max(99.0).brake(brake);
+/// # use lictor::config::ActionKind;
 /// let config = builder.walls([-1.0; 8], [1.0; 8]).build()?;
-/// let mut row = [0.0];
-/// lictor::brake::brake_action(&config, &[5.0], &[0.0], &mut row)?;
-/// assert_eq!(row, [1.0]); // inside its box
+/// let mut row = [0.0; 3];
+/// let walls = lictor::brake::brake_action(&config, &[5.0, -5.0, 1.0], &[0.0; 3], &mut row)?;
+/// assert_eq!(row, [1.0, -1.0, 1.0]); // inside its box
+/// assert_eq!((walls.low_dims, walls.high_dims), (0b010, 0b001)); // the third axis touches its wall
+/// // a velocity that is ramped down meets no wall
+/// let velocities = builder.walls([-1.0; 8], [1.0; 8]).kind(ActionKind::JointVelocity).build()?;
+/// let walls = lictor::brake::brake_action(&velocities, &[5.0, -5.0, 1.0], &[0.0; 3], &mut row)?;
+/// assert_eq!((walls.low_dims, walls.high_dims), (0, 0));
 /// # Ok::<(), lictor::Refusal>(())
 /// ```
 ///
@@ -101,8 +125,9 @@ pub fn brake_feasible(
 ///
 /// [`Size`](crate::Refusal::Size) to [`Withdrawn`](crate::Refusal::Withdrawn), [`Short`](crate::Refusal::Short) to
 /// [`Computed`](crate::Refusal::Computed).
-pub fn brake_action(c: &Config, pos: &[f64], vel: &[f64], out: &mut [f64]) -> Answer<()> {
-    // SAFETY: the arrays and slices are live; `out` is lent to us alone.
+pub fn brake_action(c: &Config, pos: &[f64], vel: &[f64], out: &mut [f64]) -> Answer<WallMarks> {
+    let mut walls = [0; 2];
+    // SAFETY: the arrays and slices are live; `out` is lent to us alone, and the place is ours.
     let number = unsafe {
         raw::lictor_brake_action(
             &c.numbers,
@@ -115,12 +140,14 @@ pub fn brake_action(c: &Config, pos: &[f64], vel: &[f64], out: &mut [f64]) -> An
             vel.len(),
             out.as_mut_ptr(),
             out.len(),
+            &mut walls,
         )
     };
-    given(number, ())
+    given(number, WallMarks::of(walls))
 }
 
-/// The row that holds, over the first dim numbers of `out`: the latched position inside its box, or no velocity.
+/// The row that holds, over the first dim numbers of `out`: the latched position inside its box, or no velocity. Gives the walls that
+/// stopped it.
 ///
 /// ```
 /// # use lictor::config::{BrakeKind, BrakeModel, Config};
@@ -130,16 +157,21 @@ pub fn brake_action(c: &Config, pos: &[f64], vel: &[f64], out: &mut [f64]) -> An
 /// # let builder = Config::builder().axes(1).dt(1.0).v_max(1.0).a_max(9.0).j_max(9.0).reach_max(99.0).brake(brake);
 /// let config = builder.walls([-1.0; 8], [1.0; 8]).build()?;
 /// let mut row = [0.0];
-/// lictor::brake::hold_action(&config, &[0.5], &mut row)?;
-/// assert_eq!(row, [0.5]);
+/// let walls = lictor::brake::hold_action(&config, &[0.5], &mut row)?;
+/// assert_eq!((row, walls), ([0.5], lictor::brake::WallMarks::default()));
+/// // a position that is missing counts as 0, which lies below a low wall above 0
+/// let above = builder.walls([0.5; 8], [1.0; 8]).build()?;
+/// let walls = lictor::brake::hold_action(&above, &[], &mut row)?;
+/// assert_eq!((row, walls.low_dims, walls.high_dims), ([0.5], 1, 0));
 /// # Ok::<(), lictor::Refusal>(())
 /// ```
 ///
 /// # Errors
 ///
 /// As [`brake_action`].
-pub fn hold_action(c: &Config, pos: &[f64], out: &mut [f64]) -> Answer<()> {
-    // SAFETY: the arrays and slices are live; `out` is lent to us alone.
+pub fn hold_action(c: &Config, pos: &[f64], out: &mut [f64]) -> Answer<WallMarks> {
+    let mut walls = [0; 2];
+    // SAFETY: the arrays and slices are live; `out` is lent to us alone, and the place is ours.
     let number = unsafe {
         raw::lictor_hold_action(
             &c.numbers,
@@ -150,7 +182,8 @@ pub fn hold_action(c: &Config, pos: &[f64], out: &mut [f64]) -> Answer<()> {
             pos.len(),
             out.as_mut_ptr(),
             out.len(),
+            &mut walls,
         )
     };
-    given(number, ())
+    given(number, WallMarks::of(walls))
 }

@@ -38,6 +38,25 @@ pub fn clamp(x: f64, lo: f64, hi: f64) -> f64 {
     unsafe { raw::lictor_clamp(x, lo, hi) }
 }
 
+/// What [`clamp`] gives, and the side that it was moved to: -1 raised to `lo`, 1 lowered to `hi`, 0 untouched. A NaN is untouched, and so,
+/// where `lo` is at most `hi`, is a number on a limit (the two zeros are one, and it keeps its sign). `lo` is tried first.
+///
+/// ```
+/// use lictor::fmath::clamp_side;
+/// assert_eq!(clamp_side(3.0, 0.0, 2.0), (2.0, 1));
+/// assert_eq!(clamp_side(-3.0, 0.0, 2.0), (0.0, -1));
+/// assert_eq!(clamp_side(2.0, 0.0, 2.0), (2.0, 0)); // a touched limit
+/// let (zero, side) = clamp_side(-0.0, 0.0, 2.0);
+/// assert!(zero.is_sign_negative() && side == 0);
+/// ```
+#[must_use]
+pub fn clamp_side(x: f64, lo: f64, hi: f64) -> (f64, i64) {
+    let mut side = 0;
+    // SAFETY: numbers go by value, and the place is live and ours alone.
+    let value = unsafe { raw::lictor_clamp_side(x, lo, hi, &mut side) };
+    (value, side)
+}
+
 /// The root to nearest.
 ///
 /// ```

@@ -53,6 +53,7 @@ extern "C" {
     pub fn lictor_min(a: f64, b: f64) -> f64;
     pub fn lictor_max(a: f64, b: f64) -> f64;
     pub fn lictor_clamp(x: f64, lo: f64, hi: f64) -> f64;
+    pub fn lictor_clamp_side(x: f64, lo: f64, hi: f64, side: &mut i64) -> f64;
     pub fn lictor_sqrt(x: f64, root: &mut f64) -> u64;
     pub fn lictor_norm(v: *const f64, len: usize, n: usize, norm: &mut f64) -> u64;
     pub fn lictor_dist(a: *const f64, a_len: usize, b: *const f64, b_len: usize, n: usize, dist: &mut f64) -> u64;
@@ -124,7 +125,7 @@ extern "C" {
         exec_steps: u16,
         out: *mut f64,
         out_len: usize,
-        marks: &mut [u64; 2],
+        marks: &mut [u64; 4],
         peak_speed: &mut f64,
     ) -> u64;
     pub fn lictor_check_action(
@@ -142,7 +143,7 @@ extern "C" {
         action_len: usize,
         out: *mut f64,
         out_len: usize,
-        marks: &mut [u64; 2],
+        marks: &mut [u64; 4],
         peak_speed: &mut f64,
     ) -> u64;
     pub fn lictor_tier1_new(
@@ -219,6 +220,7 @@ extern "C" {
         vel_len: usize,
         out: *mut f64,
         out_len: usize,
+        walls: &mut [u64; 2],
     ) -> u64;
     pub fn lictor_hold_action(
         numbers: &Numbers,
@@ -229,6 +231,7 @@ extern "C" {
         pos_len: usize,
         out: *mut f64,
         out_len: usize,
+        walls: &mut [u64; 2],
     ) -> u64;
     pub fn lictor_standardise(
         center: &[f64; 192],

@@ -7,7 +7,11 @@ use crate::{
     refusal::{given, Answer},
 };
 
-/// What a check finds.
+/// What a check finds. Bit j of the last three masks is coordinate j, counted from 0.
+///
+/// `low_dims` and `high_dims` tell of the box alone, row by row as it came, on the first min(dim, `pos_dim`) coordinates. Neither the
+/// leash nor the reach sets one, and one stays where they bring the coordinate back, which `clamped_dims` then may not tell. A row
+/// that touches its wall sets none. Under [`ClampMode::Off`](crate::config::ClampMode) and where `WORKSPACE` is not armed both are 0.
 #[derive(Clone, Copy, Debug, PartialEq)]
 pub struct Tier0Out {
     /// The limits that a row as it came strictly exceeds, bits of [`trip`](crate::config::trip).
@@ -16,11 +20,16 @@ pub struct Tier0Out {
     pub clamped_dims: u32,
     /// The greatest speed.
     pub peak_speed: f64,
+    /// A bit for each axis that the box raised to its low wall in any row; an axis may be in `high_dims` too.
+    pub low_dims: u32,
+    /// A bit for each axis that the box lowered to its high wall in any row.
+    pub high_dims: u32,
 }
 
 impl Tier0Out {
-    fn of(marks: [u64; 2], peak_speed: f64) -> Self {
-        Self { trips: marks[0] as u32, clamped_dims: marks[1] as u32, peak_speed }
+    fn of(marks: [u64; 4], peak_speed: f64) -> Self {
+        let [trips, clamped_dims, low_dims, high_dims] = marks.map(|mark| mark as u32);
+        Self { trips, clamped_dims, peak_speed, low_dims, high_dims }
     }
 }
 
@@ -39,6 +48,28 @@ impl Tier0Out {
 /// let found = tier0::check_chunk(&config, &[0.0, 0.0], &[], ChunkView::new(0, 1, 2, 1, &[6.0, 8.0]), &mut out)?;
 /// assert_eq!((found.trips, found.peak_speed), (trip::SPEED, 10.0));
 /// assert!(out[0] < 3.0 && 2.999 < out[0]); // pulled back to a step just below 5
+/// assert_eq!((found.clamped_dims, found.low_dims, found.high_dims), (0b11, 0, 0)); // by the leash, not by a wall
+/// # Ok::<(), lictor::Refusal>(())
+/// ```
+///
+/// The box alone, with walls at -9 and 9: the first axis passes both, the second its high one, and the third touches.
+///
+/// ```
+/// # use lictor::config::{BrakeKind, BrakeModel, Config};
+/// # let brake = BrakeModel {
+/// #     kind: BrakeKind::PdSecondOrder, k_p: 2.0, k_v: 1.0, dt: 0.5, substeps: 2, commit: 1, brake_steps: 1, react_ticks: 1,
+/// # };
+/// # let builder = Config::builder().axes(3).dt(1.0).v_max(5.0).a_max(9.0).j_max(9.0).reach_max(99.0).walls([-9.0; 8], [9.0; 8]).brake(brake);
+/// # use lictor::{chunk::ChunkView, config::{trip, ClampMode}, tier0};
+/// let rows = ChunkView::new(0, 1, 3, 1, &[-10.0, 10.0, 9.0, 10.0, 0.0, -9.0]);
+/// let (config, mut out) = (builder.armed(trip::WORKSPACE).build()?, [0.0; 6]);
+/// let found = tier0::check_chunk(&config, &[0.0; 3], &[], rows, &mut out)?;
+/// assert_eq!((found.low_dims, found.high_dims, found.clamped_dims), (0b001, 0b011, 0b011));
+/// assert_eq!(out, [-9.0, 9.0, 9.0, 9.0, 0.0, -9.0]);
+/// // nothing is moved under ClampMode::Off, and no bit set
+/// let off = builder.armed(trip::WORKSPACE).clamp(ClampMode::Off).build()?;
+/// let found = tier0::check_chunk(&off, &[0.0; 3], &[], rows, &mut out)?;
+/// assert_eq!((found.trips, found.low_dims, found.high_dims), (trip::WORKSPACE, 0, 0));
 /// # Ok::<(), lictor::Refusal>(())
 /// ```
 ///
@@ -46,7 +77,7 @@ impl Tier0Out {
 ///
 /// [`Size`](crate::Refusal::Size) to [`Computed`](crate::Refusal::Computed).
 pub fn check_chunk(c: &Config, pos: &[f64], aux: &[f64], ch: ChunkView<'_>, out: &mut [f64]) -> Answer<Tier0Out> {
-    let (mut marks, mut peak_speed) = ([0; 2], 0.0);
+    let (mut marks, mut peak_speed) = ([0; 4], 0.0);
     // SAFETY: the arrays and slices are live; `out` is lent to us alone, and the places are ours.
     let number = unsafe {
         raw::lictor_check_chunk(
@@ -102,7 +133,7 @@ pub fn check_action(
     action: &[f64],
     out: &mut [f64],
 ) -> Answer<Tier0Out> {
-    let (mut marks, mut peak_speed) = ([0; 2], 0.0);
+    let (mut marks, mut peak_speed) = ([0; 4], 0.0);
     // SAFETY: the arrays and slices are live; `out` is lent to us alone, and the places are ours.
     let number = unsafe {
         raw::lictor_check_action(

@@ -6,7 +6,7 @@ use model::{
 };
 
 use crate::{
-    number::Field,
+    number::{at_limit, Field},
     part::{Part, BRAKES, KINDS},
     rng::Rng,
 };
@@ -295,6 +295,22 @@ pub fn config_parts(c: &mut FuseConfig) -> Vec<Part<'_>> {
     ];
     parts.extend(calibration_parts(&mut c.cal));
     parts
+}
+
+/// One coordinate of some points laid about its walls: on one or a step to either side, or about a wall at a zero.
+pub fn lay_walls(rng: &mut Rng, cfg: &mut FuseConfig, c: usize, points: Vec<&mut f64>) {
+    let by_zero = rng.one_in(2);
+    cfg.margin = 0.0;
+    if by_zero {
+        let zero = rng.pick(&[0.0, -0.0]);
+        (cfg.box_lo[c], cfg.box_hi[c]) = rng.pick(&[(zero, 1.0), (-1.0, zero), (zero, -zero)]);
+        // a low wall is a -0.0 where the margin is one too
+        cfg.margin = rng.pick(&[0.0, -0.0]);
+    }
+    for x in points {
+        let wall = rng.pick(&[cfg.box_lo[c], cfg.box_hi[c]]);
+        *x = if by_zero { rng.pick(&[0.0, -0.0, 5e-324, -5e-324]) } else { at_limit(rng, wall) };
+    }
 }
 
 /// The configuration with dim and pos_dim at most those of one axis less.

@@ -4,7 +4,7 @@
 use lictor::{brake, chunk, config, conformal, fmath, tier0, tier1, window};
 use model::{
     ActionKind, BrakeKind, BrakeOut, Calibration, ChunkBuf, ChunkView, ClampMode, Derived, FuseConfig, Scores,
-    Tier0Out, Tier1Rt, Trail,
+    Tier0Out, Tier1Rt, Trail, WallMarks,
 };
 
 use crate::port::{Answer, Port};
@@ -18,6 +18,7 @@ pub fn port() -> Port {
         min: Some(fmath::min),
         max: Some(fmath::max),
         clamp: Some(fmath::clamp),
+        clamp_side: Some(fmath::clamp_side),
         fill: Some(|b, seq, t_emit, horizon, dim, exec_steps, data| {
             copy_from(b, ChunkView { seq, t_emit, horizon, dim, exec_steps, data })
         }),
@@ -41,8 +42,8 @@ pub fn port() -> Port {
         brake_feasible: Some(|c, p, v, ch, from, slacks| {
             answer(brake::brake_feasible(&config(c), p, v, chunk_view(&ch), from, slacks)).map(forecast)
         }),
-        brake_action: Some(|c, p, v, out| answer(brake::brake_action(&config(c), p, v, out))),
-        hold_action: Some(|c, p, out| answer(brake::hold_action(&config(c), p, out))),
+        brake_action: Some(|c, p, v, out| walls(brake::brake_action(&config(c), p, v, out))),
+        hold_action: Some(|c, p, out| walls(brake::hold_action(&config(c), p, out))),
         standardise: Some(|c, bin, sc| on_scores(sc, |s| conformal::standardise(&calibration(c), bin, s))),
         aggregate: Some(|c, sc| on_scores(sc, |s| conformal::aggregate(&calibration(c), s))),
         trip: Some(|c, sc| answer(conformal::trip(&calibration(c), &scores(sc)))),
@@ -55,7 +56,14 @@ fn answer<T>(a: lictor::Answer<T>) -> Answer<T> {
 }
 
 fn found(a: lictor::Answer<tier0::Tier0Out>) -> Answer<Tier0Out> {
-    answer(a).map(|r| Tier0Out { trips: r.trips, clamped_dims: r.clamped_dims, peak_speed: r.peak_speed })
+    answer(a).map(|r| {
+        let tier0::Tier0Out { trips, clamped_dims, peak_speed, low_dims, high_dims } = r;
+        Tier0Out { trips, clamped_dims, peak_speed, low_dims, high_dims }
+    })
+}
+
+fn walls(a: lictor::Answer<brake::WallMarks>) -> Answer<WallMarks> {
+    answer(a).map(|w| WallMarks { low_dims: w.low_dims, high_dims: w.high_dims })
 }
 
 fn forecast(r: brake::BrakeOut) -> BrakeOut {

@@ -2,6 +2,7 @@
 
 use model::{
     BrakeOut, Calibration, ChunkBuf, ChunkView, Derived, FuseConfig, Refusal, Scores, Tier0Out, Tier1Rt, Trail,
+    WallMarks,
 };
 
 pub type Answer<T> = Result<T, Refusal>;
@@ -11,6 +12,8 @@ pub type Norm = fn(&[f64], usize) -> Answer<f64>;
 pub type Dist = fn(&[f64], &[f64], usize) -> Answer<f64>;
 pub type Two = fn(f64, f64) -> f64;
 pub type Clamp = fn(f64, f64, f64) -> f64;
+/// The value and the side.
+pub type ClampSide = fn(f64, f64, f64) -> (f64, i64);
 pub type Fill = fn(&mut ChunkBuf, u32, u32, u16, u16, u16, &[f64]) -> Answer<()>;
 pub type CopyFrom = fn(&mut ChunkBuf, ChunkView<'_>) -> Answer<()>;
 /// The row's numbers.
@@ -32,8 +35,8 @@ pub type CheckAction = fn(&FuseConfig, &[f64], &[f64], &[f64], &[f64], &mut [f64
 pub type Features = fn(&FuseConfig, &mut Tier1Rt, &[f64], &[f64], Option<ChunkView<'_>>, &mut Scores) -> Answer<()>;
 pub type Reset = fn(&mut Tier1Rt) -> Answer<()>;
 pub type BrakeFeasible = fn(&FuseConfig, &[f64], &[f64], ChunkView<'_>, usize, &mut [f64]) -> Answer<BrakeOut>;
-pub type BrakeAction = fn(&FuseConfig, &[f64], &[f64], &mut [f64]) -> Answer<()>;
-pub type HoldAction = fn(&FuseConfig, &[f64], &mut [f64]) -> Answer<()>;
+pub type BrakeAction = fn(&FuseConfig, &[f64], &[f64], &mut [f64]) -> Answer<WallMarks>;
+pub type HoldAction = fn(&FuseConfig, &[f64], &mut [f64]) -> Answer<WallMarks>;
 pub type Standardise = fn(&Calibration, usize, &mut Scores) -> Answer<()>;
 pub type Aggregate = fn(&Calibration, &mut Scores) -> Answer<f64>;
 pub type Trip = fn(&Calibration, &Scores) -> Answer<bool>;
@@ -47,6 +50,7 @@ pub struct Port {
     pub min: Option<Two>,
     pub max: Option<Two>,
     pub clamp: Option<Clamp>,
+    pub clamp_side: Option<ClampSide>,
     pub fill: Option<Fill>,
     pub copy_from: Option<CopyFrom>,
     pub action: Option<Action>,

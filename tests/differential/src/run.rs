@@ -15,6 +15,8 @@ use crate::{part::Part, rng::Rng};
 pub struct Shown {
     pub numbers: Vec<f64>,
     pub counts: Vec<u64>,
+    /// What a request added and the Rust has not, sides and their masks: the port's are compared with the model's.
+    pub added: Vec<i64>,
 }
 
 /// The answer, and every buffer and state that was lent, at exit.
@@ -155,7 +157,7 @@ impl<I: Clone + Debug + 'static> Entry<I> {
         if oracle::take_raised() && counts && got.answer.is_ok() {
             got.answer = Err(Refusal { number: COMPUTED, place: 0 });
         }
-        same("the Rust", &got, want)?;
+        same("the Rust", &got, &in_the_rust(want))?;
         // the forecast's entries before its place are the Rust's, too
         match want.answer {
             Err(r) if r.place > 0 && !same_shown(&got.buffers, &want.buffers) => {
@@ -225,8 +227,15 @@ fn same_number(a: f64, b: f64) -> bool {
     a == b || a.to_bits() == b.to_bits() || (a.is_nan() && b.is_nan())
 }
 
+/// What the Rust has of an outcome.
+fn in_the_rust(o: &Outcome) -> Outcome {
+    let answer = o.answer.clone().map(|shown| Shown { added: vec![], ..shown });
+    Outcome { answer, buffers: o.buffers.clone() }
+}
+
 fn same_shown(a: &Shown, b: &Shown) -> bool {
     a.counts == b.counts
+        && a.added == b.added
         && a.numbers.len() == b.numbers.len()
         && a.numbers.iter().zip(&b.numbers).all(|(x, y)| same_number(*x, *y))
 }
@@ -236,7 +245,8 @@ fn first_apart(a: &Shown, b: &Shown) -> String {
     let number = a.numbers.iter().zip(&b.numbers).position(|(x, y)| !same_number(*x, *y));
     match number {
         Some(i) => format!("number {i} is {:?}, not {:?}", a.numbers[i], b.numbers[i]),
-        None => format!("counts {:?}, not {:?}", a.counts, b.counts),
+        None if a.counts != b.counts => format!("counts {:?}, not {:?}", a.counts, b.counts),
+        None => format!("added {:?}, not {:?}", a.added, b.added),
     }
 }
 

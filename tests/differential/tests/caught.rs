@@ -2,10 +2,18 @@
 
 use std::time::Duration;
 
-use differential::{edges, entries, port::Port, run::Budget};
+use differential::{
+    edges, entries,
+    port::{CheckAction, CheckChunk, Port},
+    run::Budget,
+};
 use model::{
-    brake, chunk::action, fmath::min, refusal::WITHDRAWN, BrakeKind, BrakeOut, Calibration, ChunkView, FuseConfig,
-    Refusal, Scores, Tier1Rt, Trail, NAMED, STALL,
+    brake,
+    chunk::action,
+    fmath::{self, min},
+    refusal::WITHDRAWN,
+    ActionKind, BrakeKind, BrakeOut, Calibration, ChunkView, ClampMode, Derived, FuseConfig, Refusal, Scores, Tier0Out,
+    Tier1Rt, Trail, WallMarks, MAX_D, NAMED, STALL, WORKSPACE,
 };
 
 /// What the run of one entry says with this port.
@@ -159,6 +167,189 @@ fn limits_that_trip_when_touched() {
     ];
     for check in ports {
         failure(Port { check_chunk: Some(check), ..Port::default() }, "check_chunk");
+    }
+}
+
+/// The text of a run that finds other sides than the model's, and shows them.
+fn sides_found(port: Port, name: &str, sides: &str) -> String {
+    let text = failure(port, name);
+    assert!(text.contains(&format!("answers otherwise than the model: added {sides}")), "{sides}");
+    text
+}
+
+#[test]
+fn a_side_of_clamp_that_is_another() {
+    let said = |clamp_side: differential::port::ClampSide, sides: &str| {
+        let clamp = Port { min: Some(fmath::min), max: Some(fmath::max), clamp: Some(fmath::clamp), ..Port::default() };
+        sides_found(Port { clamp_side: Some(clamp_side), ..clamp }, "min max clamp", sides)
+    };
+    let touched_high = said(|x, lo, hi| (fmath::clamp(x, lo, hi), fmath::side(x, lo, hi.next_down())), "[1, ");
+    assert!(touched_high.contains("OrderIn { x: 0.0, lo: 0.0, hi: 0.0 }"), "a small input");
+    said(|x, lo, hi| (fmath::clamp(x, lo, hi), fmath::side(x, lo.next_up(), hi)), "[-1, ");
+    said(|x, lo, hi| (fmath::clamp(x, lo, hi), -fmath::side(x, lo, hi)), "[");
+    // the high limit is tried first
+    said(|x, lo, hi| (fmath::clamp(x, lo, hi), (x > hi) as i64 - (x <= hi && x < lo) as i64), "[1, ");
+    // the limit's own zero instead of the one that came
+    said(
+        |x, lo, hi| (if x == lo { fmath::clamp(lo, lo, hi) } else { fmath::clamp(x, lo, hi) }, fmath::side(x, lo, hi)),
+        "[0, ",
+    );
+    said(|x, lo, hi| (fmath::clamp(x, lo, hi), if x.is_nan() { 1 } else { fmath::side(x, lo, hi) }), "[1, ");
+}
+
+/// The masks of a point's first n coordinates, by the side of one number.
+fn masks(derived: &Derived, n: usize, point: impl Fn(usize) -> f64, side: fn(f64, f64, f64) -> i64) -> WallMarks {
+    let with = |want: i64| {
+        let at = |c: &usize| side(point(*c), derived.box_lo[*c], derived.box_hi[*c]) == want;
+        (0..n).filter(at).fold(0, |m, c| m | 1 << c)
+    };
+    WallMarks { low_dims: with(-1), high_dims: with(1) }
+}
+
+/// The side of a number for which a high wall that is touched has moved it.
+fn touched(x: f64, lo: f64, hi: f64) -> i64 {
+    fmath::side(x, lo, hi.next_down())
+}
+
+fn shared(cfg: &FuseConfig) -> usize {
+    cfg.dim.min(cfg.pos_dim)
+}
+
+/// What a wrong check makes its masks of: the configuration and what it derives, the rows as they came and as they go out, and the
+/// right answer.
+struct Seen<'a> {
+    cfg: &'a FuseConfig,
+    derived: Derived,
+    came: Vec<&'a [f64]>,
+    went: Vec<&'a [f64]>,
+    right: Tier0Out,
+}
+
+impl Seen<'_> {
+    fn masks(&self, rows: &[&[f64]], n: usize, side: fn(f64, f64, f64) -> i64) -> (u32, u32) {
+        let each = rows.iter().map(|row| masks(&self.derived, n, |c| row[c], side));
+        each.fold((0, 0), |(low, high), w| (low | w.low_dims, high | w.high_dims))
+    }
+
+    /// The masks where the rows are moved into the box.
+    fn moved(&self, rows: &[&[f64]], n: usize, side: fn(f64, f64, f64) -> i64) -> (u32, u32) {
+        match self.project() && self.box_armed() {
+            true => self.masks(rows, n, side),
+            false => (0, 0),
+        }
+    }
+
+    fn project(&self) -> bool {
+        self.cfg.clamp == ClampMode::Project
+    }
+
+    fn box_armed(&self) -> bool {
+        self.cfg.armed & WORKSPACE != 0
+    }
+}
+
+/// The model's check of a chunk, and of an action, with other masks.
+macro_rules! masked {
+    ($masks:expr) => {{
+        const MASKS: fn(&Seen<'_>) -> (u32, u32) = $masks;
+        fn other(cfg: &FuseConfig, rows: &[f64], out: &[f64], right: Tier0Out) -> Result<Tier0Out, Refusal> {
+            let derived = model::envelope::derive(cfg)?;
+            let (came, went) = (rows.chunks(cfg.dim).collect(), out[..rows.len()].chunks(cfg.dim).collect());
+            let (low_dims, high_dims) = MASKS(&Seen { cfg, derived, came, went, right });
+            Ok(Tier0Out { low_dims, high_dims, ..right })
+        }
+        let check_chunk: CheckChunk = |cfg, pos, aux, ch, out| {
+            let right = model::tier0::check_chunk(cfg, pos, aux, ch, out)?;
+            other(cfg, ch.data, out, right)
+        };
+        let check_action: CheckAction = |cfg, pos, aux, prev, a, out| {
+            let right = model::tier0::check_action(cfg, pos, aux, prev, a, out)?;
+            other(cfg, &a[..cfg.dim], out, right)
+        };
+        Port { check_chunk: Some(check_chunk), check_action: Some(check_action), ..Port::default() }
+    }};
+}
+
+#[test]
+fn masks_of_a_check_that_are_others() {
+    let touched = masked!(|s| s.moved(&s.came, shared(s.cfg), touched));
+    let swapped = masked!(|s| (s.right.high_dims, s.right.low_dims));
+    let leashed = masked!(|s| {
+        let moved = s.came.iter().zip(&s.went).flat_map(|(a, b)| a.iter().zip(*b).enumerate());
+        moved.fold((s.right.low_dims, s.right.high_dims), |(low, high), (c, (a, b))| {
+            (low | ((a < b) as u32) << c, high | ((a > b) as u32) << c)
+        })
+    });
+    let past_pos_dim = masked!(|s| s.moved(&s.came, s.cfg.dim, fmath::side));
+    let under_off = masked!(|s| match s.box_armed() {
+        true => s.masks(&s.came, shared(s.cfg), fmath::side),
+        false => (0, 0),
+    });
+    let unarmed = masked!(|s| match s.project() {
+        true => s.masks(&s.came, shared(s.cfg), fmath::side),
+        false => (0, 0),
+    });
+    let as_it_went = masked!(|s| (s.right.low_dims & s.right.clamped_dims, s.right.high_dims & s.right.clamped_dims));
+    for name in ["check_chunk at walls", "check_action at walls"] {
+        sides_found(touched, name, "[0, 1], not [0, 0]");
+        sides_found(swapped, name, "[");
+        sides_found(leashed, name, "[");
+        sides_found(past_pos_dim, name, "[");
+        let text = sides_found(under_off, name, "[");
+        assert!(text.contains("not [0, 0]") && !text.contains("clamp: Project"), "a small input");
+        sides_found(unarmed, name, "[");
+        sides_found(as_it_went, name, "[0, 0], not [");
+    }
+}
+
+#[test]
+fn a_side_of_the_last_row_alone() {
+    let last = masked!(|s| s.moved(&s.came[s.came.len() - 1..], shared(s.cfg), fmath::side));
+    let text = sides_found(last, "check_chunk at walls", "[0, 0], not [");
+    assert!(text.contains("horizon: 2"), "a small input");
+}
+
+/// A brake and a hold with other masks, made of the configuration, the position and the right ones.
+macro_rules! braked {
+    ($masks:expr) => {{
+        const MASKS: fn(&FuseConfig, &[f64], WallMarks) -> WallMarks = $masks;
+        Port {
+            brake_action: Some(|cfg, p, v, out| brake::brake_action(cfg, p, v, out).map(|w| MASKS(cfg, p, w))),
+            hold_action: Some(|cfg, p, out| brake::hold_action(cfg, p, out).map(|w| MASKS(cfg, p, w))),
+            ..Port::default()
+        }
+    }};
+}
+
+/// The masks of a position, 0.0 past its end.
+fn position_masks(cfg: &FuseConfig, p: &[f64], n: usize, side: fn(f64, f64, f64) -> i64) -> WallMarks {
+    let derived = model::envelope::derive(cfg).expect("a configuration that is accepted");
+    masks(&derived, n, |c| p.get(c).copied().unwrap_or(0.0), side)
+}
+
+#[test]
+fn masks_of_brake_and_hold_that_are_others() {
+    fn positions(cfg: &FuseConfig) -> bool {
+        !matches!(cfg.kind, ActionKind::JointVelocity | ActionKind::EeDelta)
+    }
+    let touched = braked!(|c, p, w| if positions(c) { position_masks(c, p, shared(c), touched) } else { w });
+    let swapped = braked!(|_, _, w| WallMarks { low_dims: w.high_dims, high_dims: w.low_dims });
+    let past_pos_dim = braked!(|c, p, w| if positions(c) { position_masks(c, p, c.dim, fmath::side) } else { w });
+    let not_under_off = braked!(|c, _, w| if c.clamp == ClampMode::Off { WallMarks::default() } else { w });
+    let not_unarmed = braked!(|c, _, w| if c.armed & WORKSPACE == 0 { WallMarks::default() } else { w });
+    let velocities = braked!(|c, p, _| position_masks(c, p, shared(c), fmath::side));
+    let missing = braked!(|_, p, w| {
+        let there = (1 << p.len().min(MAX_D)) - 1;
+        WallMarks { low_dims: w.low_dims & there, high_dims: w.high_dims & there }
+    });
+    for name in ["brake_action at walls", "hold_action at walls"] {
+        sides_found(touched, name, "[0, 1], not [0, 0]");
+        sides_found(swapped, name, "[");
+        sides_found(past_pos_dim, name, "[");
+        sides_found(not_under_off, name, "[0, 0], not [");
+        sides_found(not_unarmed, name, "[0, 0], not [");
+        sides_found(velocities, name, "[");
+        sides_found(missing, name, "[0, 0], not [");
     }
 }
 

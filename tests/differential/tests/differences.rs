@@ -38,7 +38,7 @@ fn checked_action(
     aux: &[f64],
     prev: &[f64],
     a: &[f64],
-) -> (Tier0Out, f64, Result<Tier0Out, Refusal>) {
+) -> (oracle::rust::tier0::Tier0Out, f64, Result<Tier0Out, Refusal>) {
     let (mut out, mut kept) = ([7.0], [7.0]);
     let rust = oracle::check_action(cfg, &[0.0], aux, prev, a, &mut out);
     let model = tier0::check_action(cfg, &[0.0], aux, prev, a, &mut kept);
@@ -288,6 +288,44 @@ fn clamp_between_crossed_limits_and_at_a_nan() {
     assert_eq!((oracle::rust::fmath::clamp(5.0, 3.0, 1.0), fmath::clamp(5.0, 3.0, 1.0)), (3.0, 1.0));
     assert_eq!(oracle::rust::fmath::clamp(f64::NAN, 0.0, 1.0), 1.0);
     assert!(fmath::clamp(f64::NAN, 0.0, 1.0).is_nan());
+}
+
+/// One axis between -1 and 1, the box alone armed: the Rust says that the axis moved, and the documents at which walls.
+#[test]
+fn no_side_of_a_wall() {
+    let cfg = FuseConfig { armed: WORKSPACE, clamp: ClampMode::Project, ..boxed(1) };
+    for (data, due) in [(&[2.0][..], (0, 1)), (&[-2.0], (1, 0)), (&[-2.0, 2.0], (1, 1))] {
+        let mut out = [0.0; 2];
+        let rust = oracle::check_chunk(&cfg, &[0.0], &[], rows(1, data), &mut out);
+        let model = tier0::check_chunk(&cfg, &[0.0], &[], rows(1, data), &mut out).expect("a chunk that is accepted");
+        assert_eq!((rust.clamped_dims, model.clamped_dims, (model.low_dims, model.high_dims)), (1, 1, due));
+    }
+    let (mut rust, mut out) = ([0.0], [0.0]);
+    oracle::brake_action(&cfg, &[2.0], &[], &mut rust);
+    assert_eq!(brake::brake_action(&cfg, &[2.0], &[], &mut out), Ok(WallMarks { low_dims: 0, high_dims: 1 }));
+    assert_eq!((rust, out), ([1.0], [1.0]));
+    assert_eq!((oracle::rust::fmath::clamp(2.0, 0.0, 1.0), fmath::clamp_side(2.0, 0.0, 1.0)), (1.0, (1.0, 1)));
+}
+
+/// A box move that a short leash takes back: nothing of it is left in the Rust's answer.
+#[test]
+fn a_box_move_that_is_taken_back() {
+    let cfg = FuseConfig { armed: WORKSPACE | SPEED, clamp: ClampMode::Project, v_max: 1e-20, ..boxed(1) };
+    let mut out = [0.0];
+    let rust = oracle::check_action(&cfg, &[0.0], &[], &[2.0], &[2.0], &mut out);
+    assert_eq!((rust.trips, rust.clamped_dims, out), (WORKSPACE, 0, [2.0]));
+    let model = tier0::check_action(&cfg, &[0.0], &[], &[2.0], &[2.0], &mut out).expect("an action that is accepted");
+    assert_eq!((model.clamped_dims, model.low_dims, model.high_dims, out), (0, 0, 1, [2.0]));
+}
+
+#[test]
+fn a_zero_on_a_zero_limit() {
+    let signs = |clamp: fn(f64, f64, f64) -> f64| {
+        let cases = [(0.0, -1.0, -0.0), (-0.0, -1.0, 0.0), (0.0, -0.0, 1.0), (-0.0, 0.0, 1.0)];
+        cases.map(|(x, lo, hi)| clamp(x, lo, hi).is_sign_negative())
+    };
+    assert_eq!(signs(oracle::rust::fmath::clamp), [true, false, false, true], "the sign of the high limit");
+    assert_eq!(signs(fmath::clamp), [false, true, false, true], "the sign that came");
 }
 
 // ---- numbers, sizes and shapes ----

@@ -1,13 +1,15 @@
-//! The generators reach what matters: every trip on its limit and off it, every kind, every place of 13, and 17 at every entry.
+//! The generators reach what matters: every trip on its limit and off it, every side of a wall and of clamp, every kind, every place of
+//! 13, and 17 at every entry.
 
 use std::collections::BTreeMap;
 
 use differential::{
-    entries::{brake, conformal, envelope, tier0, tier1},
+    entries::{brake, conformal, envelope, fmath, tier0, tier1},
     port::Port,
     run::Entry,
 };
-use model::{brake::count_of, refusal::WITHDRAWN, tier0 as rule, Calibration, FuseConfig, Refusal, Tier0Out};
+use model::{brake::count_of, refusal::WITHDRAWN, tier0 as rule};
+use model::{ActionKind, Calibration, FuseConfig, Refusal, Tier0Out};
 use model::{ACCEL, CONTACT, JERK, NFEAT, REACH, SPEED, SPEED_PEAK, STALL, WORKSPACE};
 
 const CALLS: u64 = 60_000;
@@ -67,6 +69,147 @@ fn the_checks() {
         met.all((1..=8).flat_map(|d| (1..=8).map(move |p| format!("{name} dim {d} pos_dim {p}"))));
     }
     met.all((1..=64).map(|h| format!("chunk horizon {h}")));
+}
+
+/// What a mask of sides says of each axis of an accepted check: which bits it has, and whether the row that went out tells.
+fn note_axes(met: &mut Met, name: &str, cfg: &FuseConfig, r: &Tier0Out) {
+    let armed = cfg.armed & WORKSPACE != 0;
+    met.note(format!("{name} {:?} box armed {armed} any bit {}", cfg.clamp, r.low_dims | r.high_dims != 0));
+    for c in 0..cfg.dim.min(cfg.pos_dim) {
+        let has = |mask: u32| mask >> c & 1;
+        met.note(format!("{name} low {} high {} moved {}", has(r.low_dims), has(r.high_dims), has(r.clamped_dims)));
+    }
+    for (limit, armed) in [("leash", cfg.armed & SPEED != 0), ("reach", cfg.armed & (SPEED | CONTACT | REACH) == REACH)]
+    {
+        if armed && (r.low_dims | r.high_dims) & !r.clamped_dims != 0 {
+            met.note(format!("{name} brought back by the {limit}"));
+        }
+    }
+}
+
+/// How the coordinates of an accepted call lie to their walls: beyond one, on it or a step inside, or on a zero by its sign.
+fn note_touched(met: &mut Met, name: &str, cfg: &FuseConfig, points: &[&[f64]]) {
+    for c in 0..cfg.dim.min(cfg.pos_dim) {
+        let (lo, hi) = (cfg.box_lo[c] + cfg.margin, cfg.box_hi[c] - cfg.margin);
+        for x in points.iter().map(|p| p.get(c).copied().unwrap_or(0.0)) {
+            for (wall, at, out) in [("low", lo, lo.next_down()), ("high", hi, hi.next_up())] {
+                if x == at && x == 0.0 {
+                    met.note(format!("{name} {x:?} on a {wall} wall at {at:?}"));
+                } else if x == at || x == out {
+                    met.note(format!("{name} on its {wall} wall {}", x == at));
+                }
+            }
+        }
+    }
+}
+
+/// The cases of `note_touched`.
+fn touched(name: &'static str) -> impl Iterator<Item = String> {
+    ["low", "high"].into_iter().flat_map(move |wall| {
+        let zeros = ["0.0", "-0.0"].map(|x| ["0.0", "-0.0"].map(|at| format!("{name} {x} on a {wall} wall at {at}")));
+        zeros.into_iter().flatten().chain([true, false].map(|on| format!("{name} on its {wall} wall {on}")))
+    })
+}
+
+#[test]
+fn the_walls_of_the_checks() {
+    let port = Port::default();
+    let (chunks, actions) = (tier0::check_chunk_at_walls(&port), tier0::check_action_at_walls(&port));
+    let mut met = Met::new();
+    for call in 0..CALLS {
+        let i = chunks.input(1, call);
+        if let Ok(r) = rule::check_chunk(&i.cfg, &i.pos, &i.aux, i.ch.view(), &mut i.out.clone()) {
+            note_axes(&mut met, "chunk", &i.cfg, &r);
+            note_touched(&mut met, "chunk", &i.cfg, &i.ch.data.chunks(i.cfg.dim).collect::<Vec<_>>());
+        }
+        let i = actions.input(1, call);
+        if let Ok(r) = rule::check_action(&i.cfg, &i.pos, &i.aux, &i.prev, &i.a, &mut i.out.clone()) {
+            note_axes(&mut met, "action", &i.cfg, &r);
+            note_touched(&mut met, "action", &i.cfg, &[&i.a]);
+        }
+    }
+    for name in ["chunk", "action"] {
+        let sides = ["low 1 high 0 moved 1", "low 0 high 1 moved 1", "low 1 high 0 moved 0", "low 0 high 1 moved 0"];
+        let none =
+            ["low 0 high 0 moved 1", "low 0 high 0 moved 0", "brought back by the leash", "brought back by the reach"];
+        let armed = ["Project box armed true any bit true", "Project box armed true any bit false"];
+        let unarmed = ["Project box armed false", "Off box armed true", "Off box armed false"];
+        met.all(sides.iter().chain(&none).chain(&armed).map(|case| format!("{name} {case}")));
+        met.all(unarmed.map(|case| format!("{name} {case} any bit false")));
+        met.all(touched(name));
+    }
+    met.all(["chunk low 1 high 1 moved 1".to_string()]);
+}
+
+#[test]
+fn the_walls_of_brake_and_hold() {
+    let (port, mut met) = (Port::default(), Met::new());
+    for entry in [brake::brake_action_at_walls(&port), brake::hold_action_at_walls(&port)] {
+        for call in 0..CALLS {
+            let i = entry.input(1, call);
+            let Ok(shown) = (entry.model)(&i).answer else { continue };
+            let [low_dims, high_dims] = shown.added[..] else { panic!("a low and a high mask") };
+            let (name, cfg, n) = (entry.name, &i.cfg, i.cfg.dim.min(i.cfg.pos_dim));
+            met.note(format!("{name} {:?} any bit {}", cfg.kind, low_dims | high_dims != 0));
+            let velocities = matches!(cfg.kind, ActionKind::JointVelocity | ActionKind::EeDelta);
+            if velocities {
+                continue;
+            }
+            note_touched(&mut met, name, cfg, &[&i.p]);
+            let armed = cfg.armed & WORKSPACE != 0;
+            met.note(format!("{name} {:?} box armed {armed} low {}", cfg.clamp, low_dims != 0));
+            met.note(format!("{name} {:?} box armed {armed} high {}", cfg.clamp, high_dims != 0));
+            let past = cfg.pos_dim..cfg.dim.min(i.p.len());
+            met.note(format!("{name} moved past pos_dim {}", past.into_iter().any(|c| i.p[c] != 0.0)));
+            met.note(format!("{name} pos_dim above dim {}", cfg.pos_dim > cfg.dim));
+            let missing = (i.p.len()..n).map(|c| (low_dims >> c & 1, high_dims >> c & 1));
+            missing.for_each(|(low, high)| met.note(format!("{name} missing low {low} high {high}")));
+        }
+    }
+    for name in ["brake_action at walls", "hold_action at walls"] {
+        let position = ["EePosition", "JointPosition", "Other"];
+        met.all(position.iter().flat_map(|k| [true, false].map(|bit| format!("{name} {k} any bit {bit}"))));
+        met.all(["EeDelta", "JointVelocity"].map(|k| format!("{name} {k} any bit false")));
+        let modes = ["Off box armed false", "Off box armed true", "Project box armed false", "Project box armed true"];
+        let sides = ["low true", "high true", "low false", "high false"];
+        met.all(modes.iter().flat_map(|mode| sides.map(|side| format!("{name} {mode} {side}"))));
+        let sizes = ["moved past pos_dim", "pos_dim above dim"];
+        met.all(sizes.iter().flat_map(|size| [true, false].map(|is| format!("{name} {size} {is}"))));
+        met.all(["low 1 high 0", "low 0 high 1", "low 0 high 0"].map(|side| format!("{name} missing {side}")));
+        met.all(touched(name));
+    }
+}
+
+#[test]
+fn the_sides_of_clamp() {
+    let (entry, mut met) = (fmath::order(&Port::default()), Met::new());
+    for call in 0..CALLS {
+        let fmath::OrderIn { x, lo, hi } = entry.input(1, call);
+        let side = model::fmath::side(x, lo, hi);
+        if x == 0.0 && (lo == 0.0 || hi == 0.0) {
+            let wall = if lo == 0.0 { "low" } else { "high" };
+            met.note(format!(
+                "{wall} limit at 0, of the sign of x {}",
+                if lo == 0.0 { lo } else { hi }.to_bits() == x.to_bits()
+            ));
+        }
+        met.note(format!("crossed {} NaN {} side {side}", lo > hi, x.is_nan()));
+        met.note(format!("infinite {} side {side}", x.is_infinite()));
+        for (limit, on, out) in [("low", lo, lo.next_down()), ("high", hi, hi.next_up())] {
+            if x == on || x == out {
+                met.note(format!("{limit} limit touched {} side {side}", x == on));
+            }
+        }
+    }
+    met.all([-1, 0, 1].map(|side| format!("crossed false NaN false side {side}")));
+    met.all([-1, 1].map(|side| format!("crossed true NaN false side {side}")));
+    met.all([-1, 1].map(|side| format!("infinite true side {side}")));
+    met.all([true, false].map(|crossed| format!("crossed {crossed} NaN true side 0")));
+    met.all(["low limit touched true side 0", "low limit touched false side -1"].map(String::from));
+    met.all(["high limit touched true side 0", "high limit touched false side 1"].map(String::from));
+    met.all(
+        ["low", "high"].iter().flat_map(|l| [true, false].map(|s| format!("{l} limit at 0, of the sign of x {s}"))),
+    );
 }
 
 #[test]

@@ -6,7 +6,7 @@ use crate::{
     envelope::{self, derive},
     fmath::{clamp, max, min},
     refusal::{judged, not_finite, shorter, when, COMPUTED, SHORT, WIDTH},
-    ActionKind, BrakeKind, BrakeOut, ChunkView, Derived, FuseConfig, Refusal, MAX_POS,
+    ActionKind, BrakeKind, BrakeOut, ChunkView, Derived, FuseConfig, Refusal, WallMarks, MAX_POS,
 };
 
 const EPS: f64 = 1e-9;
@@ -195,11 +195,13 @@ fn position_kind(kind: ActionKind) -> bool {
     !matches!(kind, ActionKind::JointVelocity | ActionKind::EeDelta)
 }
 
-/// Each coordinate of p, 0.0 past its end, clamped to its box.
-fn inside(cfg: &FuseConfig, derived: &Derived, p: &[f64], out: &mut [f64]) {
+/// Each coordinate of p, 0.0 past its end, clamped to its box; the sides are those of the coordinates that have one.
+fn inside(cfg: &FuseConfig, derived: &Derived, p: &[f64], out: &mut [f64]) -> WallMarks {
+    let at = |c: usize| p.get(c).copied().unwrap_or(0.0);
     for c in 0..cfg.dim {
-        out[c] = clamp(p.get(c).copied().unwrap_or(0.0), derived.box_lo[c], derived.box_hi[c]);
+        out[c] = clamp(at(c), derived.box_lo[c], derived.box_hi[c]);
     }
+    envelope::walls(cfg, derived, at)
 }
 
 /// The factor of the ramp to zero, times dt for displacements.
@@ -213,12 +215,11 @@ fn ramp(cfg: &FuseConfig, v: &[f64]) -> Checked {
     }
 }
 
-pub fn brake_action(cfg: &FuseConfig, p: &[f64], v: &[f64], out: &mut [f64]) -> Result<(), Refusal> {
+pub fn brake_action(cfg: &FuseConfig, p: &[f64], v: &[f64], out: &mut [f64]) -> Result<WallMarks, Refusal> {
     judged(&[envelope::judge(cfg), shorter(out, cfg.dim), not_finite(p), not_finite(v)])?;
     let derived = derive(cfg)?;
     if position_kind(cfg.kind) {
-        inside(cfg, &derived, p, out);
-        return Ok(());
+        return Ok(inside(cfg, &derived, p, out));
     }
     let scale = ramp(cfg, v)?;
     let mut ramped = [0.0; MAX_POS];
@@ -226,16 +227,15 @@ pub fn brake_action(cfg: &FuseConfig, p: &[f64], v: &[f64], out: &mut [f64]) -> 
         *o = mul(*x, scale)?;
     }
     out[..cfg.dim].copy_from_slice(&ramped[..cfg.dim]);
-    Ok(())
+    Ok(WallMarks::default())
 }
 
-pub fn hold_action(cfg: &FuseConfig, p: &[f64], out: &mut [f64]) -> Result<(), Refusal> {
+pub fn hold_action(cfg: &FuseConfig, p: &[f64], out: &mut [f64]) -> Result<WallMarks, Refusal> {
     judged(&[envelope::judge(cfg), shorter(out, cfg.dim), not_finite(p)])?;
     let derived = derive(cfg)?;
     if position_kind(cfg.kind) {
-        inside(cfg, &derived, p, out);
-    } else {
-        out[..cfg.dim].fill(0.0);
+        return Ok(inside(cfg, &derived, p, out));
     }
-    Ok(())
+    out[..cfg.dim].fill(0.0);
+    Ok(WallMarks::default())
 }

@@ -1,9 +1,9 @@
-//! Module 4: what is derived from the raw configuration, and refusals 1 to 4 and 17 of it.
+//! Module 4: what is derived from the raw configuration, the walls among it, and refusals 1 to 4 and 17 of it.
 
 use crate::{
-    fmath::min,
+    fmath::{min, side},
     refusal::{first, judged, when, CHANNELS, NUMBER, SIZE, STEPS, WITHDRAWN},
-    Calibration, Derived, FuseConfig, Refusal, MAX_D, MAX_POS, MAX_SUBSTEPS, MAX_TERMS, NFEAT, STALL,
+    Calibration, Derived, FuseConfig, Refusal, WallMarks, MAX_D, MAX_POS, MAX_SUBSTEPS, MAX_TERMS, NFEAT, STALL,
 };
 
 /// The derived numbers as they come, finite or not; dim and pos_dim are in size.
@@ -109,6 +109,19 @@ pub fn judge(c: &FuseConfig) -> Option<u8> {
     }
     let calibration = if c.calibrated { judge_calibration(&c.cal) } else { None };
     first(&[calibration, judge_numbers(c), judge_arrays(c), judge_steps(c), judge_channels(c)])
+}
+
+/// The sides that the box moves a point to, over the first min(dim, pos_dim) coordinates: those past pos_dim have no box of their own.
+pub fn walls(c: &FuseConfig, d: &Derived, point: impl Fn(usize) -> f64) -> WallMarks {
+    let mut marks = WallMarks::default();
+    for i in 0..c.dim.min(c.pos_dim) {
+        match side(point(i), d.box_lo[i], d.box_hi[i]) {
+            -1 => marks.low_dims |= 1 << i,
+            1 => marks.high_dims |= 1 << i,
+            _ => (),
+        }
+    }
+    marks
 }
 
 /// What an accepted configuration derives.

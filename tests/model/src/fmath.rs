@@ -48,3 +48,19 @@ pub fn clamp(x: f64, lo: f64, hi: f64) -> f64 {
         x
     }
 }
+
+/// -1 where clamp raises x to lo, 1 where it lowers it to hi, 0 where it is untouched; lo is tried first.
+pub fn side(x: f64, lo: f64, hi: f64) -> i64 {
+    if x < lo {
+        -1
+    } else if x > hi {
+        1
+    } else {
+        0
+    }
+}
+
+/// The value with its side.
+pub fn clamp_side(x: f64, lo: f64, hi: f64) -> (f64, i64) {
+    (clamp(x, lo, hi), side(x, lo, hi))
+}

@@ -6,7 +6,8 @@ use crate::{
     envelope::{self, derive},
     fmath::{clamp, max, min},
     refusal::{judged, not_finite, shorter, when, WIDTH},
-    ChunkView, ClampMode, Derived, FuseConfig, Refusal, Tier0Out, ACCEL, CONTACT, JERK, MAX_D, REACH, SPEED, WORKSPACE,
+    ChunkView, ClampMode, Derived, FuseConfig, Refusal, Tier0Out, WallMarks, ACCEL, CONTACT, JERK, MAX_D, REACH, SPEED,
+    WORKSPACE,
 };
 
 /// 1 - 2^-36.
@@ -68,6 +69,14 @@ impl<'a> Check<'a> {
             (Some(a), Some(b)) => Some(min(a, b)),
             (a, b) => a.or(b),
         }
+    }
+
+    /// The sides that the box moves a row to, as the row came; none where the box is not armed, or where no row is moved.
+    fn walls(&self, raw: &[f64]) -> WallMarks {
+        if self.cfg.clamp == ClampMode::Off || !self.armed(WORKSPACE) {
+            return WallMarks::default();
+        }
+        envelope::walls(self.cfg, &self.derived, |c| raw[c])
     }
 
     /// A row projected: box, leash towards q, and with `first` the reach pull.
@@ -148,6 +157,11 @@ pub fn check_chunk(
     before[..check.nb].copy_from_slice(&pos[..check.nb]);
 
     let mut res = trips_of_rows(&check, &rows, &before)?;
+    for raw in &rows {
+        let walls = check.walls(raw);
+        res.low_dims |= walls.low_dims;
+        res.high_dims |= walls.high_dims;
+    }
     if cfg.clamp == ClampMode::Off {
         out[..ch.data.len()].copy_from_slice(ch.data);
         return Ok(res);
@@ -197,7 +211,8 @@ fn trips_of_rows(check: &Check<'_>, rows: &[&[f64]], before: &Row) -> Result<Tie
         }
     }
     trips |= check.trips_of_reach(rows[0])?;
-    Ok(Tier0Out { trips, clamped_dims: 0, peak_speed: mul(peak, check.derived.inv_dt)? })
+    let peak_speed = mul(peak, check.derived.inv_dt)?;
+    Ok(Tier0Out { trips, clamped_dims: 0, peak_speed, low_dims: 0, high_dims: 0 })
 }
 
 pub fn check_action(
@@ -222,7 +237,8 @@ pub fn check_action(
     let check = Check::new(cfg, derive(cfg)?, pos, aux)?;
     let n = dist(a, prev, cfg.dim)?;
     let trips = check.trips_of_step(a, n) | check.trips_of_reach(a)?;
-    let mut res = Tier0Out { trips, clamped_dims: 0, peak_speed: mul(n, check.derived.inv_dt)? };
+    let WallMarks { low_dims, high_dims } = check.walls(a);
+    let mut res = Tier0Out { trips, clamped_dims: 0, peak_speed: mul(n, check.derived.inv_dt)?, low_dims, high_dims };
     let mut row = row_of(&a[..cfg.dim]);
     if cfg.clamp == ClampMode::Project {
         row = check.project(true, prev, row)?;

@@ -312,6 +312,15 @@ pub struct Tier0Out {
     pub trips: u32,
     pub clamped_dims: u32,
     pub peak_speed: f64,
+    pub low_dims: u32,
+    pub high_dims: u32,
+}
+
+/// A bit for each axis that the box raised to its low wall, and for each that it lowered to its high one.
+#[derive(Clone, Copy, Debug, Default, PartialEq, Eq)]
+pub struct WallMarks {
+    pub low_dims: u32,
+    pub high_dims: u32,
 }
 
 #[derive(Clone, Copy, Debug, PartialEq)]

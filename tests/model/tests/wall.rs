@@ -48,11 +48,12 @@ fn the_leash() {
     let mut out = [0.0; 2];
     let far = ChunkView { seq: 0, t_emit: 0, horizon: 1, dim: 2, exec_steps: 1, data: &[6.0, 8.0] };
     let r = tier0::check_chunk(&cfg, &[0.0, 0.0], &[], far, &mut out);
-    assert_eq!(r, Ok(Tier0Out { trips: SPEED, clamped_dims: 3, peak_speed: 10.0 }));
+    assert_eq!(r, Ok(Tier0Out { trips: SPEED, clamped_dims: 3, peak_speed: 10.0, low_dims: 0, high_dims: 0 }));
     assert_eq!(out, [3.0 - 3.0 * tiny, 4.0 - 4.0 * tiny]);
     let near = ChunkView { data: &[3.0, 4.0], ..far };
     let r = tier0::check_chunk(&cfg, &[0.0, 0.0], &[], near, &mut out);
-    assert_eq!((r, out), (Ok(Tier0Out { trips: 0, clamped_dims: 0, peak_speed: 5.0 }), [3.0, 4.0]));
+    let untouched = Tier0Out { trips: 0, clamped_dims: 0, peak_speed: 5.0, low_dims: 0, high_dims: 0 };
+    assert_eq!((r, out), (Ok(untouched), [3.0, 4.0]));
 }
 
 #[test]

@@ -1,10 +1,10 @@
 //! Module 7.
 
-use model::{brake as rule, refusal::COMPUTED, BrakeKind, BrakeOut, FuseConfig, Refusal};
+use model::{brake as rule, refusal::COMPUTED, BrakeKind, BrakeOut, FuseConfig, Refusal, WallMarks};
 
 use super::numbers;
 use crate::{
-    input::{at_least, chunk, config, config_parts, narrower_config, ChunkIn},
+    input::{at_least, chunk, config, config_parts, lay_walls, narrower_config, ChunkIn},
     number::{at_limit, filler, Field},
     part::Part,
     port::{BrakeAction, BrakeFeasible, HoldAction, Port},
@@ -23,7 +23,7 @@ pub struct ForecastIn {
 }
 
 fn shown(r: BrakeOut) -> Shown {
-    Shown { numbers: vec![r.margin, r.stop_dist], counts: vec![r.count as u64, r.feasible as u64] }
+    Shown { numbers: vec![r.margin, r.stop_dist], counts: vec![r.count as u64, r.feasible as u64], ..Shown::default() }
 }
 
 fn generate(rng: &mut Rng) -> ForecastIn {
@@ -129,6 +129,14 @@ fn generate_action(rng: &mut Rng) -> BrakeIn {
     BrakeIn { cfg, p, v, out: filler(rng, out) }
 }
 
+/// A position with a coordinate that is laid about its walls, where it has that one.
+fn generate_at_walls(rng: &mut Rng) -> BrakeIn {
+    let mut i = generate_action(rng);
+    let c = rng.below(i.cfg.dim.min(i.cfg.pos_dim));
+    lay_walls(rng, &mut i.cfg, c, i.p.get_mut(c).into_iter().collect());
+    i
+}
+
 fn action_parts(i: &mut BrakeIn) -> Vec<Part<'_>> {
     let mut parts = vec![Part::Slice(&mut i.p), Part::Slice(&mut i.v), Part::Slice(&mut i.out)];
     parts.extend(config_parts(&mut i.cfg));
@@ -139,8 +147,14 @@ fn narrower_action(i: &BrakeIn) -> Vec<BrakeIn> {
     vec![BrakeIn { cfg: narrower_config(&i.cfg), ..i.clone() }; (i.cfg.dim > 1) as usize]
 }
 
-fn written(answer: Result<(), Refusal>, out: Vec<f64>) -> Outcome {
-    Outcome { answer: answer.map(|()| Shown::default()), buffers: numbers(&out) }
+fn written(answer: Result<WallMarks, Refusal>, out: Vec<f64>) -> Outcome {
+    let shown = |w: WallMarks| Shown { added: vec![w.low_dims as i64, w.high_dims as i64], ..Shown::default() };
+    Outcome { answer: answer.map(shown), buffers: numbers(&out) }
+}
+
+/// What the published code writes: it answers nothing.
+fn rust_written(out: Vec<f64>) -> Outcome {
+    Outcome { answer: Ok(Shown::default()), buffers: numbers(&out) }
 }
 
 fn braked(f: BrakeAction, i: &BrakeIn) -> Outcome {
@@ -164,7 +178,7 @@ pub fn brake_action(port: &Port) -> Entry<BrakeIn> {
         rust: Box::new(|i| {
             let mut out = i.out.clone();
             oracle::brake_action(&i.cfg, &i.p, &i.v, &mut out);
-            Some(written(Ok(()), out))
+            Some(rust_written(out))
         }),
         port: port.brake_action.map(|f| Box::new(move |i: &BrakeIn| braked(f, i)) as _),
     }
@@ -181,8 +195,17 @@ pub fn hold_action(port: &Port) -> Entry<BrakeIn> {
         rust: Box::new(|i| {
             let mut out = i.out.clone();
             oracle::hold_action(&i.cfg, &i.p, &mut out);
-            Some(written(Ok(()), out))
+            Some(rust_written(out))
         }),
         port: port.hold_action.map(|f| Box::new(move |i: &BrakeIn| held(f, i)) as _),
     }
+}
+
+/// The two entries with a position about its walls. Their inputs stand apart, so that those of `brake_action` stay the kept sample's.
+pub fn brake_action_at_walls(port: &Port) -> Entry<BrakeIn> {
+    Entry { name: "brake_action at walls", generate: generate_at_walls, ..brake_action(port) }
+}
+
+pub fn hold_action_at_walls(port: &Port) -> Entry<BrakeIn> {
+    Entry { name: "hold_action at walls", generate: generate_at_walls, ..hold_action(port) }
 }

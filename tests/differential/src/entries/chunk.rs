@@ -15,7 +15,7 @@ use crate::{
 /// All of a buffer: its numbers, header and flag.
 pub fn shown(b: &ChunkBuf) -> Shown {
     let header = [b.seq as u64, b.t_emit as u64, b.horizon as u64, b.dim as u64, b.exec_steps as u64, b.filled as u64];
-    Shown { numbers: b.data.to_vec(), counts: header.to_vec() }
+    Shown { numbers: b.data.to_vec(), counts: header.to_vec(), ..Shown::default() }
 }
 
 #[derive(Clone, Debug)]
@@ -158,7 +158,7 @@ pub fn row_mut(port: &Port) -> Entry<RowIn> {
 fn viewed(f: View, i: &RowIn) -> Outcome {
     let v = f(&i.buf);
     let header = [v.seq as u64, v.t_emit as u64, v.horizon as u64, v.dim as u64, v.exec_steps as u64];
-    accepted(Shown { numbers: v.data.to_vec(), counts: header.to_vec() })
+    accepted(Shown { numbers: v.data.to_vec(), counts: header.to_vec(), ..Shown::default() })
 }
 
 /// The Rust has no view of an unfilled buffer.

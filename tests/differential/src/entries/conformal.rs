@@ -22,7 +22,7 @@ pub struct GateIn {
 /// All of a score.
 fn shown(sc: &Scores) -> Shown {
     let numbers = sc.f.iter().chain(&sc.z).chain([&sc.s]).copied().collect();
-    Shown { numbers, counts: vec![sc.valid as u64, sc.fired as u64] }
+    Shown { numbers, counts: vec![sc.valid as u64, sc.fired as u64], ..Shown::default() }
 }
 
 fn generate(rng: &mut Rng) -> GateIn {

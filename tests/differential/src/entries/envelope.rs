@@ -16,7 +16,7 @@ use crate::{
 fn shown(d: &Derived, dim: usize) -> Shown {
     let mut numbers = vec![d.inv_dt, d.inv_dt2, d.inv_dt3, d.step_max, d.norm_scale_iso];
     numbers.extend(d.box_lo.iter().chain(&d.box_hi).chain(&d.inv_norm_scale[..dim]));
-    Shown { numbers, counts: vec![] }
+    Shown { numbers, ..Shown::default() }
 }
 
 fn configuration(rng: &mut Rng) -> FuseConfig {

@@ -5,12 +5,12 @@ use std::time::Instant;
 use model::fmath as rule;
 use oracle::rust::fmath as rust;
 
-use super::{accepted, none, nothing, number, plain};
+use super::{accepted, none, nothing, number, numbers, plain};
 use crate::{
     input::at_least,
     number::{broken, Field},
     part::Part,
-    port::{Clamp, Port, Sqrt, Two},
+    port::{Clamp, ClampSide, Port, Sqrt, Two},
     rng::Rng,
     run::{Budget, Entry, Outcome, Report, Shown, Task},
 };
@@ -130,36 +130,50 @@ pub fn dist(port: &Port) -> Entry<DistIn> {
 
 #[derive(Clone, Debug)]
 pub struct OrderIn {
-    x: f64,
-    lo: f64,
-    hi: f64,
+    pub x: f64,
+    pub lo: f64,
+    pub hi: f64,
 }
 
-fn ordered(min: Two, max: Two, clamp: Clamp, i: &OrderIn) -> Outcome {
-    accepted(Shown { numbers: vec![min(i.x, i.lo), max(i.x, i.lo), clamp(i.x, i.lo, i.hi)], counts: vec![] })
+/// The least, the greatest, and what is clamped.
+fn ordered(min: Two, max: Two, clamp: Clamp, i: &OrderIn) -> Shown {
+    numbers(&[min(i.x, i.lo), max(i.x, i.lo), clamp(i.x, i.lo, i.hi)])
 }
 
-/// min, max and clamp. The Rust's clamp is another one at a NaN and where lo exceeds hi.
+/// The same with the side of clamp. Its value and clamp's own are shown by their bits, so that a zero keeps its sign and a NaN is the
+/// one that came.
+fn sided(min: Two, max: Two, clamp: Clamp, clamp_side: ClampSide, i: &OrderIn) -> Outcome {
+    let (value, side) = clamp_side(i.x, i.lo, i.hi);
+    let bits = [value, clamp(i.x, i.lo, i.hi)].map(|x| x.to_bits() as i64);
+    accepted(Shown { added: vec![side, bits[0], bits[1]], ..ordered(min, max, clamp, i) })
+}
+
+fn order_in(rng: &mut Rng) -> OrderIn {
+    let field = Field::new(rng);
+    let lo = field.number(rng);
+    let hi = if rng.one_in(4) { field.number(rng) } else { lo + field.above(rng) };
+    let x = match rng.below(4) {
+        0 => broken(rng, lo),
+        1 => broken(rng, hi),
+        _ => field.number(rng),
+    };
+    OrderIn { x, lo, hi }
+}
+
+/// min, max and clamp, with its side, which the Rust has not. The Rust's clamp is another one at a NaN and where lo exceeds hi.
 pub fn order(port: &Port) -> Entry<OrderIn> {
-    let linked = port.min.zip(port.max).zip(port.clamp);
+    let linked = port.min.zip(port.max).zip(port.clamp).zip(port.clamp_side);
     Entry {
         name: "min max clamp",
-        generate: |rng| {
-            let field = Field::new(rng);
-            let lo = field.number(rng);
-            let hi = if rng.one_in(4) { field.number(rng) } else { lo + field.above(rng) };
-            let x = match rng.below(4) {
-                0 => broken(rng, lo),
-                1 => broken(rng, hi),
-                _ => field.number(rng),
-            };
-            OrderIn { x, lo, hi }
-        },
+        generate: order_in,
         parts: |i| vec![Part::Num(&mut i.x), Part::Num(&mut i.lo), Part::Num(&mut i.hi)],
         narrower: none,
         before: nothing,
-        model: Box::new(|i| ordered(rule::min, rule::max, rule::clamp, i)),
-        rust: Box::new(|i| (!i.x.is_nan() && i.lo <= i.hi).then(|| ordered(rust::min, rust::max, rust::clamp, i))),
-        port: linked.map(|((min, max), clamp)| Box::new(move |i: &OrderIn| ordered(min, max, clamp, i)) as _),
+        model: Box::new(|i| sided(rule::min, rule::max, rule::clamp, rule::clamp_side, i)),
+        rust: Box::new(|i| {
+            (!i.x.is_nan() && i.lo <= i.hi).then(|| accepted(ordered(rust::min, rust::max, rust::clamp, i)))
+        }),
+        port: linked
+            .map(|(((min, max), clamp), side)| Box::new(move |i: &OrderIn| sided(min, max, clamp, side, i)) as _),
     }
 }

@@ -19,14 +19,18 @@ pub fn all(port: &Port) -> Vec<Task> {
     let mut tasks = vec![
         brake::brake_feasible(port).task(),
         tier0::check_chunk(port).task(),
+        tier0::check_chunk_at_walls(port).task(),
         tier1::features(port).task(),
         tier1::episode(port).task(),
         window::trail_run(port).task(),
         tier0::check_action(port).task(),
+        tier0::check_action_at_walls(port).task(),
         envelope::derive(port).task(),
         envelope::compiled(port).task(),
         brake::brake_action(port).task(),
         brake::hold_action(port).task(),
+        brake::brake_action_at_walls(port).task(),
+        brake::hold_action_at_walls(port).task(),
         conformal::standardise(port).task(),
         conformal::aggregate(port).task(),
         conformal::trip(port).task(),
@@ -67,15 +71,15 @@ pub fn none<I>(_: &I) -> Vec<I> {
 }
 
 pub fn number(x: f64) -> Shown {
-    Shown { numbers: vec![x], counts: vec![] }
+    Shown { numbers: vec![x], ..Shown::default() }
 }
 
 pub fn numbers(v: &[f64]) -> Shown {
-    Shown { numbers: v.to_vec(), counts: vec![] }
+    Shown { numbers: v.to_vec(), ..Shown::default() }
 }
 
 pub fn count(n: u64) -> Shown {
-    Shown { numbers: vec![], counts: vec![n] }
+    Shown { counts: vec![n], ..Shown::default() }
 }
 
 /// An accepted answer without buffers.

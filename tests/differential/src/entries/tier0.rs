@@ -1,9 +1,9 @@
 //! Module 5.
 
-use model::{tier0 as rule, FuseConfig, Refusal, Tier0Out, MAX_D};
+use model::{tier0 as rule, ClampMode, FuseConfig, Refusal, Tier0Out, CONTACT, MAX_D, REACH, SPEED, WORKSPACE};
 
 use crate::{
-    input::{at_least, chunk, config, config_parts, narrower_config, ChunkIn},
+    input::{at_least, chunk, config, config_parts, lay_walls, narrower_config, ChunkIn},
     number::{at_limit, filler, Field},
     part::Part,
     port::{CheckAction, CheckChunk, Port},
@@ -11,14 +11,24 @@ use crate::{
     run::{Entry, Outcome, Shown},
 };
 
-use super::numbers;
+use super::{number, numbers};
 
 fn shown(r: Tier0Out) -> Shown {
-    Shown { numbers: vec![r.peak_speed], counts: vec![r.trips as u64, r.clamped_dims as u64] }
+    Shown {
+        numbers: vec![r.peak_speed],
+        counts: vec![r.trips as u64, r.clamped_dims as u64],
+        added: vec![r.low_dims as i64, r.high_dims as i64],
+    }
 }
 
 fn outcome(answer: Result<Tier0Out, Refusal>, out: Vec<f64>) -> Outcome {
     Outcome { answer: answer.map(shown), buffers: numbers(&out) }
+}
+
+/// What the published code answers, which has no masks of sides.
+fn rust_outcome(r: oracle::rust::tier0::Tier0Out, out: Vec<f64>) -> Outcome {
+    let counts = vec![r.trips as u64, r.clamped_dims as u64];
+    Outcome { answer: Ok(Shown { counts, ..number(r.peak_speed) }), buffers: numbers(&out) }
 }
 
 #[derive(Clone, Debug)]
@@ -94,6 +104,40 @@ fn generate(rng: &mut Rng) -> CheckChunkIn {
     CheckChunkIn { cfg, pos, aux, ch, out: filler(rng, out) }
 }
 
+/// One coordinate of the rows laid about its walls, or beyond one where `starts` stand, to which a leash or a reach that is lost beside
+/// them brings the first row back.
+fn lay_rows(rng: &mut Rng, cfg: &mut FuseConfig, c: usize, starts: Vec<&mut f64>, rows: Vec<&mut f64>) {
+    let mostly = !rng.one_in(8);
+    if mostly {
+        (cfg.clamp, cfg.armed) = (ClampMode::Project, cfg.armed | WORKSPACE);
+    }
+    if !rng.one_in(3) {
+        return lay_walls(rng, cfg, c, rows);
+    }
+    let (lo, hi) = (cfg.box_lo[c], cfg.box_hi[c]);
+    let beyond = rng.pick(&[lo - 1.0 - lo.abs(), hi + 1.0 + hi.abs()]);
+    if rng.one_in(2) {
+        (cfg.armed, cfg.v_max) = (cfg.armed | SPEED, 1e-200);
+    } else {
+        (cfg.armed, cfg.reach_max) = (cfg.armed & !SPEED & !CONTACT | REACH, 1e-200);
+    }
+    for x in starts.into_iter().chain(rows.into_iter().take(1)) {
+        *x = beyond;
+    }
+}
+
+/// A chunk with a coordinate that is laid about its walls.
+fn generate_at_walls(rng: &mut Rng) -> CheckChunkIn {
+    let mut i = generate(rng);
+    let (d, nb) = (i.cfg.dim, i.cfg.dim.min(i.cfg.pos_dim));
+    if i.ch.dim as usize == d {
+        let c = rng.below(nb);
+        let rows = i.ch.data.iter_mut().skip(c).step_by(d).collect();
+        lay_rows(rng, &mut i.cfg, c, vec![&mut i.pos[c]], rows);
+    }
+    i
+}
+
 fn parts(i: &mut CheckChunkIn) -> Vec<Part<'_>> {
     let mut parts =
         vec![Part::Slice(&mut i.pos), Part::Slice(&mut i.aux), Part::Chunk(&mut i.ch), Part::Slice(&mut i.out)];
@@ -119,9 +163,18 @@ pub fn check_chunk(port: &Port) -> Entry<CheckChunkIn> {
         narrower,
         before: |i| numbers(&i.out),
         model: Box::new(|i| checked(rule::check_chunk, i)),
-        rust: Box::new(|i| Some(checked(|c, p, a, v, o| Ok(oracle::check_chunk(c, p, a, v, o)), i))),
+        rust: Box::new(|i| {
+            let mut out = i.out.clone();
+            let answer = oracle::check_chunk(&i.cfg, &i.pos, &i.aux, i.ch.view(), &mut out);
+            Some(rust_outcome(answer, out))
+        }),
         port: port.check_chunk.map(|f| Box::new(move |i: &CheckChunkIn| checked(f, i)) as _),
     }
+}
+
+/// The same entry, its rows about the walls. Its inputs stand apart, so that those of `check_chunk` stay the kept sample's.
+pub fn check_chunk_at_walls(port: &Port) -> Entry<CheckChunkIn> {
+    Entry { name: "check_chunk at walls", generate: generate_at_walls, ..check_chunk(port) }
 }
 
 #[derive(Clone, Debug)]
@@ -145,6 +198,14 @@ fn generate_action(rng: &mut Rng) -> CheckActionIn {
     }
     let out = d + rng.pick(&[0, 0, 1, 2]);
     CheckActionIn { cfg, pos, aux, prev, a, out: filler(rng, out) }
+}
+
+/// An action with a coordinate that is laid about its walls.
+fn generate_action_at_walls(rng: &mut Rng) -> CheckActionIn {
+    let mut i = generate_action(rng);
+    let c = rng.below(i.cfg.dim.min(i.cfg.pos_dim));
+    lay_rows(rng, &mut i.cfg, c, vec![&mut i.pos[c], &mut i.prev[c]], vec![&mut i.a[c]]);
+    i
 }
 
 fn action_parts(i: &mut CheckActionIn) -> Vec<Part<'_>> {
@@ -172,7 +233,16 @@ pub fn check_action(port: &Port) -> Entry<CheckActionIn> {
         narrower: |i| vec![CheckActionIn { cfg: narrower_config(&i.cfg), ..i.clone() }; (i.cfg.dim > 1) as usize],
         before: |i| numbers(&i.out),
         model: Box::new(|i| checked_action(rule::check_action, i)),
-        rust: Box::new(|i| Some(checked_action(|c, p, x, q, a, o| Ok(oracle::check_action(c, p, x, q, a, o)), i))),
+        rust: Box::new(|i| {
+            let mut out = i.out.clone();
+            let answer = oracle::check_action(&i.cfg, &i.pos, &i.aux, &i.prev, &i.a, &mut out);
+            Some(rust_outcome(answer, out))
+        }),
         port: port.check_action.map(|f| Box::new(move |i: &CheckActionIn| checked_action(f, i)) as _),
     }
+}
+
+/// The same entry, its action about the walls.
+pub fn check_action_at_walls(port: &Port) -> Entry<CheckActionIn> {
+    Entry { name: "check_action at walls", generate: generate_action_at_walls, ..check_action(port) }
 }

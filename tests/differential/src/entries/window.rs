@@ -34,7 +34,7 @@ pub struct PushIn {
 
 fn pushed(push: Push, hits: Hits, i: &PushIn) -> Outcome {
     let bits = push(i.bits, i.hit, i.mask);
-    accepted(Shown { numbers: vec![], counts: vec![bits, hits(bits) as u64] })
+    accepted(Shown { counts: vec![bits, hits(bits) as u64], ..Shown::default() })
 }
 
 /// push with any bits and any mask, and hits.
@@ -69,7 +69,7 @@ fn window_pushed(mask: Mask, push: Push, hits: Hits, i: &WindowRun) -> Outcome {
             bits = push(bits, *x != 0.0, m);
             counts.push(hits(bits) as u64);
         }
-        Shown { numbers: vec![], counts }
+        Shown { counts, ..Shown::default() }
     })
 }
 
@@ -79,7 +79,7 @@ fn last_true(i: &WindowRun) -> Outcome {
         let start = end.saturating_sub(i.n as usize);
         i.pushes[start..end].iter().filter(|x| **x != 0.0).count() as u64
     };
-    plain(rule::mask(i.n), |_| Shown { numbers: vec![], counts: (1..=i.pushes.len()).map(true_among).collect() })
+    plain(rule::mask(i.n), |_| Shown { counts: (1..=i.pushes.len()).map(true_among).collect(), ..Shown::default() })
 }
 
 pub fn window_run(port: &Port) -> Entry<WindowRun> {
@@ -102,7 +102,7 @@ pub fn window_run(port: &Port) -> Entry<WindowRun> {
 
 /// All of a trail.
 pub fn shown(t: &Trail) -> Shown {
-    Shown { numbers: t.buf.to_vec(), counts: vec![t.head as u64, t.len as u64] }
+    Shown { numbers: t.buf.to_vec(), counts: vec![t.head as u64, t.len as u64], ..Shown::default() }
 }
 
 #[derive(Clone, Debug)]
@@ -190,7 +190,7 @@ pub fn path(port: &Port) -> Entry<TrailIn> {
 }
 
 pub fn trail_len(port: &Port) -> Entry<Trail> {
-    let counted = |(n, empty): (usize, bool)| Shown { numbers: vec![], counts: vec![n as u64, empty.into()] };
+    let counted = |(n, empty): (usize, bool)| Shown { counts: vec![n as u64, empty.into()], ..Shown::default() };
     Entry {
         name: "trail len",
         generate: |rng| {
@@ -249,7 +249,8 @@ fn trail_ran(push: TrailPush, net: TrailNumber, path: TrailNumber, i: &TrailRun)
         Ok(())
     };
     let answer = i.samples.iter().try_for_each(&mut step);
-    let answer = answer.map(|()| Shown { numbers: seen, counts: vec![t.head as u64, t.len as u64] });
+    let answer =
+        answer.map(|()| Shown { numbers: seen, counts: vec![t.head as u64, t.len as u64], ..Shown::default() });
     Outcome { answer, buffers: Shown::default() }
 }
 

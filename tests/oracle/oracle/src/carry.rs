@@ -1,10 +1,10 @@
 //! Arguments and answers carried between the port's sizes and the Rust's, feature by feature by name.
 
 use lictor_core as rust;
-use lictor_detect::{tier0, tier1};
+use lictor_detect::tier1;
 use model::{
-    ActionKind, BrakeKind, Calibration, ChunkBuf, ChunkView, ClampMode, Derived, FuseConfig, Scores, Tier0Out, Tier1Rt,
-    BINS, HELD, MAX_D, MAX_H, NFEAT, STALL,
+    ActionKind, BrakeKind, Calibration, ChunkBuf, ChunkView, ClampMode, Derived, FuseConfig, Scores, Tier1Rt, BINS,
+    HELD, MAX_D, MAX_H, NFEAT, STALL,
 };
 
 use crate::trail;
@@ -132,10 +132,6 @@ pub fn tier1_rt_back(r: &tier1::Tier1Rt, was: &Tier1Rt) -> Tier1Rt {
     held.copy_from_slice(&by_name_back(&r.held)[..HELD]);
     let (prev, trail) = (chunk_buf_back(&r.prev, &was.prev), trail::from_rust(&r.trail));
     Tier1Rt { prev, have_prev: r.have_prev, trail, held, held_valid: bits_back(r.held_valid) }
-}
-
-pub fn tier0_out(r: tier0::Tier0Out) -> Tier0Out {
-    Tier0Out { trips: r.trips, clamped_dims: r.clamped_dims, peak_speed: r.peak_speed }
 }
 
 pub fn action_kind(k: ActionKind) -> rust::ActionKind {

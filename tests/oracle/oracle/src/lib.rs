@@ -10,7 +10,7 @@ use std::{cell::Cell, hint::black_box};
 use lictor_core::{ChunkError, ChunkView, ObsView};
 use lictor_detect::{brake, conformal, tier0, tier1, window};
 use lictor_watched::{flags, slacks_seen};
-use model::{BrakeOut, Calibration, ChunkBuf, FuseConfig, Scores, Tier0Out, Tier1Rt, Trail};
+use model::{BrakeOut, Calibration, ChunkBuf, FuseConfig, Scores, Tier1Rt, Trail};
 
 pub use carry::{calibration, chunk_view, config, derived, scores, tier1_rt};
 pub use compile::{compile, compile_calibrated, compile_with_ticks};
@@ -150,18 +150,32 @@ pub fn trail_clear(t: &mut Trail) {
     *t = trail::from_rust(&r);
 }
 
-pub fn check_chunk(cfg: &FuseConfig, pos: &[f64], aux: &[f64], ch: model::ChunkView<'_>, out: &mut [f64]) -> Tier0Out {
+/// The published answer itself, which has no low and no high mask.
+pub fn check_chunk(
+    cfg: &FuseConfig,
+    pos: &[f64],
+    aux: &[f64],
+    ch: model::ChunkView<'_>,
+    out: &mut [f64],
+) -> tier0::Tier0Out {
     let mut buf = lictor_core::ChunkBuf::new();
     let cfg = config(cfg);
     let r = watch(|| tier0::check_chunk(&cfg, obs(pos, aux, &[]), chunk_view(ch), &mut buf));
     let rows = buf.view().map_or(&[][..], |v| v.data);
     out[..rows.len()].copy_from_slice(rows);
-    carry::tier0_out(r)
+    r
 }
 
-pub fn check_action(cfg: &FuseConfig, pos: &[f64], aux: &[f64], prev: &[f64], a: &[f64], out: &mut [f64]) -> Tier0Out {
+pub fn check_action(
+    cfg: &FuseConfig,
+    pos: &[f64],
+    aux: &[f64],
+    prev: &[f64],
+    a: &[f64],
+    out: &mut [f64],
+) -> tier0::Tier0Out {
     let cfg = config(cfg);
-    carry::tier0_out(watch(|| tier0::check_action(&cfg, obs(pos, aux, &[]), prev, a, out)))
+    watch(|| tier0::check_action(&cfg, obs(pos, aux, &[]), prev, a, out))
 }
 
 pub fn features(
