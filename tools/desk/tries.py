@@ -34,8 +34,9 @@ REFUSALS = answers.REFUSALS | {
     4: 'channel0 and channel1 are the same, or one of them is not below channels',
     12: 'a number of p, row or camera is not finite',
 }
-# a line of the program: a refusal's number, or 0 with trips, moved coordinates, peak speed and eight numbers of the row
-LINE = re.compile('(?P<refusal>[1-9][0-9]*)|0 (?P<trips>[0-9]+) (?P<moved>[0-9]+)(?P<numbers>(?: [0-9a-f]{16}){9})')
+# a line of the program: a refusal's number, or 0 with trips, moved coordinates, peak speed, eight numbers of the row,
+# and the axes that a low and a high wall moved
+LINE = re.compile('(?P<refusal>[1-9][0-9]*)|0 (?P<trips>[0-9]+) (?P<moved>[0-9]+)(?P<numbers>(?: [0-9a-f]{16}){9}) (?P<low>[0-9]+) (?P<high>[0-9]+)')
 # a belief: what is set for it, what the answer shows, and what to change
 Belief = namedtuple('Belief', 'said settings shows vary')
 BELIEFS = {
@@ -135,6 +136,12 @@ def record(s):
     return struct.pack('<44d26QQ8dQ8d8d8d', *config, *counts, 2, *place, len(s['camera']), *camera, *place, *row)
 
 
+def walls(low, high):
+    """What the box did, in words; axes are counted from 0, as in the masks."""
+    moves = (('raised', 'low', low), ('lowered', 'high', high))
+    return [f'the box {moved} axis {j} to its {name} wall' for j in range(8) for moved, name, mask in moves if mask >> j & 1]
+
+
 def told(line):
     """The answer in words, and whether nothing trips."""
     found = LINE.fullmatch(line)
@@ -147,7 +154,8 @@ def told(line):
     row = ', '.join(map(text.readable, row[:2]))
     names = ', '.join(name.upper() for name, bit in TRIPS.items() if trips & bit)
     out = f'the row is moved to {row}' if moved else f'the row comes out as it went in: {row}'
-    return f'{"trips: " + names if trips else "nothing trips"}; {out}; peak speed {text.readable(peak)} m/s', not trips
+    parts = ['trips: ' + names if trips else 'nothing trips', *walls(int(found['low']), int(found['high'])), out, f'peak speed {text.readable(peak)} m/s']
+    return '; '.join(parts), not trips
 
 
 def run(name, words):
