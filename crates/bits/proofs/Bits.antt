@@ -87,13 +87,7 @@ module _ (p : ℕ → Bool) where
   pub no-bit-past : (n j : ℕ) → n ≤ j → bit (bitsWhere p n) j ≡ false
   no-bit-past n j h = bit-above (bitsWhere p n) j (lt-of-lt-of-le (bits-below p n) (pow-mono h))
 
--- ---- two words by their tests
-
--- the same tests below n make the same word
-pub bits-same : (p q : ℕ → Bool) (n : ℕ) → ((j : ℕ) → j < n → p j ≡ q j) → bitsWhere p n ≡ bitsWhere q n
-unfolding bitsWhere
-bits-same p q zero e = refl
-bits-same p q (suc n) e = rw (bits-same p q n (λ j l. e j (omega arith)), e n (omega arith))
+-- ---- words by their tests
 
 -- no test holds: the word is 0
 pub bits-none : (p : ℕ → Bool) (n : ℕ) → ((j : ℕ) → j < n → p j ≡ false) → bitsWhere p n ≡ 0

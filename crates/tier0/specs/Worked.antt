@@ -25,14 +25,14 @@ use Rattle.tier0.specs.declared.Checks.{Checks}
 use Rattle.tier0.specs.Rule.{WORKSPACE, SPEED, arms, slowZone, outOfBox, outOfReach, tripBits, boxed, leashed, reached, moves, project, projection, boxesRows, rowMasks, Judgement, checkAction}
 use Rattle.tier0.specs.Chunk.{rowsMasks}
 
--- one coordinate
-abbrev one-axis : ℕ → Float → Workspace → Checks
-one-axis armed step walls = record {
-  dim = 1;
+-- a position of one coordinate, and rows of dim
+abbrev checking : ℕ → ClampMode → ℕ → Float → Workspace → Checks
+checking dim mode armed step walls = record {
+  dim = dim;
   «pos_dim» = 1;
   armed = armed;
   contact = None;
-  clamp = Project;
+  clamp = mode;
   dt = 1!;
   «a_max» = 1!;
   «j_max» = 1!;
@@ -46,7 +46,7 @@ one-axis armed step walls = record {
 
 -- SPEED alone armed, step 1.5
 abbrev line : Checks
-line = one-axis SPEED (fin false 3 (negsuc 0)) (record { lo = []; hi = [] })
+line = checking 1 Project SPEED (fin false 3 (negsuc 0)) (record { lo = []; hi = [] })
 
 -- from 2^53 to x
 abbrev along : Float → Checked Judgement
@@ -69,24 +69,9 @@ trips-again = refl
 
 -- ---- which walls moved rows
 
--- two coordinates, of which the position has one, between -1 and 2
+-- rows of two coordinates, the first between -1 and 2
 abbrev between : ClampMode → ℕ → Checks
-between m armed = record {
-  dim = 2;
-  «pos_dim» = 1;
-  armed = armed;
-  contact = None;
-  clamp = m;
-  dt = 1!;
-  «a_max» = 1!;
-  «j_max» = 1!;
-  «reach_max» = 1!;
-  «inv_dt» = 1!;
-  «inv_dt2» = 1!;
-  «inv_dt3» = 1!;
-  «step_max» = 1!;
-  walls = record { lo = fin true 1 (pos 0) ∷ replicate 7 +0; hi = 2! ∷ replicate 7 +0 };
-}
+between m armed = checking 2 m armed 1! (record { lo = fin true 1 (pos 0) ∷ replicate 7 +0; hi = 2! ∷ replicate 7 +0 })
 
 abbrev -5! : Float
 -5! = fin true 5 (pos 0)
@@ -115,7 +100,7 @@ none-unarmed = refl
 -- the leash takes a box move back: from 2, an action at 2 is lowered to the wall at 1, and a leash of 2^-70 leaves it at 2. The high mask tells of the box move,
 -- clamped_dims of the row as it goes out
 abbrev held-back : Checked Judgement
-held-back = checkAction binary64 (one-axis (WORKSPACE + SPEED) (fin false 1 (negsuc 69)) (record { lo = +0 ∷ []; hi = 1! ∷ [] })) (2! ∷ []) [] (2! ∷ []) (2! ∷ [])
+held-back = checkAction binary64 (checking 1 Project (WORKSPACE + SPEED) (fin false 1 (negsuc 69)) (record { lo = +0 ∷ []; hi = 1! ∷ [] })) (2! ∷ []) [] (2! ∷ []) (2! ∷ [])
 
 pub taken-back : held-back .value .after .rows ≡ 2! ∷ replicate 7 +0
 unfolding checkAction tripBits mul projection slowZone outOfBox dist project moves arms lt rootOf reached bitsWhere sumFrom add leashed ne squaredGap sub outOfReach pulled padded over finite boxed shortened each toward div number rootExponent half nearRoot floorRoot scaled inward clamped
