@@ -167,6 +167,11 @@ pub over-more : (g : ℕ → Float) (l a : List Float) (i : ℕ) (v : Float) →
 unfolding over
 over-more g l a i v e w = rw (add-one, e, w)
 
+pub over-same : (g h : ℕ → Float) (l : List Float) (n : ℕ) → ((j : ℕ) → j < n → g j ≡ h j) → over g l n ≡ over h l n
+unfolding over
+over-same g h l zero e = refl
+over-same g h l (suc n) e = rw (over-same g h l n (λ j b. e j (omega arith)), e n (omega arith))
+
 pub length-over : (g : ℕ → Float) (l : List Float) (n : ℕ) → length (over g l n) ≡ length l
 unfolding over
 length-over g l zero = refl

@@ -14,7 +14,7 @@ use Rattle.checked.specs.Checked.{sumFrom}
 use Rattle.fmath.specs.Norm.{squareAt, norm, squaredGap, dist}
 use Rattle.checked.proofs.Absorbing.{fine-mul-left, fine-root, sub-nan, nan-sub, nan-mul, root-nan}
 use Rattle.checked.proofs.Ordered.{below-nan}
-use Rattle.checked.proofs.Sums.{sum-nan}
+use Rattle.checked.proofs.Sums.{sum-nan, sum-same}
 use Rattle.checked.proofs.Told.{Tells, implied, told, sum-tells}
 
 -- the entry after the last
@@ -33,6 +33,11 @@ module _ (f : Format) where
   pub dist-tells : (a b : List Float) (n : ℕ) → Tells (dist f a b n)
   unfolding dist finite
   dist-tells a b n = told _ _ _ (sum-tells f +0 (squaredGap f a b) refl (gap-tells a b) n) (fine-root f (sumFrom f +0 (squaredGap f a b) n .value))
+
+  -- of points that agree on the coordinates that are read
+  pub dist-same : (a b c : List Float) (n : ℕ) → ((j : ℕ) → j < n → at b j ≡ at c j) → dist f a b n ≡ dist f a c n
+  unfolding dist squaredGap
+  dist-same a b c n e = rw (sum-same (squaredGap f a b) (squaredGap f a c) f +0 n (λ j l. rw (e j l)))
 
   pub norm-tells : (v : List Float) (n : ℕ) → Tells (norm f v n)
   unfolding norm finite
