@@ -15,6 +15,7 @@ use Rattle.conformal.specs.Rule.{Tables}
 use Rattle.conformal.specs.declared.Calibration.{Calibration}
 use Rattle.envelope.specs.declared.ActionKind.the-variants.{EePosition}
 use Rattle.envelope.specs.declared.ClampMode.the-variants.{Off}
+use Rattle.envelope.specs.declared.AbsentCamera.the-variants.{Slow}
 use Rattle.envelope.specs.declared.BrakeKind.the-variants.{PdSecondOrder}
 use Rattle.envelope.specs.declared.Contact.the-variants.{None}
 use Rattle.envelope.specs.declared.Limits.{Limits}
@@ -72,6 +73,7 @@ configOf c = record {
   norm = normOf;
   walls = wallsOf c;
   contact = None;
+  «absent_camera» = Slow;
   brake = brakeOf c;
   clamp = Off;
   armed = 0;

@@ -9,6 +9,7 @@ use brake::BrakeOut;
 use chunk::Header;
 use conformal::Calibration;
 use conformal::GateSpec;
+use envelope::AbsentCamera;
 use envelope::ActionKind;
 use envelope::Box;
 use envelope::BrakeKind;
@@ -113,6 +114,7 @@ pub fn configure(c: Card) -> FuseConfig
         norm,
         walls,
         contact: Contact::None,
+        absent_camera: AbsentCamera::Slow,
         brake,
         clamp: ClampMode::Off,
         armed: 0,

@@ -84,6 +84,7 @@ promised = record {
   flag-clear = λ f c t u cal ticks e. rw e;
   past-the-count = λ f c t terms same. rw (same-sizes (c .calib) terms same, same-numbers (c .calib) terms same t, same-features (c .calib) terms same);
   armed-or-not = λ f c t bits. refl;
+  either-choice = λ f c t choice. refl;
   exactly-4096 = λ b sub commit e. rw (sub, commit, e);
   one-step-more = λ b sub commit e. rw (sub, commit, e);
   unread-past = unread-past;

@@ -12,6 +12,7 @@ use Rattle.conformal.specs.Promises.{NamesNoStall, withTerms, AgreeCounted}
 use Rattle.conformal.specs.declared.Calibration.{Calibration}
 use Rattle.envelope.specs.Derive.{derived}
 use Rattle.envelope.specs.Refusals.{sizesOk, numbersOk, countsOk, stepsOk, channelsFit, featuresOk, configJudged}
+use Rattle.envelope.specs.declared.AbsentCamera.{AbsentCamera}
 use Rattle.envelope.specs.declared.FuseConfig.{FuseConfig}
 use Rattle.envelope.specs.declared.BrakeModel.{BrakeModel}
 use Rattle.envelope.specs.declared.Norm.{Norm}
@@ -25,9 +26,9 @@ pub record Fit (f : Format) (c : FuseConfig) (t : Tables) : Type 0 where
   pub apart : channelsFit c ≡ true
   pub features : featuresOk c ≡ true
 
--- c with other norms, walls, brake, armed bits, calibration and horizon: the one place where a changed configuration is spelled out
-abbrev pub altered : FuseConfig → Norm → Box → BrakeModel → ℕ → Calibration → ℕ → FuseConfig
-altered c n w b bits cal ticks = record {
+-- c with another choice for an absent camera, other norms, walls, brake, armed bits, calibration and horizon: the one place where a changed configuration is spelled out
+abbrev pub altered : FuseConfig → AbsentCamera → Norm → Box → BrakeModel → ℕ → Calibration → ℕ → FuseConfig
+altered c choice n w b bits cal ticks = record {
   kind = c .kind;
   dim = c .dim;
   «pos_dim» = c .«pos_dim»;
@@ -35,6 +36,7 @@ altered c n w b bits cal ticks = record {
   norm = n;
   walls = w;
   contact = c .contact;
+  «absent_camera» = choice;
   brake = b;
   clamp = c .clamp;
   armed = bits;
@@ -45,16 +47,19 @@ altered c n w b bits cal ticks = record {
 }
 
 abbrev pub calibratedBy : FuseConfig → Calibration → ℕ → FuseConfig
-calibratedBy c cal ticks = altered c (c .norm) (c .walls) (c .brake) (c .armed) cal ticks
+calibratedBy c cal ticks = altered c (c .«absent_camera») (c .norm) (c .walls) (c .brake) (c .armed) cal ticks
 
 abbrev pub armedBy : FuseConfig → ℕ → FuseConfig
-armedBy c bits = altered c (c .norm) (c .walls) (c .brake) bits (c .calib) (c .«horizon_ticks»)
+armedBy c bits = altered c (c .«absent_camera») (c .norm) (c .walls) (c .brake) bits (c .calib) (c .«horizon_ticks»)
 
 abbrev pub measuredBy : FuseConfig → Norm → Box → FuseConfig
-measuredBy c n w = altered c n w (c .brake) (c .armed) (c .calib) (c .«horizon_ticks»)
+measuredBy c n w = altered c (c .«absent_camera») n w (c .brake) (c .armed) (c .calib) (c .«horizon_ticks»)
 
 abbrev pub brakedBy : FuseConfig → BrakeModel → FuseConfig
-brakedBy c b = altered c (c .norm) (c .walls) b (c .armed) (c .calib) (c .«horizon_ticks»)
+brakedBy c b = altered c (c .«absent_camera») (c .norm) (c .walls) b (c .armed) (c .calib) (c .«horizon_ticks»)
+
+abbrev pub absentBy : FuseConfig → AbsentCamera → FuseConfig
+absentBy c choice = altered c choice (c .norm) (c .walls) (c .brake) (c .armed) (c .calib) (c .«horizon_ticks»)
 
 -- two lists that agree on the first n entries
 abbrev pub Agree : ℕ → List Float → List Float → Type 0
@@ -79,6 +84,8 @@ pub record Promised : Type 0 where
       → refusal (configJudged f (calibratedBy c (withTerms (c .calib) terms) (c .«horizon_ticks»)) t) ≡ refusal (configJudged f c t)
   -- what is armed changes nothing: a contact that is configured is judged all the same
   pub armed-or-not : (f : Format) (c : FuseConfig) (t : Tables) (bits : ℕ) → refusal (configJudged f (armedBy c bits) t) ≡ refusal (configJudged f c t)
+  -- nor does the choice for an absent camera
+  pub either-choice : (f : Format) (c : FuseConfig) (t : Tables) (choice : AbsentCamera) → refusal (configJudged f (absentBy c choice) t) ≡ refusal (configJudged f c t)
   -- commit 64, brake_steps 0, substeps 64: accepted; brake_steps 1: refused
   pub exactly-4096 : (b : BrakeModel) → b .substeps .0 ≡ 64 → b .commit .0 ≡ 64 → b .«brake_steps» .0 ≡ 0 → countsOk b ≡ true
   pub one-step-more : (b : BrakeModel) → b .substeps .0 ≡ 64 → b .commit .0 ≡ 64 → b .«brake_steps» .0 ≡ 1 → countsOk b ≡ false

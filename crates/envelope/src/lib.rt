@@ -44,6 +44,13 @@ pub enum Contact {
     },
 }
 
+// What a zone counts as that is not seen, since the camera's message is too short for one of its channels or the position has one
+// coordinate: one that the arm is inside, or none.
+pub enum AbsentCamera {
+    Slow,
+    NoZone,
+}
+
 // Control steps and substeps are counted apart; `substeps_in` alone joins them.
 pub struct ControlSteps(pub u16);
 
@@ -107,6 +114,7 @@ pub struct FuseConfig {
     pub norm: Norm,
     pub walls: Box,
     pub contact: Contact,
+    pub absent_camera: AbsentCamera,
     pub brake: BrakeModel,
     pub clamp: ClampMode,
     pub armed: u32,

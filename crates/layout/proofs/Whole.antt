@@ -9,6 +9,7 @@ use Rattle.conformal.specs.declared.Calibration.{Calibration}
 use Rattle.conformal.specs.declared.GateSpec.{GateSpec}
 use Rattle.envelope.specs.declared.ActionKind.{ActionKind}
 use Rattle.envelope.specs.declared.ClampMode.{ClampMode}
+use Rattle.envelope.specs.declared.AbsentCamera.{AbsentCamera}
 use Rattle.envelope.specs.declared.BrakeKind.{BrakeKind}
 use Rattle.envelope.specs.declared.Contact.{Contact}
 use Rattle.envelope.specs.declared.Limits.{Limits}
@@ -17,7 +18,7 @@ use Rattle.envelope.specs.declared.Box.{Box}
 use Rattle.envelope.specs.declared.BrakeModel.{BrakeModel}
 use Rattle.envelope.specs.declared.FuseConfig.{FuseConfig}
 use Rattle.layout.specs.Places.{count, in8, in16, in32}
-use Rattle.layout.specs.Config.{kindOf, clampOf, brakeKindOf, limitsOf, brakeOf, zoneOf, normOf, wallsOf, gateOf, calibrationOf, configOf}
+use Rattle.layout.specs.Config.{kindOf, clampOf, absentCameraOf, brakeKindOf, limitsOf, brakeOf, zoneOf, normOf, wallsOf, gateOf, calibrationOf, configOf}
 
 pub whole-brake : (n : List Float) (c : List ℕ) {kind : BrakeKind} {per rows steps ticks : ℕ}
     → kind ≡ brakeKindOf (count c 4) (at n 6) (at n 7) (at n 8)
@@ -45,7 +46,7 @@ pub whole-gate : (c : List ℕ) {k t0 t1 t2 t3 t4 t5 t6 t7 : ℕ}
 unfolding gateOf
 whole-gate c e e0 e1 e2 e3 e4 e5 e6 e7 = rw (e, e0, e1, e2, e3, e4, e5, e6, e7)
 
-pub whole-config : (n : List Float) (c : List ℕ) {kind : ActionKind} {limits : Limits} {norm : Norm} {walls : Box} {contact : Contact} {brake : BrakeModel} {clamp : ClampMode} {calib : Calibration} {armed ticks : ℕ}
+pub whole-config : (n : List Float) (c : List ℕ) {kind : ActionKind} {limits : Limits} {norm : Norm} {walls : Box} {contact : Contact} {brake : BrakeModel} {clamp : ClampMode} {calib : Calibration} {armed ticks : ℕ} {absent : AbsentCamera}
     → kind ≡ kindOf (count c 2)
     → limits ≡ limitsOf n
     → norm ≡ normOf n
@@ -56,6 +57,7 @@ pub whole-config : (n : List Float) (c : List ℕ) {kind : ActionKind} {limits :
     → armed ≡ in32 (count c 20)
     → calib ≡ calibrationOf n c
     → ticks ≡ in32 (count c 25)
+    → absent ≡ absentCameraOf (count c 26)
     → _≡_ {A = FuseConfig}
     (record {
       kind = kind;
@@ -65,6 +67,7 @@ pub whole-config : (n : List Float) (c : List ℕ) {kind : ActionKind} {limits :
       norm = norm;
       walls = walls;
       contact = contact;
+      «absent_camera» = absent;
       brake = brake;
       clamp = clamp;
       armed = armed;
@@ -75,4 +78,4 @@ pub whole-config : (n : List Float) (c : List ℕ) {kind : ActionKind} {limits :
     })
     (configOf n c)
 unfolding configOf
-whole-config n c e1 e2 e3 e4 e5 e6 e7 e8 e9 e10 = rw (e1, e2, e3, e4, e5, e6, e7, e8, e9, e10)
+whole-config n c e1 e2 e3 e4 e5 e6 e7 e8 e9 e10 e11 = rw (e1, e2, e3, e4, e5, e6, e7, e8, e9, e10, e11)

@@ -1,4 +1,4 @@
--- The configuration in flat arrays: 44 numbers and 26 counts and codes. The calibration's two tables of 192 are lent as they are.
+-- The configuration in flat arrays: 44 numbers and 27 counts and codes. The calibration's two tables of 192 are lent as they are.
 use Prim.Native.Nat.{ℕ, zero, suc}
 use mathlib.Core.Bool.{Bool, _&&_, _||_}
 use Rattle.bits.specs.Choice.{if_then_else_}
@@ -12,6 +12,8 @@ use Rattle.envelope.specs.declared.ActionKind.{ActionKind}
 use Rattle.envelope.specs.declared.ActionKind.the-variants as K
 use Rattle.envelope.specs.declared.ClampMode.{ClampMode}
 use Rattle.envelope.specs.declared.ClampMode.the-variants as M
+use Rattle.envelope.specs.declared.AbsentCamera.{AbsentCamera}
+use Rattle.envelope.specs.declared.AbsentCamera.the-variants as A
 use Rattle.envelope.specs.declared.BrakeKind.{BrakeKind}
 use Rattle.envelope.specs.declared.BrakeKind.the-variants as B
 use Rattle.envelope.specs.declared.Contact.{Contact}
@@ -36,6 +38,11 @@ kindOf (suc (suc (suc (suc k)))) = K.Other
 unfoldable pub clampOf : ℕ → ClampMode
 clampOf zero = M.Off
 clampOf (suc k) = M.Project
+
+unfoldable pub absentCameraOf : ℕ → AbsentCamera
+absentCameraOf zero = A.Slow
+absentCameraOf (suc zero) = A.NoZone
+absentCameraOf (suc (suc k)) = A.Slow
 
 unfoldable pub brakeKindOf : ℕ → Float → Float → Float → BrakeKind
 brakeKindOf zero kp kv dt = B.PdSecondOrder kp kv dt
@@ -104,6 +111,7 @@ configOf n c = record {
   norm = normOf n;
   walls = wallsOf n;
   contact = zoneOf n c;
+  «absent_camera» = absentCameraOf (count c 26);
   brake = brakeOf n c;
   clamp = clampOf (count c 3);
   armed = in32 (count c 20);
@@ -116,7 +124,7 @@ configOf n c = record {
 -- ---- what fits, field by field of the table (R0)
 -- Fields as wide as the array: dim, pos_dim and aux_count (counts 0, 1 and 21).
 -- Cut, since row 1 or 3 refuses all that does not fit: substeps, commit and brake_steps (8 to 10), the counted terms (12 to 19), mask and n_terms (23, 24).
--- Judged here: codes and flags (2 to 5 and 22), the channels of a contact (6 and 7), react_ticks (11), armed (20) and, with a calibration, horizon_ticks (25).
+-- Judged here: codes and flags (2 to 5, 22 and 26), the channels of a contact (6 and 7), react_ticks (11), armed (20) and, with a calibration, horizon_ticks (25).
 
 -- a contact's channels fit, or row 4 refuses them: they are equal, or one is at or above aux_count
 unfoldable pub zoneFits : List ℕ → Bool
@@ -125,7 +133,7 @@ zoneFits c =
 
 -- each code and each flag is one of its kind
 unfoldable pub codesFit : List ℕ → Bool
-codesFit c = every (leb (count c 2) 4 ∷ leb (count c 3) 1 ∷ leb (count c 4) 4 ∷ leb (count c 5) 1 ∷ leb (count c 22) 1 ∷ [])
+codesFit c = every (leb (count c 2) 4 ∷ leb (count c 3) 1 ∷ leb (count c 4) 4 ∷ leb (count c 5) 1 ∷ leb (count c 22) 1 ∷ leb (count c 26) 1 ∷ [])
 
 -- react_ticks and armed fit their fields
 unfoldable pub fieldsFit : List ℕ → Bool

@@ -1,13 +1,14 @@
-// The configuration: 44 numbers and 26 counts and codes. The calibration's two tables of 192 are lent as they are.
+// The configuration: 44 numbers and 27 counts and codes. The calibration's two tables of 192 are lent as they are.
 ghost use mathlib.Core.Path.{_≡_};
 ghost use Prim.Native.Nat.{_+_, _≤_};
 ghost use Rattle.layout.specs.Places.{part};
-ghost use Rattle.layout.specs.Config.{kindOf, clampOf, brakeKindOf, contactOf, channelOf, limitsOf, brakeOf, zoneOf, normOf, wallsOf, gateOf, calibrationOf, configOf, zoneFits, codesFit, fieldsFit, countsFit, derivedFlat};
+ghost use Rattle.layout.specs.Config.{kindOf, clampOf, absentCameraOf, brakeKindOf, contactOf, channelOf, limitsOf, brakeOf, zoneOf, normOf, wallsOf, gateOf, calibrationOf, configOf, zoneFits, codesFit, fieldsFit, countsFit, derivedFlat};
 use crate::places::to_u8;
 use crate::places::to_u16;
 use crate::places::to_u32;
 use conformal::Calibration;
 use conformal::GateSpec;
+use envelope::AbsentCamera;
 use envelope::ActionKind;
 use envelope::Box;
 use envelope::BrakeKind;
@@ -21,7 +22,7 @@ use envelope::Limits;
 use envelope::Norm;
 use envelope::Substeps;
 
-// ---- codes: one that is none gives the last kind
+// ---- codes: one that is none gives the last kind, and of the choices for an absent camera the slow one
 
 fn kind_of(k: u64) -> ActionKind
     ensures { λ r. ⌜ r ≡ kindOf k ⌝ }
@@ -41,6 +42,15 @@ fn clamp_of(k: u64) -> ClampMode
     match k {
         0 => ClampMode::Off,
         _ => ClampMode::Project,
+    }
+}
+
+fn absent_camera_of(k: u64) -> AbsentCamera
+    ensures { λ r. ⌜ r ≡ absentCameraOf k ⌝ }
+{
+    match k {
+        1 => AbsentCamera::NoZone,
+        _ => AbsentCamera::Slow,
     }
 }
 
@@ -85,7 +95,7 @@ fn limits_of(n: &[f64; 44]) -> Limits
     }
 }
 
-fn brake_of(n: &[f64; 44], c: &[u64; 26]) -> BrakeModel
+fn brake_of(n: &[f64; 44], c: &[u64; 27]) -> BrakeModel
     ensures { λ r. ⌜ r ≡ brakeOf (now (n .entry)) (now (c .entry)) ⌝ }
 {
     let kind = brake_kind_of(c[4], n[6], n[7], n[8]);
@@ -109,7 +119,7 @@ fn channel(own: u64, other: u64) -> u8
     if other <= 255 { to_u8(own) } else { 255 }
 }
 
-fn zone_of(n: &[f64; 44], c: &[u64; 26]) -> Contact
+fn zone_of(n: &[f64; 44], c: &[u64; 27]) -> Contact
     ensures { λ r. ⌜ r ≡ zoneOf (now (n .entry)) (now (c .entry)) ⌝ }
 {
     let a0 = channel(c[6], c[7]);
@@ -149,7 +159,7 @@ fn walls_of(n: &[f64; 44]) -> Box
     Box { lo, hi }
 }
 
-fn gate_of(c: &[u64; 26]) -> GateSpec
+fn gate_of(c: &[u64; 27]) -> GateSpec
     ensures { λ r. ⌜ r ≡ gateOf (now (c .entry)) ⌝ }
 {
     let n_terms = to_u8(c[24]);
@@ -166,7 +176,7 @@ fn gate_of(c: &[u64; 26]) -> GateSpec
     GateSpec { n_terms, terms }
 }
 
-fn calibration_of(n: &[f64; 44], c: &[u64; 26]) -> Calibration
+fn calibration_of(n: &[f64; 44], c: &[u64; 27]) -> Calibration
     ensures { λ r. ⌜ r ≡ calibrationOf (now (n .entry)) (now (c .entry)) ⌝ }
 {
     let mask = to_u32(c[23]);
@@ -181,7 +191,7 @@ fn calibration_of(n: &[f64; 44], c: &[u64; 26]) -> Calibration
 // ---- all of it
 
 // The configuration that the arrays stand for.
-pub fn config_of(n: &[f64; 44], c: &[u64; 26]) -> FuseConfig
+pub fn config_of(n: &[f64; 44], c: &[u64; 27]) -> FuseConfig
     ensures { λ r. ⌜ r ≡ configOf (now (n .entry)) (now (c .entry)) ⌝ }
 {
     let kind = kind_of(c[2]);
@@ -194,6 +204,7 @@ pub fn config_of(n: &[f64; 44], c: &[u64; 26]) -> FuseConfig
     let armed = to_u32(c[20]);
     let calib = calibration_of(n, c);
     let horizon_ticks = to_u32(c[25]);
+    let absent_camera = absent_camera_of(c[26]);
     FuseConfig {
         kind,
         dim: c[0] as usize,
@@ -202,6 +213,7 @@ pub fn config_of(n: &[f64; 44], c: &[u64; 26]) -> FuseConfig
         norm,
         walls,
         contact,
+        absent_camera,
         brake,
         clamp,
         armed,
@@ -215,28 +227,28 @@ pub fn config_of(n: &[f64; 44], c: &[u64; 26]) -> FuseConfig
 // ---- what fits
 
 // The channels fit their fields, or are refused by the table: they are equal, or one is at or above the declared count.
-fn zone_fits(c: &[u64; 26]) -> bool
+fn zone_fits(c: &[u64; 27]) -> bool
     ensures { λ r. ⌜ r ≡ zoneFits (now (c .entry)) ⌝ }
 {
     ((c[6] <= 255) & (c[7] <= 255)) | (c[6] == c[7]) | (c[21] <= c[6]) | (c[21] <= c[7])
 }
 
 // Each code and each flag is one of its kind.
-fn codes_fit(c: &[u64; 26]) -> bool
+fn codes_fit(c: &[u64; 27]) -> bool
     ensures { λ r. ⌜ r ≡ codesFit (now (c .entry)) ⌝ }
 {
-    (c[2] <= 4) & (c[3] <= 1) & (c[4] <= 4) & (c[5] <= 1) & (c[22] <= 1)
+    (c[2] <= 4) & (c[3] <= 1) & (c[4] <= 4) & (c[5] <= 1) & (c[22] <= 1) & (c[26] <= 1)
 }
 
 // The ticks to react and the trip bits fit their fields.
-fn fields_fit(c: &[u64; 26]) -> bool
+fn fields_fit(c: &[u64; 27]) -> bool
     ensures { λ r. ⌜ r ≡ fieldsFit (now (c .entry)) ⌝ }
 {
     (c[11] <= 65535) & (c[20] <= 4294967295)
 }
 
 // All that the table has no row for fits, as far as it is read.
-pub fn counts_fit(c: &[u64; 26]) -> bool
+pub fn counts_fit(c: &[u64; 27]) -> bool
     ensures { λ r. ⌜ r ≡ countsFit (now (c .entry)) ⌝ }
 {
     let codes = codes_fit(c);

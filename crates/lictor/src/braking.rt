@@ -11,7 +11,7 @@ use chunk::Header;
 #[no_mangle]
 pub extern "C" fn lictor_brake_feasible(
     numbers: &[f64; 44],
-    counts: &[u64; 26],
+    counts: &[u64; 27],
     center: &[f64; 192],
     scale: &[f64; 192],
     pos: &[f64],
@@ -47,7 +47,7 @@ pub extern "C" fn lictor_brake_feasible(
 #[no_mangle]
 pub extern "C" fn lictor_brake_action(
     numbers: &[f64; 44],
-    counts: &[u64; 26],
+    counts: &[u64; 27],
     center: &[f64; 192],
     scale: &[f64; 192],
     pos: &[f64],
@@ -69,7 +69,7 @@ pub extern "C" fn lictor_brake_action(
 #[no_mangle]
 pub extern "C" fn lictor_hold_action(
     numbers: &[f64; 44],
-    counts: &[u64; 26],
+    counts: &[u64; 27],
     center: &[f64; 192],
     scale: &[f64; 192],
     pos: &[f64],

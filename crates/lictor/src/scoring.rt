@@ -16,7 +16,7 @@ use tier1::Tier1Rt;
 #[no_mangle]
 pub extern "C" fn lictor_features(
     numbers: &[f64; 44],
-    counts: &[u64; 26],
+    counts: &[u64; 27],
     center: &[f64; 192],
     scale: &[f64; 192],
     before: &mut [f64; 512],

@@ -22,6 +22,7 @@ use Rattle.conformal.specs.declared.Verdict.{Verdict}
 use Rattle.conformal.specs.declared.Verdict.the-variants as verdict
 use Rattle.envelope.specs.declared.ActionKind.the-variants.{EePosition}
 use Rattle.envelope.specs.declared.ClampMode.the-variants.{Project}
+use Rattle.envelope.specs.declared.AbsentCamera.the-variants.{Slow}
 use Rattle.envelope.specs.declared.Contact.the-variants.{None}
 use Rattle.envelope.specs.declared.FuseConfig.{FuseConfig}
 use Rattle.tier0.specs.Rule.{SPEED}
@@ -102,6 +103,7 @@ plane = record {
   norm = normOf;
   walls = wallsOf (card 0 2! 0 1);
   contact = None;
+  «absent_camera» = Slow;
   brake = brakeOf (card 0 2! 0 1);
   clamp = Project;
   armed = SPEED;

@@ -1,37 +1,45 @@
--- The four beliefs: each follows from the promises of the crate that has the entry.
+-- The four beliefs, and what is easily mixed up with the first: each follows from the promises of the crate that has the entry.
 use Prim.Native.Nat.{ℕ}
 use mathlib.Core.Path.{_≡_, refl, ap, _∙_}
-use mathlib.Core.Bool.{false, not, _||_}
+use mathlib.Core.Bool.{false, not, _&&_, _||_}
 use mathlib.Core.List.{List, [], _∷_, _++_}
 use native.Mathlib.Omega.{arith}
 use borrow.Author.Tests.{eq-eqb}
 use lib.Dec.{eqb}
 use lib.ListN.{length, replicate}
-use lib.Ieee.{Float, binary64}
+use lib.Ieee.{Float, mul, lt, binary64}
 use Rattle.refusal.specs.Order.{Judged, computed, _when_, refusal, refusedFor}
 use Rattle.refusal.specs.Chain.{chain, first-refuses}
 use Rattle.fmath.specs.Answer.{someNotFinite}
 use Rattle.checked.specs.Finite.{+0}
+use Rattle.checked.specs.Checked.{Checked}
+use Rattle.fmath.specs.Norm.{dist}
+use Rattle.workspace.specs.declared.WallMasks.{WallMasks}
 use Rattle.chunk.specs.Refusals.{chunkReasons}
 use Rattle.chunk.specs.declared.Header.{Header}
 use Rattle.conformal.specs.Rule.{Tables}
 use Rattle.envelope.specs.Refusals.{configJudged}
+use Rattle.envelope.specs.Promises.{absentBy}
+use Rattle.envelope.specs.declared.AbsentCamera.the-variants as absent
 use Rattle.envelope.specs.declared.Contact.the-variants.{None}
 use Rattle.envelope.specs.declared.FuseConfig.{FuseConfig}
-use Rattle.tier0.specs.Rule.{CONTACT}
+use Rattle.tier0.specs.declared.Checks.{Checks}
+use Rattle.tier0.specs.Rule.{CONTACT, Slow, zoneStep, slowZone}
+use Rattle.tier0.specs.Chunk.{someLonger}
 use Rattle.tier0.specs.Refusals.{answerAt as checked}
 use Rattle.tier0.specs.Of.{checksOf, lentToAction, actionRuling, actionRefusal, actionAnswer, lentToChunk, chunkRuling, chunkRefusal, chunkAnswer}
-use Rattle.tier0.specs.Promises.{tripsIn, raised}
+use Rattle.tier0.specs.Promises.{tripsIn, raised, beforeFirst, ZoneUnseen}
 use Rattle.tier0.specs.declared.Tier0Out.the-variants as check
-use Rattle.tier0.proofs.Promises.{no-contact-no-trip, no-contact-no-action-trip}
+use Rattle.tier0.proofs.Promises.{chunk-raised, action-raised, no-contact-no-trip, no-contact-no-action-trip}
 use Rattle.tier0.proofs.Within.{chunk-touched, action-touched, trips-raised}
-use Rattle.tier0.proofs.NoContact.{no-contact-chunk-answer, no-contact-chunk-rows, no-contact-action-answer, no-contact-action-row}
+use Rattle.tier0.proofs.Walled.{from-rule}
+use Rattle.tier0.proofs.Zones.{no-contact-as-unarmed, unseen-is-inside}
 use Rattle.course.specs.Forecast.{placeOf}
 use Rattle.brake.specs.declared.BrakeOut.the-variants as forecast
 use Rattle.brake.specs.declared.Sent.the-variants as sent
 use Rattle.brake.specs.Answer.{answerAt as foreseen, plan, lentJudged, forecastRefusal, forecastAnswer, rowLent, sentAt, masksSent, brakeSent, brakeRefusal, brakeAnswer, holdSent, holdRefusal, holdAnswer}
 use Rattle.brake.proofs.Promises.{feasible-exactly}
-use Rattle.promises.specs.Beliefs.{EmptyBoxSlowsNothing, OneChannelIs4, OneChannelIsRefused, TouchingTripsNothing, StartIsNotInspected}
+use Rattle.promises.specs.Beliefs.{EmptyBoxSlowsNothing, SilentCameraSlows, OneChannelIs4, OneChannelIsRefused, TouchingTripsNothing, StartIsNotInspected}
 
 -- ---- an empty contact box
 
@@ -49,12 +57,43 @@ action-not-raised c tabs is p aux prev a room =
 
 pub empty-box-slows-nothing : EmptyBoxSlowsNothing
 empty-box-slows-nothing = record {
-  chunk-not-raised = chunk-not-raised;
-  chunk-answer = no-contact-chunk-answer binary64;
-  chunk-rows = no-contact-chunk-rows binary64;
-  action-not-raised = action-not-raised;
-  action-answer = no-contact-action-answer binary64;
-  action-row = no-contact-action-row binary64;
+  chunk-not-raised = λ c choice. chunk-not-raised (absentBy c choice);
+  action-not-raised = λ c choice. action-not-raised (absentBy c choice);
+  as-unarmed = λ c choice tabs is p aux. no-contact-as-unarmed binary64 tabs c choice p aux is;
+}
+
+-- ---- a silent camera
+
+module _ (c : FuseConfig) (tabs : Tables) (p aux : List Float) (radius speed : Float) (i j : ℕ) (new : c .«absent_camera» ≡ absent.Slow) (silent : ZoneUnseen (c .armed) (c .contact) p aux radius speed i j) where
+  abbrev s : Checks
+  s = checksOf binary64 c
+
+  inside : slowZone binary64 s p aux .value ≡ zoneStep binary64 (c .limits .dt) speed .value
+  unfolding checksOf
+  inside = ap (λ (z : Checked Slow). z .value) (unseen-is-inside binary64 s p aux radius speed i j new silent)
+
+  silent-chunk : (rows : List Float) (k : Header) (room trips dims : ℕ) (peak : Float) (walls : WallMasks)
+      → chunkAnswer binary64 c tabs p aux rows k room ≡ check.Passed trips dims peak walls
+      → raised CONTACT trips ≡ someLonger binary64 (beforeFirst binary64 c p aux rows) rows (c .dim) (mul binary64 speed (c .limits .dt)) (k .horizon)
+  unfolding chunkAnswer chunkRuling checksOf zoneStep
+  silent-chunk rows k room trips dims peak walls e =
+      ap (raised CONTACT) (from-rule (chunkRefusal binary64 c tabs p aux rows k room) (chunkRuling binary64 c p aux rows (k .horizon) .value) trips dims peak walls e .same-trips)
+      ∙ chunk-raised binary64 s p aux rows (replicate 512 +0) (k .horizon) .contact
+      ∙ ap (λ (z : Slow). z .inside && someLonger binary64 (beforeFirst binary64 c p aux rows) rows (c .dim) (z .step) (k .horizon)) inside
+
+  silent-action : (prev a : List Float) (room trips dims : ℕ) (peak : Float) (walls : WallMasks)
+      → actionAnswer binary64 c tabs p aux prev a room ≡ check.Passed trips dims peak walls
+      → raised CONTACT trips ≡ lt (mul binary64 speed (c .limits .dt)) (dist binary64 a prev (c .dim) .value)
+  unfolding actionAnswer actionRuling checksOf zoneStep
+  silent-action prev a room trips dims peak walls e =
+      ap (raised CONTACT) (from-rule (actionRefusal binary64 c tabs p aux prev a room) (actionRuling binary64 c p aux prev a .value) trips dims peak walls e .same-trips)
+      ∙ action-raised binary64 s p aux prev a .contact
+      ∙ ap (λ (z : Slow). z .inside && lt (z .step) (dist binary64 a prev (c .dim) .value)) inside
+
+pub silent-camera-slows : SilentCameraSlows
+silent-camera-slows c tabs p aux radius speed i j new silent = record {
+  chunk-raised = silent-chunk c tabs p aux radius speed i j new silent;
+  action-raised = silent-action c tabs p aux radius speed i j new silent;
 }
 
 -- ---- one camera channel for both coordinates

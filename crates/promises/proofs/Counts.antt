@@ -20,8 +20,8 @@ use Rattle.envelope.specs.Refusals.{countsOk, channelsOk}
 use Rattle.layout.specs.Places.{count, in8, in16, in32}
 use Rattle.layout.specs.Chunk.{chunkOf}
 use Rattle.layout.specs.Trail.{trailOf}
-use Rattle.promises.specs.Counts.{TrailCounts, GateCounts, FeatureCounts, StepCounts, ChannelCounts, cut, HeaderCounts, HeaderKept, HeaderLetGo}
-use Rattle.layout.specs.Config.{brakeOf, gateOf, calibrationOf, contactOf, channelOf, zoneOf, zoneFits}
+use Rattle.promises.specs.Counts.{TrailCounts, GateCounts, FeatureCounts, StepCounts, ChannelCounts, ChoiceCounts, cut, HeaderCounts, HeaderKept, HeaderLetGo}
+use Rattle.layout.specs.Config.{brakeOf, gateOf, calibrationOf, contactOf, channelOf, zoneOf, zoneFits, absentCameraOf, configOf}
 
 -- ---- a test against a number that the field holds is the same of a count x and of the cut one
 
@@ -167,6 +167,10 @@ channels-of (suc k) i j aux r s h = paired i j aux (leb i 255) (leb j 255) refl 
 pub channel-counts : ChannelCounts
 unfolding zoneOf zoneFits
 channel-counts n c h = channels-of (count c 5) (count c 6) (count c 7) (count c 21) (at n 9) (at n 10) h
+
+pub choice-counts : (n : List Float) (c : List ℕ) → ChoiceCounts n c
+unfolding configOf absentCameraOf
+choice-counts n c = record { zero-is-slow = λ e. rw e; one-is-no-zone = λ e. rw e }
 
 -- ---- rows 5 to 9, and 12: a held chunk
 

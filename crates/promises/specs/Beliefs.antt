@@ -1,19 +1,25 @@
--- Four beliefs that do not hold (docs/TRAINEES.md), each with what holds instead, said of the entries' answers. The proofs are `proofs/Beliefs.antt`.
+-- Four beliefs that do not hold (docs/TRAINEES.md), each with what holds instead, said of the entries' answers; beside the first, what is easily mixed up with it. The proofs are `proofs/Beliefs.antt`.
 use Prim.Native.Nat.{ℕ, suc, _<_}
 use mathlib.Core.Path.{_≡_}
 use mathlib.Core.Bool.{Bool, true, false}
 use mathlib.Core.List.{List}
-use lib.Ieee.{Float, lt, binary64}
+use lib.Ieee.{Float, lt, mul, binary64}
 use Rattle.refusal.specs.Order.{refusal, refusedFor}
 use Rattle.checked.specs.Finite.{+0}
+use Rattle.fmath.specs.Norm.{dist}
+use Rattle.workspace.specs.declared.WallMasks.{WallMasks}
 use Rattle.chunk.specs.declared.Header.{Header}
 use Rattle.conformal.specs.Rule.{Tables}
 use Rattle.envelope.specs.Refusals.{sizesOk, numbersOk, stepsOk, configJudged}
+use Rattle.envelope.specs.Promises.{absentBy}
+use Rattle.envelope.specs.declared.AbsentCamera.{AbsentCamera}
+use Rattle.envelope.specs.declared.AbsentCamera.the-variants as absent
 use Rattle.envelope.specs.declared.Contact.the-variants.{None, Zone}
 use Rattle.envelope.specs.declared.FuseConfig.{FuseConfig}
 use Rattle.tier0.specs.Rule.{CONTACT}
-use Rattle.tier0.specs.Of.{actionAnswer, actionOut, chunkAnswer, chunkOut}
-use Rattle.tier0.specs.Promises.{tripsIn, raised, ChunkWithin, ActionWithin, contactUnarmed}
+use Rattle.tier0.specs.Chunk.{someLonger}
+use Rattle.tier0.specs.Of.{actionAnswer, chunkAnswer}
+use Rattle.tier0.specs.Promises.{tripsIn, raised, beforeFirst, ChunkWithin, ActionWithin, ZoneUnseen, AsUnarmed}
 use Rattle.tier0.specs.declared.Tier0Out.the-variants as check
 use Rattle.rollout.specs.Plant.{Gains}
 use Rattle.brake.specs.Answer.{forecastAnswer, brakeAnswer, holdAnswer}
@@ -21,14 +27,25 @@ use Rattle.brake.specs.Promises.{Call, SecondOrder, N, slackAfter, answer}
 use Rattle.brake.specs.declared.BrakeOut.the-variants as forecast
 use Rattle.brake.specs.declared.Sent.the-variants as sent
 
--- "An empty contact box means slow everywhere": with no contact configured CONTACT is never raised, and a call answers and writes what it does with CONTACT unarmed
+-- "An empty contact box means slow everywhere": with no contact configured, under either choice for an absent camera, CONTACT is never raised, and a call answers and writes what it does with CONTACT unarmed
 pub record EmptyBoxSlowsNothing : Type 0 where
-  pub chunk-not-raised : (c : FuseConfig) (tabs : Tables) → c .contact ≡ None → (p aux rows : List Float) (k : Header) (room : ℕ) → raised CONTACT (tripsIn (chunkAnswer binary64 c tabs p aux rows k room)) ≡ false
-  pub chunk-answer : (c : FuseConfig) (tabs : Tables) → c .contact ≡ None → (p aux rows : List Float) (k : Header) (room : ℕ) → chunkAnswer binary64 (contactUnarmed c) tabs p aux rows k room ≡ chunkAnswer binary64 c tabs p aux rows k room
-  pub chunk-rows : (c : FuseConfig) (tabs : Tables) → c .contact ≡ None → (p aux rows : List Float) (k : Header) (l : List Float) → chunkOut binary64 (contactUnarmed c) tabs p aux rows k l ≡ chunkOut binary64 c tabs p aux rows k l
-  pub action-not-raised : (c : FuseConfig) (tabs : Tables) → c .contact ≡ None → (p aux prev a : List Float) (room : ℕ) → raised CONTACT (tripsIn (actionAnswer binary64 c tabs p aux prev a room)) ≡ false
-  pub action-answer : (c : FuseConfig) (tabs : Tables) → c .contact ≡ None → (p aux prev a : List Float) (room : ℕ) → actionAnswer binary64 (contactUnarmed c) tabs p aux prev a room ≡ actionAnswer binary64 c tabs p aux prev a room
-  pub action-row : (c : FuseConfig) (tabs : Tables) → c .contact ≡ None → (p aux prev a l : List Float) → actionOut binary64 (contactUnarmed c) tabs p aux prev a l ≡ actionOut binary64 c tabs p aux prev a l
+  pub chunk-not-raised : (c : FuseConfig) (choice : AbsentCamera) (tabs : Tables) → c .contact ≡ None → (p aux rows : List Float) (k : Header) (room : ℕ) → raised CONTACT (tripsIn (chunkAnswer binary64 (absentBy c choice) tabs p aux rows k room)) ≡ false
+  pub action-not-raised : (c : FuseConfig) (choice : AbsentCamera) (tabs : Tables) → c .contact ≡ None → (p aux prev a : List Float) (room : ℕ) → raised CONTACT (tripsIn (actionAnswer binary64 (absentBy c choice) tabs p aux prev a room)) ≡ false
+  pub as-unarmed : (c : FuseConfig) (choice : AbsentCamera) (tabs : Tables) → c .contact ≡ None → (p aux : List Float) → AsUnarmed binary64 tabs (absentBy c choice) p aux
+
+-- beside it: a zone whose camera is silent is slow, under Slow. CONTACT is raised exactly when some step exceeds the zone's speed x dt; the rows are those of tier 0's `unseen-as-inside`
+pub record SilentCameraIsSlow (c : FuseConfig) (tabs : Tables) (p aux : List Float) (speed : Float) : Type 0 where
+  pub chunk-raised :
+      (rows : List Float) (k : Header) (room trips dims : ℕ) (peak : Float) (walls : WallMasks)
+      → chunkAnswer binary64 c tabs p aux rows k room ≡ check.Passed trips dims peak walls
+      → raised CONTACT trips ≡ someLonger binary64 (beforeFirst binary64 c p aux rows) rows (c .dim) (mul binary64 speed (c .limits .dt)) (k .horizon)
+  pub action-raised :
+      (prev a : List Float) (room trips dims : ℕ) (peak : Float) (walls : WallMasks)
+      → actionAnswer binary64 c tabs p aux prev a room ≡ check.Passed trips dims peak walls
+      → raised CONTACT trips ≡ lt (mul binary64 speed (c .limits .dt)) (dist binary64 a prev (c .dim) .value)
+
+abbrev pub SilentCameraSlows : Type 0
+SilentCameraSlows = (c : FuseConfig) (tabs : Tables) (p aux : List Float) (radius speed : Float) (i j : ℕ) → c .«absent_camera» ≡ absent.Slow → ZoneUnseen (c .armed) (c .contact) p aux radius speed i j → SilentCameraIsSlow c tabs p aux speed
 
 -- "Two arms may share camera channels": where 1, 2 and 3 do not apply, one channel for both coordinates of a zone is refused with 4 by the configuration's own judging, the checks, the forecast, brake and hold
 pub record OneChannelIs4 (c : FuseConfig) (tabs : Tables) : Type 0 where

@@ -15,10 +15,11 @@ use Rattle.window.specs.Rule.{flag}
 use Rattle.window.specs.Answer.{outOfSize}
 use Rattle.conformal.specs.Refusals.{named, withoutStall, sizesOk, featuresOk}
 use Rattle.envelope.specs.Refusals.{countsOk, channelsOk}
+use Rattle.envelope.specs.declared.AbsentCamera.the-variants as absent
 use Rattle.layout.specs.Places.{count, in16}
 use Rattle.layout.specs.Chunk.{chunkOf, headerFlat, unheld}
 use Rattle.layout.specs.Trail.{trailOf}
-use Rattle.layout.specs.Config.{brakeOf, calibrationOf, contactOf, zoneOf, zoneFits}
+use Rattle.layout.specs.Config.{brakeOf, calibrationOf, contactOf, zoneOf, configOf, zoneFits}
 
 -- a trail: its head and its length
 abbrev pub TrailCounts : Type 0
@@ -39,6 +40,11 @@ StepCounts = (n : List Float) (c : List ℕ) → countsOk (brakeOf n c) ≡ ever
 -- a zone's channels, where they fit or there is none
 abbrev pub ChannelCounts : Type 0
 ChannelCounts = (n : List Float) (c : List ℕ) → (eqb (count c 5) 0 || zoneFits c) ≡ true → channelsOk (zoneOf n c) (count c 21) ≡ channelsOk (contactOf (count c 5) (at n 9) (at n 10) (count c 6) (count c 7)) (count c 21)
+
+-- the choice for an absent camera: 0, which a struct of zeros has, is Slow, and 1 NoZone
+pub record ChoiceCounts (n : List Float) (c : List ℕ) : Type 0 where
+  pub zero-is-slow : count c 26 ≡ 0 → configOf n c .«absent_camera» ≡ absent.Slow
+  pub one-is-no-zone : count c 26 ≡ 1 → configOf n c .«absent_camera» ≡ absent.NoZone
 
 -- a held chunk: its sizes, each cut to its field
 abbrev pub cut : Header → Header

@@ -16,8 +16,8 @@ fn numbers(x: &Numbers) -> [f64; 44] {
     n
 }
 
-// Its counts and codes; those of a calibration are 0.
-fn counts(w: &Words) -> [u64; 26] {
+// Its counts and codes; those of a calibration are 0. The last is the choice for an absent camera that answers as the Rust does: no zone.
+fn counts(w: &Words) -> [u64; 27] {
     [
         w[0],
         w[1],
@@ -45,6 +45,7 @@ fn counts(w: &Words) -> [u64; 26] {
         0,
         0,
         0,
+        1,
     ]
 }
 

@@ -6,4 +6,5 @@ pub mod ChunkRefused
 pub mod Promises
 pub mod Within
 pub mod Walled
-pub mod NoContact
+pub mod Alike
+pub mod Zones

@@ -27,7 +27,7 @@ use Rattle.envelope.specs.declared.Contact.{Contact}
 use Rattle.envelope.specs.declared.Contact.the-variants.{None}
 use Rattle.chunk.proofs.Rows.{row-fits}
 use Rattle.tier0.specs.declared.Checks.{Checks}
-use Rattle.tier0.specs.Rule.{WORKSPACE, SPEED, ACCEL, JERK, REACH, CONTACT, arms, Slow, clear, seen, inZone, zoneIn, slowZone, tripBits, boxed, leashed, reached, moves, movedDims, project, projection, checkAction}
+use Rattle.tier0.specs.Rule.{WORKSPACE, SPEED, ACCEL, JERK, REACH, CONTACT, arms, Slow, clear, insideSeen, insideZone, zoneStep, zoneIn, slowZone, tripBits, boxed, leashed, reached, moves, movedDims, project, projection, checkAction}
 use Rattle.tier0.specs.Promises.{raised, chunkTrips, actionTrips, ChunkRaised, ActionRaised, WallsTouched, NoContact, OutsideRadius, NoZoneNoLeash, UnarmedAction, UnarmedChunk}
 use Rattle.tier0.specs.Chunk.{startRow, someLonger, rawRow, putRow, nextRow, runRows, projectedRows, checkChunk}
 
@@ -87,23 +87,22 @@ pub no-contact : NoContact
 unfolding slowZone zoneIn
 no-contact f s p aux e = go (arms s CONTACT) (s .contact) e
   where
-    go : (b : Bool) (c : Contact) → c ≡ None → (if b then zoneIn f (s .dt) c p aux else pure clear) ≡ pure clear
+    go : (b : Bool) (c : Contact) → c ≡ None → (if b then zoneIn f (s .dt) (s .«absent_camera») c p aux else pure clear) ≡ pure clear
     go true c h = rw h
     go false c h = refl
-
-far-clear : (f : Format) (dt radius speed : Float) (i j : ℕ) (p aux : List Float) → le (dist f p (at aux i ∷ at aux j ∷ []) 2 .value) radius ≡ false → inZone f dt radius speed i j p aux .value ≡ clear
-unfolding inZone
-far-clear f dt radius speed i j p aux e = rw e
 
 or-clear : (b : Bool) (x : Checked Slow) → x .value ≡ clear → (if b then x else pure clear) .value ≡ clear
 or-clear true x e = e
 or-clear false x e = refl
 
+far-clear : (f : Format) (dt radius speed d : Float) → le d radius ≡ false → (if le d radius then zoneStep f dt speed else pure clear) .value ≡ clear
+far-clear f dt radius speed d e = rw e
+
 pub outside-radius : OutsideRadius
-unfolding slowZone zoneIn
-outside-radius f s p aux radius speed i j e far =
-    or-clear (arms s CONTACT) (zoneIn f (s .dt) (s .contact) p aux)
-    (rw e (or-clear (seen p aux i j) (inZone f (s .dt) radius speed i j p aux) (far-clear f (s .dt) radius speed i j p aux far)))
+unfolding slowZone zoneIn insideZone insideSeen
+outside-radius f s p aux radius speed i j e there far =
+    or-clear (arms s CONTACT) (zoneIn f (s .dt) (s .«absent_camera») (s .contact) p aux)
+    (rw (e, there) (far-clear f (s .dt) radius speed (dist f p (at aux i ∷ at aux j ∷ []) 2 .value) far))
 
 -- where there is none CONTACT is not raised
 pub clear-no-trip : (f : Format) (s : Checks) (p aux rows l : List Float) (h : ℕ) → slowZone f s p aux .value ≡ clear → raised CONTACT (chunkTrips f s p aux rows l h) ≡ false

@@ -17,6 +17,7 @@ use Rattle.workspace.specs.Of.{wallsOf}
 use Rattle.workspace.specs.Rule.{outside, inward}
 use Rattle.envelope.specs.declared.ClampMode.{ClampMode}
 use Rattle.envelope.specs.declared.ClampMode.the-variants as M
+use Rattle.envelope.specs.declared.AbsentCamera.{AbsentCamera}
 use Rattle.envelope.specs.declared.Contact.{Contact}
 use Rattle.envelope.specs.declared.Contact.the-variants as C
 use Rattle.tier0.specs.declared.Checks.{Checks}
@@ -25,7 +26,7 @@ use Rattle.checked.specs.declared.Row.{Row}
 use Rattle.checked.specs.declared.Test.{Test}
 use Rattle.tier0.specs.declared.Clamped.{Clamped}
 use Rattle.tier0.specs.declared.JudgedAction.{JudgedAction}
-use Rattle.tier0.specs.Rule.{Slow, WORKSPACE, SPEED, ACCEL, JERK, REACH, CONTACT, arms, boxDims, clear, seen, inZone, zoneIn, slowZone, outOfBox, outOfReach, weight, tripBits, leash, boxed, leashed, reached, moves, movedDims, project, projection, rowMasks, checkAction}
+use Rattle.tier0.specs.Rule.{Slow, WORKSPACE, SPEED, ACCEL, JERK, REACH, CONTACT, arms, boxDims, clear, seen, insideSeen, insideUnseen, insideZone, zoneStep, zoneIn, slowZone, outOfBox, outOfReach, weight, tripBits, leash, boxed, leashed, reached, moves, movedDims, project, projection, rowMasks, checkAction}
 use Rattle.tier0.specs.Of.{slowOf, zoneFrom, clampedFrom, judgedActionFrom}
 use Rattle.checked.specs.Of.{rowFrom, testFrom}
 
@@ -50,38 +51,42 @@ module _ (f : Format) (s : Checks) (a : List Float) {k : Bool} (e : k ≡ arms s
 
 -- ---- the slow zone
 
-module _ (f : Format) (dt radius speed : Float) (i j : ℕ) (p aux : List Float) {d : Float} {k : Bool} (e : d ≡ dist f p (at aux i ∷ at aux j ∷ []) 2 .value) (h : k ≡ finite d) where
-  pub zone-inside : {l : Bool} → le d radius ≡ true → l ≡ finite (mul f speed dt)
-      → _≡_ {A = SlowZone} (record { inside = true; step = mul f speed dt; sound = k && l }) (zoneFrom (inZone f dt radius speed i j p aux))
-  unfolding inZone
-  zone-inside t q = rw (dist-sound f p (at aux i ∷ at aux j ∷ []) 2 e h, q, ap (λ (x : Float). le x radius) (sym e) ∙ t, and-true)
+module _ (f : Format) (radius : Float) (i j : ℕ) (p aux : List Float) where
+  pub seen-inside : {d : Float} {k : Bool} → d ≡ dist f p (at aux i ∷ at aux j ∷ []) 2 .value → k ≡ finite d → _≡_ {A = Test} (record { holds = le d radius; sound = k }) (testFrom (insideSeen f radius i j p aux))
+  unfolding insideSeen
+  seen-inside e h = rw (dist-sound f p (at aux i ∷ at aux j ∷ []) 2 e h, e, and-true)
 
-  pub zone-outside : le d radius ≡ false → _≡_ {A = SlowZone} (record { inside = false; step = +0; sound = k }) (zoneFrom (inZone f dt radius speed i j p aux))
-  unfolding inZone
-  zone-outside t = rw (dist-sound f p (at aux i ∷ at aux j ∷ []) 2 e h, ap (λ (x : Float). le x radius) (sym e) ∙ t, and-true)
+  module _ (choice : AbsentCamera) where
+    pub zone-seen : seen p aux i j ≡ true → {t : Test} → t ≡ testFrom (insideSeen f radius i j p aux) → t ≡ testFrom (insideZone f choice radius i j p aux)
+    unfolding insideZone
+    zone-seen h q = rw h q
+
+    pub zone-unseen : seen p aux i j ≡ false → {b : Bool} → b ≡ insideUnseen choice → _≡_ {A = Test} (record { holds = b; sound = true }) (testFrom (insideZone f choice radius i j p aux))
+    unfolding insideZone
+    zone-unseen h q = rw (h, q)
 
 module _ (f : Format) (s : Checks) (p aux : List Float) {k : Bool} (e : k ≡ arms s CONTACT) where
   pub slow-off : k ≡ false → {z : SlowZone} → z ≡ zoneFrom (pure clear) → z ≡ zoneFrom (slowZone f s p aux)
   unfolding slowZone
   slow-off h q = rw (sym e ∙ h) q
 
-  pub slow-on : k ≡ true → {z : SlowZone} → z ≡ zoneFrom (zoneIn f (s .dt) (s .contact) p aux) → z ≡ zoneFrom (slowZone f s p aux)
+  pub slow-on : k ≡ true → {z : SlowZone} → z ≡ zoneFrom (zoneIn f (s .dt) (s .«absent_camera») (s .contact) p aux) → z ≡ zoneFrom (slowZone f s p aux)
   unfolding slowZone
   slow-on h q = rw (sym e ∙ h) q
 
-module _ (f : Format) (dt : Float) (z : Contact) (p aux : List Float) {r : SlowZone} where
-  pub unconfigured : z ≡ C.None → r ≡ zoneFrom (pure clear) → r ≡ zoneFrom (zoneIn f dt z p aux)
+module _ (f : Format) (dt : Float) (choice : AbsentCamera) (z : Contact) (p aux : List Float) where
+  pub unconfigured : z ≡ C.None → {r : SlowZone} → r ≡ zoneFrom (pure clear) → r ≡ zoneFrom (zoneIn f dt choice z p aux)
   unfolding zoneIn
   unconfigured e h = rw e h
 
-  module _ (radius speed : Float) (i j : ℕ) (e : z ≡ C.Zone radius speed i j) where
-    pub unseen : seen p aux i j ≡ false → r ≡ zoneFrom (pure clear) → r ≡ zoneFrom (zoneIn f dt z p aux)
-    unfolding zoneIn
-    unseen h g = rw (e, h) g
+  module _ (radius speed : Float) (i j : ℕ) (e : z ≡ C.Zone radius speed i j) {t : Test} (is : t ≡ testFrom (insideZone f choice radius i j p aux)) where
+    pub zone-inside : t .holds ≡ true → {k : Bool} → k ≡ finite (mul f speed dt) → _≡_ {A = SlowZone} (record { inside = true; step = mul f speed dt; sound = t .sound && k }) (zoneFrom (zoneIn f dt choice z p aux))
+    unfolding zoneIn zoneStep
+    zone-inside h q = rw (e, sym (ap (λ (x : Test). x .holds) is) ∙ h, ap (λ (x : Test). x .sound) is, q, and-true)
 
-    pub is-seen : seen p aux i j ≡ true → r ≡ zoneFrom (inZone f dt radius speed i j p aux) → r ≡ zoneFrom (zoneIn f dt z p aux)
+    pub zone-outside : t .holds ≡ false → _≡_ {A = SlowZone} (record { inside = false; step = +0; sound = t .sound }) (zoneFrom (zoneIn f dt choice z p aux))
     unfolding zoneIn
-    is-seen h g = rw (e, h) g
+    zone-outside h = rw (e, sym (ap (λ (x : Test). x .holds) is) ∙ h, ap (λ (x : Test). x .sound) is, and-true)
 
 -- ---- reach
 

@@ -40,7 +40,7 @@ use Rattle.tier0.specs.Rule.{WORKSPACE, arms, boxDims, Slow, boxed, move
 use Rattle.tier0.specs.Chunk.{rawRow, putRow, nextRow, runRows, projectedRows, rowsMasks, checkChunk}
 use Rattle.tier0.specs.Refusals.{answerAt}
 use Rattle.tier0.specs.Of.{checksOf, lentToAction, actionRuling, actionRefusal, actionAnswer, actionOut, lentToChunk, chunkRuling, chunkRefusal, chunkAnswer, chunkOut}
-use Rattle.tier0.specs.Promises.{zoneNow, beforeFirst, zoneHere, ChunkWalls, ActionWalls}
+use Rattle.tier0.specs.Promises.{tripsIn, zoneNow, beforeFirst, zoneHere, ChunkWalls, ActionWalls}
 use Rattle.tier0.proofs.Refused as action
 use Rattle.tier0.proofs.ChunkRefused as chunk
 use Rattle.tier0.proofs.Rows.{length-put}
@@ -60,14 +60,15 @@ abbrev wallsIn : Tier0Out → WallMasks
 wallsIn (Passed trips dims speed walls) = walls
 wallsIn (Refused r) = unmoved
 
--- its number is 0, and its masks are those that were judged
-record FromRule (n : ℕ) (j : Judgement) (dims : ℕ) (walls : WallMasks) : Type 0 where
-  accepted : n ≡ 0
-  same-dims : dims ≡ j .after .mask
-  same-walls : walls ≡ j .walls
+-- its number is 0, and its bits and masks are those that were judged
+pub record FromRule (n : ℕ) (j : Judgement) (trips dims : ℕ) (walls : WallMasks) : Type 0 where
+  pub accepted : n ≡ 0
+  pub same-trips : trips ≡ j .trips
+  pub same-dims : dims ≡ j .after .mask
+  pub same-walls : walls ≡ j .walls
 
-from-rule : (n : ℕ) (j : Judgement) (trips dims : ℕ) (speed : Float) (walls : WallMasks) → answerAt n j ≡ Passed trips dims speed walls → FromRule n j dims walls
-from-rule zero j trips dims speed walls e = record { accepted = refl; same-dims = sym (ap dimsIn e); same-walls = sym (ap wallsIn e) }
+pub from-rule : (n : ℕ) (j : Judgement) (trips dims : ℕ) (speed : Float) (walls : WallMasks) → answerAt n j ≡ Passed trips dims speed walls → FromRule n j trips dims walls
+from-rule zero j trips dims speed walls e = record { accepted = refl; same-trips = sym (ap tripsIn e); same-dims = sym (ap dimsIn e); same-walls = sym (ap wallsIn e) }
 from-rule (suc n) j trips dims speed walls e = absurd (false≢true (ap isPassed e))
 
 -- ---- where rows are moved inside the box
@@ -175,7 +176,7 @@ module _ (f : Format) (c : FuseConfig) (t : Tables) (p aux rows : List Float) (k
   abbrev w : ℕ
   w = boxDims s
 
-  chunk-ruled : FromRule (chunkRefusal f c t p aux rows k (length l)) (chunkRuling f c p aux rows (k .horizon) .value) dims walls
+  chunk-ruled : FromRule (chunkRefusal f c t p aux rows k (length l)) (chunkRuling f c p aux rows (k .horizon) .value) trips dims walls
   unfolding chunkAnswer
   chunk-ruled = from-rule (chunkRefusal f c t p aux rows k (length l)) _ trips dims speed walls e
 
@@ -251,7 +252,7 @@ module _ (f : Format) (c : FuseConfig) (t : Tables) (p aux prev a l : List Float
   abbrev row : List Float
   row = padded a (s′ .dim)
 
-  action-ruled : FromRule (actionRefusal f c t p aux prev a (length l)) (actionRuling f c p aux prev a .value) dims walls
+  action-ruled : FromRule (actionRefusal f c t p aux prev a (length l)) (actionRuling f c p aux prev a .value) trips dims walls
   unfolding actionAnswer
   action-ruled = from-rule (actionRefusal f c t p aux prev a (length l)) _ trips dims speed walls e
 

@@ -36,6 +36,7 @@ checksFrom c d = record {
   «pos_dim» = c .«pos_dim»;
   armed = c .armed;
   contact = c .contact;
+  «absent_camera» = c .«absent_camera»;
   clamp = c .clamp;
   dt = c .limits .dt;
   «a_max» = c .limits .«a_max»;

@@ -1,6 +1,6 @@
--- What is promised of the answers of `check_chunk` and `check_action`, and what follows from the rules that they cite. `proofs/NoContact.promised` is all of it. A
+-- What is promised of the answers of `check_chunk` and `check_action`, and what follows from the rules that they cite. `proofs/Zones.promised` is all of it. A
 -- projected row that passes its check again is not promised.
-use Prim.Native.Nat.{ℕ, _+_, _-_, _*_, _/_, _%_, _≤_, _<_}
+use Prim.Native.Nat.{ℕ, _+_, _-_, _*_, _/_, _%_, _≤_, _<_, min}
 use mathlib.Core.Path.{_≡_}
 use mathlib.Core.Bool.{Bool, true, false, _&&_, _||_}
 use mathlib.Core.List.{List, [], _∷_}
@@ -12,7 +12,8 @@ use Rattle.bits.specs.Choice.{if_then_else_}
 use Rattle.checked.specs.Each.{at, over}
 use Rattle.checked.specs.Row.{padded}
 use Rattle.checked.specs.Finite.{+0, finite}
-use Rattle.checked.specs.Checked.{Checked, each, pure}
+use Rattle.checked.specs.Checked.{Checked, _>>=_, each, pure}
+use Rattle.fmath.specs.Answer.{someNotFinite}
 use Rattle.fmath.specs.Norm.{norm, dist}
 use Rattle.workspace.specs.Of.{wallsOf}
 use Rattle.workspace.specs.declared.WallMasks.{WallMasks}
@@ -22,13 +23,16 @@ use Rattle.chunk.specs.declared.Header.{Header}
 use Rattle.conformal.specs.Rule.{Tables}
 use Rattle.envelope.specs.declared.ClampMode.the-variants.{Off, Project}
 use Rattle.envelope.specs.declared.Contact.the-variants.{None, Zone}
-use Rattle.envelope.specs.Promises.{armedBy}
+use Rattle.envelope.specs.Promises.{armedBy, absentBy, Agree}
+use Rattle.envelope.specs.declared.AbsentCamera.{AbsentCamera}
+use Rattle.envelope.specs.declared.AbsentCamera.the-variants as absent
+use Rattle.envelope.specs.declared.Contact.{Contact}
 use Rattle.envelope.specs.declared.FuseConfig.{FuseConfig}
 use Rattle.tier0.specs.declared.Tier0Out.{Tier0Out}
 use Rattle.tier0.specs.declared.Tier0Out.the-variants.{Passed, Refused}
 use Rattle.tier0.specs.declared.Checks.{Checks}
 use Rattle.tier0.specs.declared.Difference.the-variants.{Accel, Jerk}
-use Rattle.tier0.specs.Rule.{WORKSPACE, SPEED, ACCEL, JERK, REACH, CONTACT, weight, arms, boxDims, Slow, clear, slowZone, outOfBox, outOfReach, leash, boxed, checkAction}
+use Rattle.tier0.specs.Rule.{WORKSPACE, SPEED, ACCEL, JERK, REACH, CONTACT, weight, arms, boxDims, Slow, clear, seen, zoneStep, slowZone, outOfBox, outOfReach, leash, boxed, checkAction}
 use Rattle.tier0.specs.Chunk.{rawRow, startRow, rowBefore, stepTo, bends, jolts, someLonger, someOutOfBox, tooLarge, checkChunk}
 use Rattle.tier0.specs.Of.{checksOf, actionAnswer, actionOut, chunkAnswer, chunkOut}
 
@@ -170,9 +174,38 @@ pub record WallsTouched (w : Walls) (a : List Float) (j : ℕ) : Type 0 where
 abbrev pub NoContact : Type 0
 NoContact = (f : Format) (s : Checks) (p aux : List Float) → s .contact ≡ None → slowZone f s p aux ≡ pure clear
 
--- nor is there one outside the radius of the configured one
+-- nor is there one outside the radius of the configured one, where that is seen
 abbrev pub OutsideRadius : Type 0
-OutsideRadius = (f : Format) (s : Checks) (p aux : List Float) (radius speed : Float) (i j : ℕ) → s .contact ≡ Zone radius speed i j → le (dist f p (at aux i ∷ at aux j ∷ []) 2 .value) radius ≡ false → slowZone f s p aux .value ≡ clear
+OutsideRadius = (f : Format) (s : Checks) (p aux : List Float) (radius speed : Float) (i j : ℕ) → s .contact ≡ Zone radius speed i j → seen p aux i j ≡ true → le (dist f p (at aux i ∷ at aux j ∷ []) 2 .value) radius ≡ false → slowZone f s p aux .value ≡ clear
+
+-- ---- a zone that is not seen
+
+-- a zone is seen exactly where the position has two coordinates and the message both channels
+pub record SeenExactly (p aux : List Float) (i j : ℕ) : Type 0 where
+  pub long-enough : 2 ≤ length p → i < length aux → j < length aux → seen p aux i j ≡ true
+  pub position-short : length p < 2 → seen p aux i j ≡ false
+  pub first-channel-missing : length aux ≤ i → seen p aux i j ≡ false
+  pub second-channel-missing : length aux ≤ j → seen p aux i j ≡ false
+
+-- the zone where one that is not seen is none, which is the Rust's rule: no choice is read
+unfoldable pub zoneIfSeen : Format → Float → Contact → List Float → List Float → Checked Slow
+zoneIfSeen f dt None p aux = pure clear
+zoneIfSeen f dt (Zone radius speed i j) p aux =
+    if seen p aux i j then (do d ← dist f p (at aux i ∷ at aux j ∷ []) 2; if le d radius then zoneStep f dt speed else pure clear) else pure clear
+
+-- under NoZone that is the rule
+abbrev pub NoZoneAsRust : Type 0
+NoZoneAsRust = (f : Format) (s : Checks) (p aux : List Float) → s .«absent_camera» ≡ absent.NoZone → slowZone f s p aux ≡ (if arms s CONTACT then zoneIfSeen f (s .dt) (s .contact) p aux else pure clear)
+
+-- a zone that is configured and armed, and not seen
+pub record ZoneUnseen (armed : ℕ) (contact : Contact) (p aux : List Float) (radius speed : Float) (i j : ℕ) : Type 0 where
+  pub contact-armed : raised CONTACT armed ≡ true
+  pub configured : contact ≡ Zone radius speed i j
+  pub unseen : seen p aux i j ≡ false
+
+-- under Slow the arm is inside it: its step is computed, no distance is
+abbrev pub UnseenIsInside : Type 0
+UnseenIsInside = (f : Format) (s : Checks) (p aux : List Float) (radius speed : Float) (i j : ℕ) → s .«absent_camera» ≡ absent.Slow → ZoneUnseen (s .armed) (s .contact) p aux radius speed i j → slowZone f s p aux ≡ zoneStep f (s .dt) speed
 
 -- without a zone no slow step enters the leash
 abbrev pub NoZoneNoLeash : Type 0
@@ -243,12 +276,33 @@ pub record ActionTouched (f : Format) (c : FuseConfig) (t : Tables) (p aux prev 
   pub reach-touched : ActionInReach f c p aux prev a → raised REACH (tripsIn (actionAnswer f c t p aux prev a room)) ≡ false
   pub all-touched : ActionWithin f c p aux prev a → tripsIn (actionAnswer f c t p aux prev a room) ≡ 0
 
--- with no contact configured, a call answers and writes what it does with CONTACT unarmed
-pub record AsUnarmed (f : Format) (c : FuseConfig) (t : Tables) : Type 0 where
-  pub same-chunk-answer : (p aux rows : List Float) (k : Header) (room : ℕ) → chunkAnswer f (contactUnarmed c) t p aux rows k room ≡ chunkAnswer f c t p aux rows k room
-  pub same-chunk-rows : (p aux rows : List Float) (k : Header) (l : List Float) → chunkOut f (contactUnarmed c) t p aux rows k l ≡ chunkOut f c t p aux rows k l
-  pub same-action-answer : (p aux prev a : List Float) (room : ℕ) → actionAnswer f (contactUnarmed c) t p aux prev a room ≡ actionAnswer f c t p aux prev a room
-  pub same-action-row : (p aux prev a l : List Float) → actionOut f (contactUnarmed c) t p aux prev a l ≡ actionOut f c t p aux prev a l
+-- d at the position q with the camera's message cam: either check answers and writes what it does with c at p with aux, whatever else it is lent
+pub record SameChecks (f : Format) (t : Tables) (d : FuseConfig) (q cam : List Float) (c : FuseConfig) (p aux : List Float) : Type 0 where
+  pub same-chunk-answer : (rows : List Float) (k : Header) (room : ℕ) → chunkAnswer f d t q cam rows k room ≡ chunkAnswer f c t p aux rows k room
+  pub same-chunk-rows : (rows : List Float) (k : Header) (l : List Float) → chunkOut f d t q cam rows k l ≡ chunkOut f c t p aux rows k l
+  pub same-action-answer : (prev a : List Float) (room : ℕ) → actionAnswer f d t q cam prev a room ≡ actionAnswer f c t p aux prev a room
+  pub same-action-row : (prev a l : List Float) → actionOut f d t q cam prev a l ≡ actionOut f c t p aux prev a l
+
+-- a call answers and writes what it does with CONTACT unarmed
+abbrev pub AsUnarmed : Format → Tables → FuseConfig → (p aux : List Float) → Type 0
+AsUnarmed f t c p aux = SameChecks f t (contactUnarmed c) p aux c p aux
+
+-- where CONTACT is armed, a zone that is configured is seen
+abbrev pub ZoneSeen : FuseConfig → (p aux : List Float) → Type 0
+ZoneSeen c p aux = raised CONTACT (c .armed) ≡ true → (radius speed : Float) (i j : ℕ) → c .contact ≡ Zone radius speed i j → seen p aux i j ≡ true
+
+-- the arm is seen inside a zone: the distance is finite, and at most the radius
+pub record SeenInside (f : Format) (radius : Float) (i j : ℕ) (p aux : List Float) : Type 0 where
+  pub is-seen : seen p aux i j ≡ true
+  pub distance-finite : dist f p (at aux i ∷ at aux j ∷ []) 2 .sound ≡ true
+  pub within : le (dist f p (at aux i ∷ at aux j ∷ []) 2 .value) radius ≡ true
+
+-- two positions with the same coordinates on the shared axes, both long enough, and beside each a message; numbers that are not finite stand beside both or neither
+pub record StandsAlike (c : FuseConfig) (p aux q cam : List Float) : Type 0 where
+  pub long-enough : c .«pos_dim» ≤ length p
+  pub as-long : c .«pos_dim» ≤ length q
+  pub same-axes : Agree (min (c .dim) (c .«pos_dim»)) q p
+  pub finite-alike : (someNotFinite q || someNotFinite cam) ≡ (someNotFinite p || someNotFinite aux)
 
 pub record Promised : Type 0 where
   pub chunk-may-touch : (f : Format) (c : FuseConfig) (t : Tables) (p aux rows : List Float) (k : Header) (room : ℕ) → ChunkTouched f c t p aux rows k room
@@ -259,12 +313,26 @@ pub record Promised : Type 0 where
   pub action-walls :
       (f : Format) (c : FuseConfig) (t : Tables) (p aux prev a l : List Float) (trips dims : ℕ) (speed : Float) (walls : WallMasks)
       → actionAnswer f c t p aux prev a (length l) ≡ Passed trips dims speed walls → ActionWalls f c t p aux prev a l dims walls
-  pub no-contact-as-unarmed : (f : Format) (c : FuseConfig) (t : Tables) → c .contact ≡ None → AsUnarmed f c t
+  -- without a contact, under either choice, the checks answer and write what they do with CONTACT unarmed
+  pub no-contact-as-unarmed : (f : Format) (t : Tables) (c : FuseConfig) (choice : AbsentCamera) (p aux : List Float) → c .contact ≡ None → AsUnarmed f t (absentBy c choice) p aux
+  -- and so they do, under NoZone, where a zone is not seen
+  pub unseen-as-unarmed :
+      (f : Format) (t : Tables) (c : FuseConfig) (p aux : List Float) (radius speed : Float) (i j : ℕ)
+      → c .«absent_camera» ≡ absent.NoZone → ZoneUnseen (c .armed) (c .contact) p aux radius speed i j → AsUnarmed f t c p aux
+  -- under Slow they answer and write there what they do for an arm that is seen inside the zone
+  pub unseen-as-inside :
+      (f : Format) (t : Tables) (c : FuseConfig) (p aux q cam : List Float) (radius speed : Float) (i j : ℕ)
+      → c .«absent_camera» ≡ absent.Slow → ZoneUnseen (c .armed) (c .contact) p aux radius speed i j → SeenInside f radius i j q cam → StandsAlike c p aux q cam → SameChecks f t c q cam c p aux
+  -- elsewhere the choice changes nothing
+  pub choice-only-where-unseen : (f : Format) (t : Tables) (c : FuseConfig) (choice : AbsentCamera) (p aux : List Float) → ZoneSeen c p aux → SameChecks f t (absentBy c choice) p aux c p aux
   pub chunk-raised : (f : Format) (s : Checks) (p aux rows l : List Float) (h : ℕ) → ChunkRaised f s p aux rows l h
   pub action-raised : (f : Format) (s : Checks) (p aux prev a : List Float) → ActionRaised f s p aux prev a
   pub walls-touched : (w : Walls) (a : List Float) (j : ℕ) → WallsTouched w a j
   pub no-contact : NoContact
   pub outside-radius : OutsideRadius
+  pub seen-exactly : (p aux : List Float) (i j : ℕ) → SeenExactly p aux i j
+  pub no-zone-as-rust : NoZoneAsRust
+  pub unseen-is-inside : UnseenIsInside
   pub no-zone-no-leash : NoZoneNoLeash
   pub unarmed-action : UnarmedAction
   pub unarmed-chunk : UnarmedChunk

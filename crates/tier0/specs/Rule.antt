@@ -19,6 +19,8 @@ use Rattle.workspace.specs.declared.WallMasks.{WallMasks}
 use Rattle.workspace.specs.Rule.{outside, inward, wallMasks, unmoved}
 use Rattle.envelope.specs.declared.ClampMode.{ClampMode}
 use Rattle.envelope.specs.declared.ClampMode.the-variants.{Off, Project}
+use Rattle.envelope.specs.declared.AbsentCamera.{AbsentCamera}
+use Rattle.envelope.specs.declared.AbsentCamera.the-variants as absent
 use Rattle.envelope.specs.declared.Contact.{Contact}
 use Rattle.envelope.specs.declared.Contact.the-variants.{None, Zone}
 use Rattle.tier0.specs.declared.Checks.{Checks}
@@ -64,20 +66,37 @@ clear = record { inside = false; step = +0 }
 abbrev pub seen : List Float → List Float → ℕ → ℕ → Bool
 seen p aux i j = leb 2 (length p) && (ltb i (length aux) && ltb j (length aux))
 
--- inside where the distance to its centre is at most the radius; the step is then its speed x dt
-unfoldable pub inZone : Format → Float → Float → Float → ℕ → ℕ → List Float → List Float → Checked Slow
-inZone f dt radius speed i j p aux = do
-  d ← dist f p (at aux i ∷ at aux j ∷ []) 2
-  if le d radius then (do step ← times f speed dt; pure (record { inside = true; step = step })) else pure clear
+-- whether the arm counts as inside a zone that is not seen, by the configuration's choice
+abbrev pub insideUnseen : AbsentCamera → Bool
+insideUnseen absent.Slow = true
+insideUnseen absent.NoZone = false
 
--- the zone of a configuration, which may have none
-unfoldable pub zoneIn : Format → Float → Contact → List Float → List Float → Checked Slow
-zoneIn f dt None p aux = pure clear
-zoneIn f dt (Zone radius speed i j) p aux = if seen p aux i j then inZone f dt radius speed i j p aux else pure clear
+-- inside a zone that is seen the distance to its centre is at most the radius
+unfoldable pub insideSeen : Format → Float → ℕ → ℕ → List Float → List Float → Checked Bool
+insideSeen f radius i j p aux = do
+  d ← dist f p (at aux i ∷ at aux j ∷ []) 2
+  pure (le d radius)
+
+-- whether the arm is inside a zone; of one that is not seen no distance is computed
+unfoldable pub insideZone : Format → AbsentCamera → Float → ℕ → ℕ → List Float → List Float → Checked Bool
+insideZone f choice radius i j p aux = if seen p aux i j then insideSeen f radius i j p aux else pure (insideUnseen choice)
+
+-- inside a zone the step is its speed x dt
+unfoldable pub zoneStep : Format → Float → Float → Checked Slow
+zoneStep f dt speed = do
+  step ← times f speed dt
+  pure (record { inside = true; step = step })
+
+-- the zone of a configuration, which may have none; its step is computed only inside
+unfoldable pub zoneIn : Format → Float → AbsentCamera → Contact → List Float → List Float → Checked Slow
+zoneIn f dt choice None p aux = pure clear
+zoneIn f dt choice (Zone radius speed i j) p aux = do
+  inside ← insideZone f choice radius i j p aux
+  if inside then zoneStep f dt speed else pure clear
 
 -- the armed contact step
 unfoldable pub slowZone : Format → Checks → List Float → List Float → Checked Slow
-slowZone f s p aux = if arms s CONTACT then zoneIn f (s .dt) (s .contact) p aux else pure clear
+slowZone f s p aux = if arms s CONTACT then zoneIn f (s .dt) (s .«absent_camera») (s .contact) p aux else pure clear
 
 -- ---- trips: strictly exceeded, on the row as it came
 

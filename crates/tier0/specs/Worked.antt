@@ -1,17 +1,18 @@
--- What is not promised of projection, and which walls moved rows, by computation.
-use Prim.Native.Nat.{ℕ, _+_}
+-- What is not promised of projection, which walls moved rows, and what a zone counts as that is not seen, by computation.
+use Prim.Native.Nat.{ℕ, zero, suc, _+_, _<_}
 use mathlib.Core.Path.{_≡_, refl}
+use native.Mathlib.Omega.{arith}
 use mathlib.Core.Bool.{true, false}
-use mathlib.Core.List.{[], _∷_}
+use mathlib.Core.List.{List, [], _∷_}
 use lib.IntN.{pos, negsuc}
 use lib.ListN.{replicate}
-use lib.Ieee.{Float, binary64, fin, add, sub, mul, div, lt, ne}
+use lib.Ieee.{Float, binary64, fin, add, sub, mul, div, lt, le, ne}
 use Rattle.root.specs.Root.{rootOf, number, rootExponent, half, nearRoot, floorRoot, scaled}
 use Rattle.checked.specs.Constants.{1!, 2! }
-use Rattle.checked.specs.Each.{over, some}
-use Rattle.checked.specs.Finite.{finite, +0}
+use Rattle.checked.specs.Each.{at, over, all, some}
+use Rattle.checked.specs.Finite.{finite, allFinite, +0}
 use Rattle.checked.specs.Row.{padded}
-use Rattle.checked.specs.Checked.{Checked, sumFrom, each}
+use Rattle.checked.specs.Checked.{Checked, pure, sumFrom, each}
 use Rattle.fmath.specs.Norm.{squaredGap, dist}
 use Rattle.bits.specs.Bits.{bitsWhere}
 use Rattle.fmath.specs.Clamp.{clamped, side}
@@ -19,21 +20,27 @@ use Rattle.workspace.specs.declared.Workspace.{Workspace}
 use Rattle.workspace.specs.Rule.{inward, wallMasks, anyMasks, unmoved}
 use Rattle.envelope.specs.declared.ClampMode.{ClampMode}
 use Rattle.envelope.specs.declared.ClampMode.the-variants.{Off, Project}
-use Rattle.envelope.specs.declared.Contact.the-variants.{None}
+use Rattle.envelope.specs.declared.AbsentCamera.{AbsentCamera}
+use Rattle.envelope.specs.declared.AbsentCamera.the-variants as absent
+use Rattle.envelope.specs.declared.Contact.{Contact}
+use Rattle.envelope.specs.declared.Contact.the-variants.{None, Zone}
 use Rattle.pull.specs.Rule.{toward, shortened, pulled}
+use Rattle.envelope.specs.declared.FuseConfig.{FuseConfig}
 use Rattle.tier0.specs.declared.Checks.{Checks}
-use Rattle.tier0.specs.Rule.{WORKSPACE, SPEED, arms, slowZone, outOfBox, outOfReach, tripBits, boxed, leashed, reached, moves, project, projection, boxesRows, rowMasks, Judgement, checkAction}
+use Rattle.tier0.specs.Rule.{WORKSPACE, SPEED, CONTACT, arms, Slow, clear, insideSeen, insideZone, zoneStep, zoneIn, slowZone, outOfBox, outOfReach, tripBits, boxed, leashed, reached, moves, project, projection, boxesRows, rowMasks, Judgement, checkAction}
 use Rattle.tier0.specs.Chunk.{rowsMasks}
+use Rattle.tier0.specs.Promises.{SeenInside, StandsAlike}
 
--- a position of one coordinate, and rows of dim
-abbrev checking : ℕ → ClampMode → ℕ → Float → Workspace → Checks
-checking dim mode armed step walls = record {
+-- a position of one coordinate or more, and rows of dim
+abbrev checkingZone : Contact → AbsentCamera → Float → ℕ → ClampMode → ℕ → Float → Workspace → Checks
+checkingZone zone choice dt dim mode armed step walls = record {
   dim = dim;
   «pos_dim» = 1;
   armed = armed;
-  contact = None;
+  contact = zone;
+  «absent_camera» = choice;
   clamp = mode;
-  dt = 1!;
+  dt = dt;
   «a_max» = 1!;
   «j_max» = 1!;
   «reach_max» = 1!;
@@ -43,6 +50,10 @@ checking dim mode armed step walls = record {
   «step_max» = step;
   walls = walls;
 }
+
+-- no zone, and a control period of 1
+abbrev checking : ℕ → ClampMode → ℕ → Float → Workspace → Checks
+checking = checkingZone None absent.Slow 1!
 
 -- SPEED alone armed, step 1.5
 abbrev line : Checks
@@ -113,3 +124,86 @@ taken-back-dims = refl
 pub taken-back-walls : held-back .value .walls ≡ record { low = 0; high = 1 }
 unfolding checkAction rowMasks boxesRows arms wallMasks bitsWhere side lt
 taken-back-walls = refl
+
+-- ---- a zone that is not seen
+
+-- a zone of radius 1, whose centre is on channels 2 and 0; the control period is 2
+abbrev zonedAt : Float → AbsentCamera → ℕ → Checks
+zonedAt speed choice armed = checkingZone (Zone 1! speed 2 0) choice 2! 1 Off armed 1! (record { lo = []; hi = [] })
+
+-- its speed is 1.5, so that the step is 3
+abbrev zoned : AbsentCamera → ℕ → Checks
+zoned = zonedAt (fin false 3 (negsuc 0))
+
+abbrev at-zone-speed : Checked Slow
+at-zone-speed = pure (record { inside = true; step = fin false 3 (pos 0) })
+
+-- the arm at (5, 5), in a corner, is outside a zone round (0, 0), and inside the same zone where the message ends before channel 2
+abbrev corner : List Float
+corner = 5! ∷ 5! ∷ []
+
+pub far-from-it : slowZone binary64 (zoned absent.Slow CONTACT) corner (+0 ∷ +0 ∷ +0 ∷ []) ≡ pure clear
+unfolding slowZone arms zoneIn insideZone insideSeen dist sumFrom squaredGap add sub mul rootOf number rootExponent half nearRoot floorRoot scaled le finite
+far-from-it = refl
+
+pub first-channel-missing : slowZone binary64 (zoned absent.Slow CONTACT) corner (+0 ∷ +0 ∷ []) ≡ at-zone-speed
+unfolding slowZone arms zoneIn insideZone zoneStep mul finite
+first-channel-missing = refl
+
+-- on channels 0 and 2, the same message lacks the second
+pub second-channel-missing : zoneIn binary64 2! absent.Slow (Zone 1! (fin false 3 (negsuc 0)) 0 2) corner (+0 ∷ +0 ∷ []) ≡ at-zone-speed
+unfolding zoneIn insideZone zoneStep mul finite
+second-channel-missing = refl
+
+pub no-message : slowZone binary64 (zoned absent.Slow CONTACT) corner [] ≡ at-zone-speed
+unfolding slowZone arms zoneIn insideZone zoneStep mul finite
+no-message = refl
+
+-- a position of one coordinate, whatever the camera sends
+pub one-coordinate : slowZone binary64 (zoned absent.Slow CONTACT) (5! ∷ []) (+0 ∷ +0 ∷ +0 ∷ []) ≡ at-zone-speed
+unfolding slowZone arms zoneIn insideZone zoneStep mul finite
+one-coordinate = refl
+
+-- with the other choice, with CONTACT unarmed and without a zone there is none
+pub none-by-choice : slowZone binary64 (zoned absent.NoZone CONTACT) corner [] ≡ pure clear
+unfolding slowZone arms zoneIn insideZone
+none-by-choice = refl
+
+pub none-where-unarmed : slowZone binary64 (zoned absent.Slow SPEED) corner [] ≡ pure clear
+unfolding slowZone arms
+none-where-unarmed = refl
+
+pub none-configured : slowZone binary64 (checking 1 Off CONTACT 1! (record { lo = []; hi = [] })) corner [] ≡ pure clear
+unfolding slowZone arms zoneIn
+none-configured = refl
+
+-- a distance that would overflow is not computed: the arm at 2^600
+pub distance-not-computed : slowZone binary64 (zoned absent.Slow CONTACT) (fin false 1 (pos 600) ∷ +0 ∷ []) (+0 ∷ +0 ∷ []) ≡ at-zone-speed
+unfolding slowZone arms zoneIn insideZone zoneStep mul finite
+distance-not-computed = refl
+
+pub distance-computed : slowZone binary64 (zoned absent.Slow CONTACT) (fin false 1 (pos 600) ∷ +0 ∷ []) (+0 ∷ +0 ∷ +0 ∷ []) .sound ≡ false
+unfolding slowZone arms zoneIn insideZone insideSeen dist sumFrom squaredGap add sub mul rootOf number rootExponent half nearRoot floorRoot scaled le finite
+distance-computed = refl
+
+-- the step is computed, and is 13 where it is not finite: speed 2^1023; with the other choice it is not
+pub step-computed : slowZone binary64 (zonedAt (fin false 1 (pos 1023)) absent.Slow CONTACT) corner [] .sound ≡ false
+unfolding slowZone arms zoneIn insideZone zoneStep mul finite
+step-computed = refl
+
+pub step-not-computed : slowZone binary64 (zonedAt (fin false 1 (pos 1023)) absent.NoZone CONTACT) corner [] ≡ pure clear
+unfolding slowZone arms zoneIn insideZone
+step-not-computed = refl
+
+-- what `unseen-as-inside` compares with is to be had, also for a position of one coordinate: the same with a second one, and a message that has the arm for the centre
+pub an-arm-inside : SeenInside binary64 1! 2 0 corner (5! ∷ +0 ∷ 5! ∷ [])
+unfolding dist sumFrom squaredGap add sub mul rootOf number rootExponent half nearRoot floorRoot scaled le finite
+an-arm-inside = record { is-seen = refl; distance-finite = refl; within = refl }
+
+pub stands-beside-it : (c : FuseConfig) → c .«pos_dim» ≡ 1 → StandsAlike c (5! ∷ []) [] corner (5! ∷ +0 ∷ 5! ∷ [])
+unfolding finite allFinite all
+stands-beside-it c one = rw one (record { long-enough = omega arith; as-long = omega arith; same-axes = λ j b. first j (omega arith); finite-alike = refl })
+  where
+    first : (j : ℕ) → j < 1 → at corner j ≡ at (5! ∷ []) j
+    first zero b = refl
+    first (suc j) b = absurd (omega arith)

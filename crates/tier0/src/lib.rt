@@ -25,6 +25,7 @@ use crate::walls::rows_masks;
 use crate::zone::slow_zone;
 use checked::Test;
 use chunk::Header;
+use envelope::AbsentCamera;
 use envelope::ClampMode;
 use envelope::Contact;
 use envelope::Derived;
@@ -58,6 +59,7 @@ pub struct Checks {
     pub pos_dim: usize,
     pub armed: u32,
     pub contact: Contact,
+    pub absent_camera: AbsentCamera,
     pub clamp: ClampMode,
     pub dt: f64,
     pub a_max: f64,
@@ -131,6 +133,7 @@ fn checks_of(c: FuseConfig, d: Derived) -> Checks
 {
     let l = c.limits;
     let contact = c.contact;
+    let absent_camera = c.absent_camera;
     let clamp = c.clamp;
     let lo = d.box_lo;
     let hi = d.box_hi;
@@ -139,6 +142,7 @@ fn checks_of(c: FuseConfig, d: Derived) -> Checks
         pos_dim: c.pos_dim,
         armed: c.armed,
         contact,
+        absent_camera,
         clamp,
         dt: l.dt,
         a_max: l.a_max,

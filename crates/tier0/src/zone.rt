@@ -4,11 +4,14 @@ ghost use Prim.Native.Nat.{_<_};
 ghost use lib.ListN.{length};
 ghost use lib.Ieee.{binary64};
 ghost use Rattle.checked.specs.Checked.{pure};
-ghost use Rattle.tier0.specs.Rule.{clear, inZone, zoneIn, slowZone};
+ghost use Rattle.checked.specs.Of.{testFrom};
+ghost use Rattle.tier0.specs.Rule.{clear, insideSeen, insideUnseen, insideZone, zoneIn, slowZone};
 ghost use Rattle.tier0.specs.Of.{zoneFrom};
 use crate::Checks;
 use crate::SlowZone;
 use crate::measure::armed;
+use checked::Test;
+use envelope::AbsentCamera;
 use envelope::Contact;
 use envelope::TripMask;
 
@@ -22,41 +25,57 @@ fn no_zone() -> SlowZone
     }
 }
 
-// The zone round the point that channels i and j give; its step is computed only inside.
-fn in_zone(
-    dt: f64,
+// Whether the position is inside the zone round the point that channels i and j give.
+fn inside_seen(radius: f64, i: usize, j: usize, pos: &[f64], aux: &[f64]) -> Test
+    requires { ⌜ (i < length (now aux)) × (j < length (now aux)) ⌝ }
+    ensures { λ r. ⌜ r ≡ testFrom (insideSeen binary64 radius i j (now (pos .entry)) (now (aux .entry))) ⌝ }
+{
+    let aux_center = [aux[i], aux[j]];
+    let far = fmath::distance(pos, &aux_center, 2);
+    let sound = fmath::finite(far);
+    Test {
+        holds: far <= radius,
+        sound,
+    }
+}
+
+// Whether the arm counts as inside a zone that is not seen.
+fn inside_unseen(absent_camera: AbsentCamera) -> bool
+    ensures { λ r. ⌜ r ≡ insideUnseen «absent_camera» ⌝ }
+{
+    match absent_camera {
+        AbsentCamera::Slow => true,
+        AbsentCamera::NoZone => false,
+    }
+}
+
+// Whether the arm is inside a zone. It is seen where the position has two coordinates and aux has both channels.
+fn inside_zone(
+    absent_camera: AbsentCamera,
     radius: f64,
-    v_max: f64,
     i: usize,
     j: usize,
     pos: &[f64],
     aux: &[f64],
-) -> SlowZone
-    requires { ⌜ (i < length (now aux)) × (j < length (now aux)) ⌝ }
-    ensures { λ r. ⌜ r ≡ zoneFrom (inZone binary64 dt radius «v_max» i j (now (pos .entry)) (now (aux .entry))) ⌝ }
+) -> Test
+    ensures { λ r. ⌜ r ≡ testFrom (insideZone binary64 «absent_camera» radius i j (now (pos .entry)) (now (aux .entry))) ⌝ }
 {
-    let aux_center = [aux[i], aux[j]];
-    let far = fmath::distance(pos, &aux_center, 2);
-    let fine = fmath::finite(far);
-    if far <= radius {
-        let step = v_max * dt;
-        let sound = fine & fmath::finite(step);
-        return SlowZone {
-            inside: true,
-            step,
-            sound,
-        };
+    if (2 <= pos.len()) & ((i < aux.len()) & (j < aux.len())) {
+        return inside_seen(radius, i, j, pos, aux);
     }
-    SlowZone {
-        inside: false,
-        step: 0.0,
-        sound: fine,
-    }
+    let holds = inside_unseen(absent_camera);
+    Test { holds, sound: true }
 }
 
-// The configured zone, where the position has two coordinates and aux has both channels.
-fn zone_in(dt: f64, contact: Contact, pos: &[f64], aux: &[f64]) -> SlowZone
-    ensures { λ r. ⌜ r ≡ zoneFrom (zoneIn binary64 dt contact (now (pos .entry)) (now (aux .entry))) ⌝ }
+// The configured zone; its step is computed only inside.
+fn zone_in(
+    dt: f64,
+    absent_camera: AbsentCamera,
+    contact: Contact,
+    pos: &[f64],
+    aux: &[f64],
+) -> SlowZone
+    ensures { λ r. ⌜ r ≡ zoneFrom (zoneIn binary64 dt «absent_camera» contact (now (pos .entry)) (now (aux .entry))) ⌝ }
 {
     match contact {
         Contact::None => no_zone(),
@@ -66,12 +85,21 @@ fn zone_in(dt: f64, contact: Contact, pos: &[f64], aux: &[f64]) -> SlowZone
             a0,
             a1,
         } => {
-            let i = a0 as usize;
-            let j = a1 as usize;
-            if (2 <= pos.len()) & ((i < aux.len()) & (j < aux.len())) {
-                in_zone(dt, radius, v_max, i, j, pos, aux)
+            let t = inside_zone(absent_camera, radius, a0 as usize, a1 as usize, pos, aux);
+            if t.holds {
+                let step = v_max * dt;
+                let sound = t.sound & fmath::finite(step);
+                SlowZone {
+                    inside: true,
+                    step,
+                    sound,
+                }
             } else {
-                no_zone()
+                SlowZone {
+                    inside: false,
+                    step: 0.0,
+                    sound: t.sound,
+                }
             }
         }
     }
@@ -85,5 +113,6 @@ pub(crate) fn slow_zone(s: Checks, pos: &[f64], aux: &[f64]) -> SlowZone
         return no_zone();
     }
     let contact = s.contact;
-    zone_in(s.dt, contact, pos, aux)
+    let absent_camera = s.absent_camera;
+    zone_in(s.dt, absent_camera, contact, pos, aux)
 }

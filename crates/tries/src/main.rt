@@ -1,6 +1,6 @@
 // One action checked, for the desk to try: a record from standard input, one line to standard output.
 //
-// A record has 104 little-endian words: the 44 numbers and the 26 counts of a configuration, in the places of include/lictor.h; the
+// A record has 105 little-endian words: the 44 numbers and the 27 counts of a configuration, in the places of include/lictor.h; the
 // position, how many numbers it has and eight of them; the camera's, likewise; eight of the row before, and eight of the action. The line
 // is the refusal's number or, accepted, 0 with the trips, the moved coordinates, the peak speed and the projected row, whose numbers are
 // the sixteen hexadecimal digits of their bits, and the masks of the low and the high walls that moved it. The answer is that of
@@ -15,9 +15,9 @@ use libc::STDOUT_FILENO;
 use refusal::Refusal;
 use tier0::Tier0Out;
 
-type Words = [u64; 104];
+type Words = [u64; 105];
 
-type Numbers = [f64; 104];
+type Numbers = [f64; 105];
 
 // A record's words, and the numbers that they stand for.
 struct Record {
@@ -26,18 +26,18 @@ struct Record {
 }
 
 // Room for the bytes of a record.
-fn record_buffer() -> [u8; 832]
-    ensures { λ r. ⌜ 832 ≡ length r ⌝ }
+fn record_buffer() -> [u8; 840]
+    ensures { λ r. ⌜ 840 ≡ length r ⌝ }
 {
-    [0; 832]
+    [0; 840]
 }
 
 // The record that bytes stand for; a byte that is not there counts as 0.
 fn record_of(b: &[u8]) -> Record {
-    let mut words = [0; 104];
-    let mut numbers = [0.0; 104];
+    let mut words = [0; 105];
+    let mut numbers = [0.0; 105];
     let mut i = 0usize;
-    while i < 104 {
+    while i < 105 {
         let w = words::word(b, (8 * i) as u32);
         words[i] = w;
         numbers[i] = words::float_of(w);
@@ -49,8 +49,8 @@ fn record_of(b: &[u8]) -> Record {
 // The n numbers from word at on, or as many as there are.
 fn part(x: &Numbers, at: u16, n: u64) -> &[f64] {
     let all = &x[..];
-    let from = fmath::fewer(at as usize, 104);
-    let end = from + fmath::fewer(n as usize, 104 - from);
+    let from = fmath::fewer(at as usize, 105);
+    let end = from + fmath::fewer(n as usize, 105 - from);
     &all[from..end]
 }
 
@@ -62,7 +62,7 @@ fn config_numbers(x: &Numbers) -> [f64; 44] {
 }
 
 // Its counts and codes.
-fn config_counts(w: &Words) -> [u64; 26] {
+fn config_counts(w: &Words) -> [u64; 27] {
     [
         w[44],
         w[45],
@@ -90,6 +90,7 @@ fn config_counts(w: &Words) -> [u64; 26] {
         w[67],
         w[68],
         w[69],
+        w[70],
     ]
 }
 
@@ -160,10 +161,10 @@ fn answer(w: &Words, x: &Numbers) -> bool {
     }
     let c: FuseConfig = layout::config::config_of(&n, &k);
     let t = unread();
-    let pos = part(x, 71, w[70]);
-    let aux = part(x, 80, w[79]);
-    let prev = part(x, 88, w[44]);
-    let act = part(x, 96, w[44]);
+    let pos = part(x, 72, w[71]);
+    let aux = part(x, 81, w[80]);
+    let prev = part(x, 89, w[44]);
+    let act = part(x, 97, w[44]);
     let mut out = [0.0; 8];
     let a = tier0::check_action(c, &t, &t, pos, aux, prev, act, &mut out);
     say_answer(a, &out)
@@ -181,7 +182,7 @@ fn main() {
         complain(b"tries: a read failed\n");
         return;
     }
-    if f.n < 832 {
+    if f.n < 840 {
         complain(b"tries: the input ends inside the record\n");
         return;
     }

@@ -47,25 +47,32 @@ element-copy-out-to-u32-2 c = search needs
 to-u32-requires-2 : tie.Need-to-u32-requires-2
 to-u32-requires-2 c κs = search needs
 
-element-copy-out-t15 : tie.Need-element-copy-out-t15
-element-copy-out-t15 c = search needs
+element-copy-out-absent-camera-of : tie.Need-element-copy-out-absent-camera-of
+element-copy-out-absent-camera-of c = search needs
 
-element-copy-out-t27 : tie.Need-element-copy-out-t27
-element-copy-out-t27 c = search needs
+absent-camera-of-requires : tie.Need-absent-camera-of-requires
+absent-camera-of-requires c κs = search needs
 
-element-copy-out-t31 : tie.Need-element-copy-out-t31
-element-copy-out-t31 c = search needs
+element-copy-out-t16 : tie.Need-element-copy-out-t16
+element-copy-out-t16 c = search needs
 
-element-copy-out-t35 : tie.Need-element-copy-out-t35
-element-copy-out-t35 c = search needs
+element-copy-out-t30 : tie.Need-element-copy-out-t30
+element-copy-out-t30 c = search needs
+
+element-copy-out-t34 : tie.Need-element-copy-out-t34
+element-copy-out-t34 c = search needs
+
+element-copy-out-t38 : tie.Need-element-copy-out-t38
+element-copy-out-t38 c = search needs
 
 returns : tie.Need-returns
 returns c =
-    let l = c .before .before .before .before .before .before in
+    let a = c .before .before .before .before in
+    let l = a .before .before .before .before in
     let b = l .before .before .before .before .before in
     let k = b .before .before .before .before .before in
     let s = k .before .before .args in
-    whole-config (now (s .n)) (now (s .c)) (k .kind-of .ensures) (b .before .before .before .before .limits-of .ensures) (b .before .before .before .norm-of .ensures) (b .before .before .walls-of .ensures) (b .before .zone-of .ensures) (b .brake-of .ensures) (l .before .before .before .clamp-of .ensures) (l .before .to-u32 .ensures) (l .calibration-of .ensures) (c .before .before .before .before .to-u322 .ensures)
+    whole-config (now (s .n)) (now (s .c)) (k .kind-of .ensures) (b .before .before .before .before .limits-of .ensures) (b .before .before .before .norm-of .ensures) (b .before .before .walls-of .ensures) (b .before .zone-of .ensures) (b .brake-of .ensures) (l .before .before .before .clamp-of .ensures) (l .before .to-u32 .ensures) (l .calibration-of .ensures) (a .before .before .to-u322 .ensures) (a .absent-camera-of .ensures)
 
 pub config-of-spec : {M : Type 1} → statement M
 config-of-spec =
@@ -85,8 +92,10 @@ config-of-spec =
     calibration-of-requires
     element-copy-out-to-u32-2
     to-u32-requires-2
-    element-copy-out-t15
-    element-copy-out-t27
-    element-copy-out-t31
-    element-copy-out-t35
+    element-copy-out-absent-camera-of
+    absent-camera-of-requires
+    element-copy-out-t16
+    element-copy-out-t30
+    element-copy-out-t34
+    element-copy-out-t38
     returns)

@@ -1,0 +1,233 @@
+-- Two calls that read alike answer alike: they may differ in whether CONTACT is armed, in the choice for an absent camera, in the position past the shared axes and
+-- in the camera's message, where the slow zone comes out the same.
+use Prim.Native.Nat.{ℕ, zero, suc, _<_}
+use mathlib.Core.Path.{_≡_, refl}
+use mathlib.Core.Bool.{Bool, true, _||_}
+use mathlib.Core.List.{List}
+use lib.Dec.{eqb, ltb}
+use lib.ListN.{length, replicate}
+use lib.Ieee.{Float, Format}
+use Rattle.checked.specs.Each.{at}
+use Rattle.checked.specs.Finite.{+0}
+use Rattle.checked.specs.Row.{padded}
+use Rattle.checked.proofs.Each.{over-same}
+use Rattle.fmath.specs.Answer.{someNotFinite, some-from, someLentNotFinite}
+use Rattle.fmath.proofs.Lengths.{dist-same}
+use Rattle.pull.proofs.Steps.{pulled-same}
+use Rattle.chunk.specs.declared.Header.{Header}
+use Rattle.conformal.specs.Rule.{Tables}
+use Rattle.envelope.specs.Promises.{altered}
+use Rattle.envelope.specs.Refusals.{sizesOk, numbersFrom, stepsOk}
+use Rattle.envelope.specs.declared.AbsentCamera.{AbsentCamera}
+use Rattle.envelope.specs.declared.ClampMode.{ClampMode}
+use Rattle.envelope.specs.declared.ClampMode.the-variants.{Off, Project}
+use Rattle.envelope.specs.declared.FuseConfig.{FuseConfig}
+use Rattle.tier0.specs.declared.Checks.{Checks}
+use Rattle.tier0.specs.declared.Difference.{Difference}
+use Rattle.tier0.specs.declared.Difference.the-variants.{Accel, Jerk}
+use Rattle.tier0.specs.Rule.{WORKSPACE, SPEED, ACCEL, JERK, REACH, arms, boxDims, Slow, slowZone, outOfBox, outOfReach, boxed, leashed, reached, moves, project, projection, boxesRows, rowMasks, checkAction}
+use Rattle.tier0.specs.Chunk.{rawRow, startRow, someOutOfBox, someOf, largeAt, tooLarge, nextRow, runRows, projectedRows, rowsMasks, checkChunk}
+use Rattle.tier0.specs.Refusals.{tooShort, chunkTooShort}
+use Rattle.tier0.specs.Of.{checksOf, actionRuling, actionRefusal, actionAnswer, actionOut, chunkRuling, chunkRefusal, chunkAnswer, chunkOut}
+use Rattle.tier0.specs.Promises.{raised, SameChecks}
+
+-- every check but CONTACT is armed alike
+pub record ArmedAlike (armed bits : ℕ) : Type 0 where
+  pub workspace : raised WORKSPACE bits ≡ raised WORKSPACE armed
+  pub speed : raised SPEED bits ≡ raised SPEED armed
+  pub accel : raised ACCEL bits ≡ raised ACCEL armed
+  pub jerk : raised JERK bits ≡ raised JERK armed
+  pub reach : raised REACH bits ≡ raised REACH armed
+
+pub armed-as-it-is : (armed : ℕ) → ArmedAlike armed armed
+armed-as-it-is armed = record { workspace = refl; speed = refl; accel = refl; jerk = refl; reach = refl }
+
+-- the checks with other bits armed and another choice
+abbrev rearmed : Checks → ℕ → AbsentCamera → Checks
+rearmed s bits choice = record {
+  dim = s .dim;
+  «pos_dim» = s .«pos_dim»;
+  armed = bits;
+  contact = s .contact;
+  «absent_camera» = choice;
+  clamp = s .clamp;
+  dt = s .dt;
+  «a_max» = s .«a_max»;
+  «j_max» = s .«j_max»;
+  «reach_max» = s .«reach_max»;
+  «inv_dt» = s .«inv_dt»;
+  «inv_dt2» = s .«inv_dt2»;
+  «inv_dt3» = s .«inv_dt3»;
+  «step_max» = s .«step_max»;
+  walls = s .walls;
+}
+
+-- ---- the rules
+
+module _ (f : Format) (s : Checks) (bits : ℕ) (choice : AbsentCamera) (alike : ArmedAlike (s .armed) bits) where
+  abbrev other : Checks
+  other = rearmed s bits choice
+
+  workspace-alike : arms other WORKSPACE ≡ arms s WORKSPACE
+  unfolding arms
+  workspace-alike = alike .workspace
+
+  speed-alike : arms other SPEED ≡ arms s SPEED
+  unfolding arms
+  speed-alike = alike .speed
+
+  accel-alike : arms other ACCEL ≡ arms s ACCEL
+  unfolding arms
+  accel-alike = alike .accel
+
+  jerk-alike : arms other JERK ≡ arms s JERK
+  unfolding arms
+  jerk-alike = alike .jerk
+
+  reach-alike : arms other REACH ≡ arms s REACH
+  unfolding arms
+  reach-alike = alike .reach
+
+  same-box : (a : List Float) → outOfBox f other a ≡ outOfBox f s a
+  unfolding outOfBox
+  same-box a = rw workspace-alike
+
+  same-boxes : (rows : List Float) (h : ℕ) → someOutOfBox f other rows h ≡ someOutOfBox f s rows h
+  unfolding someOutOfBox
+  same-boxes rows h = λ i. someOf (λ (k : ℕ). same-box (rawRow rows (s .dim) k) i) h
+
+  same-large : (d : Difference) (q rows : List Float) (h : ℕ) → tooLarge f other d q rows h ≡ tooLarge f s d q rows h
+  unfolding tooLarge largeAt
+  same-large Accel q rows h = rw accel-alike
+  same-large Jerk q rows h = rw jerk-alike
+
+  same-mode : (m : ClampMode) → boxesRows other m ≡ boxesRows s m
+  unfolding boxesRows
+  same-mode Off = refl
+  same-mode Project = workspace-alike
+
+  same-row-masks : (a : List Float) → rowMasks other a ≡ rowMasks s a
+  unfolding rowMasks
+  same-row-masks a = rw (same-mode (s .clamp))
+
+  same-rows-masks : (rows : List Float) (h : ℕ) → rowsMasks other rows h ≡ rowsMasks s rows h
+  unfolding rowsMasks
+  same-rows-masks rows h = rw (same-mode (s .clamp))
+
+  same-boxed : (a : List Float) → boxed f other a ≡ boxed f s a
+  unfolding boxed
+  same-boxed a = rw workspace-alike
+
+  same-leashed : (z : Slow) (prev a : List Float) → leashed f other z prev a ≡ leashed f s z prev a
+  unfolding leashed
+  same-leashed z prev a = rw speed-alike
+
+  module _ (p q : List Float) (near : (j : ℕ) → j < boxDims s → at q j ≡ at p j) where
+    same-reach : (a : List Float) → outOfReach f other q a ≡ outOfReach f s p a
+    unfolding outOfReach
+    same-reach a = rw (reach-alike, dist-same f a q p (boxDims s) near)
+
+    same-reached : (a : List Float) → reached f other q a ≡ reached f s p a
+    unfolding reached
+    same-reached a = rw (reach-alike, pulled-same f (s .«reach_max») q p (boxDims s) a near)
+
+    same-start : (rows : List Float) → startRow other q rows ≡ startRow s p rows
+    unfolding startRow
+    same-start rows = over-same (at q) (at p) (rawRow rows (s .dim) 0) (boxDims s) near
+
+    module _ (z : Slow) where
+      same-moves : (first : Bool) (prev a : List Float) → moves f other z q first prev a ≡ moves f s z p first prev a
+      unfolding moves
+      same-moves first prev a =
+          let b = boxed f s a .value in
+          rw (same-boxed a, same-leashed z prev b, same-reached (leashed f s z prev b .value))
+
+      same-projection : (m : ClampMode) (prev a : List Float) → projection f other m z q prev a ≡ projection f s m z p prev a
+      unfolding projection project
+      same-projection Off prev a = refl
+      same-projection Project prev a = rw (same-moves true prev a)
+
+      same-run : (rows start l : List Float) (h : ℕ) → runRows f other z q rows start l h ≡ runRows f s z p rows start l h
+      unfolding runRows nextRow
+      same-run rows start l zero = refl
+      same-run rows start l (suc i) = rw (same-run rows start l i, same-moves (eqb i 0) (runRows f s z p rows start l i .value .last) (rawRow rows (s .dim) i))
+
+      same-projected : (m : ClampMode) (rows start l : List Float) (h : ℕ) → projectedRows f other m z q rows start l h ≡ projectedRows f s m z p rows start l h
+      unfolding projectedRows
+      same-projected Off rows start l h = refl
+      same-projected Project rows start l h = rw (same-run rows start l h)
+
+    module _ (aux cam : List Float) (zone : slowZone f other q cam ≡ slowZone f s p aux) where
+      same-action : (prev a : List Float) → checkAction f other q cam prev a ≡ checkAction f s p aux prev a
+      unfolding checkAction
+      same-action prev a =
+          rw (
+            zone,
+            speed-alike,
+            same-box a,
+            same-reach a,
+            same-projection (slowZone f s p aux .value) (s .clamp) prev (padded a (s .dim)),
+            same-row-masks a,
+          )
+
+      same-chunk : (rows l : List Float) (h : ℕ) → checkChunk f other q cam rows l h ≡ checkChunk f s p aux rows l h
+      unfolding checkChunk
+      same-chunk rows l h =
+          let start = startRow s p rows in
+          rw (
+            same-start rows,
+            zone,
+            speed-alike,
+            same-boxes rows h,
+            same-large Accel start rows h,
+            same-large Jerk start rows h,
+            same-reach (rawRow rows (s .dim) 0),
+            same-projected (slowZone f s p aux .value) (s .clamp) rows start l h,
+            same-rows-masks rows h,
+          )
+
+-- ---- the entries
+
+module _ (f : Format) (t : Tables) (c : FuseConfig) (bits : ℕ) (choice : AbsentCamera) where
+  -- the configuration of the other call
+  abbrev changed : FuseConfig
+  changed = altered c choice (c .norm) (c .walls) (c .brake) bits (c .calib) (c .«horizon_ticks»)
+
+  checks-rearmed : checksOf f changed ≡ rearmed (checksOf f c) bits choice
+  unfolding checksOf
+  checks-rearmed = refl
+
+  module _ (alike : ArmedAlike (c .armed) bits) (p aux q cam : List Float) (near : (j : ℕ) → j < boxDims (checksOf f c) → at q j ≡ at p j)
+      (short : ltb (length q) (c .«pos_dim») ≡ ltb (length p) (c .«pos_dim»)) (finite : (someNotFinite q || someNotFinite cam) ≡ (someNotFinite p || someNotFinite aux))
+      (zone : slowZone f (checksOf f changed) q cam ≡ slowZone f (checksOf f c) p aux) where
+    armed-alike : ArmedAlike (checksOf f c .armed) bits
+    unfolding checksOf
+    armed-alike = alike
+
+    zone-alike : slowZone f (rearmed (checksOf f c) bits choice) q cam ≡ slowZone f (checksOf f c) p aux
+    zone-alike = rw checks-rearmed at zone
+
+    chunk-ruled : (rows : List Float) (k : Header) → chunkRuling f changed q cam rows (k .horizon) ≡ chunkRuling f c p aux rows (k .horizon)
+    unfolding chunkRuling
+    chunk-ruled rows k = rw checks-rearmed (same-chunk f (checksOf f c) bits choice armed-alike p q near aux cam zone-alike rows (replicate 512 +0) (k .horizon))
+
+    chunk-refused : (rows : List Float) (k : Header) (room : ℕ) → chunkRefusal f changed t q cam rows k room ≡ chunkRefusal f c t p aux rows k room
+    unfolding chunkRefusal sizesOk numbersFrom stepsOk chunkTooShort someLentNotFinite some-from
+    chunk-refused rows k room = rw (chunk-ruled rows k, short, finite)
+
+    action-ruled : (prev a : List Float) → actionRuling f changed q cam prev a ≡ actionRuling f c p aux prev a
+    unfolding actionRuling
+    action-ruled prev a = rw checks-rearmed (same-action f (checksOf f c) bits choice armed-alike p q near aux cam zone-alike prev a)
+
+    action-refused : (prev a : List Float) (room : ℕ) → actionRefusal f changed t q cam prev a room ≡ actionRefusal f c t p aux prev a room
+    unfolding actionRefusal sizesOk numbersFrom stepsOk tooShort someLentNotFinite some-from
+    action-refused prev a room = rw (action-ruled prev a, short, finite)
+
+    pub same-checks : SameChecks f t changed q cam c p aux
+    unfolding chunkAnswer chunkOut actionAnswer actionOut
+    same-checks = record {
+      same-chunk-answer = λ rows k room. rw (chunk-refused rows k room, chunk-ruled rows k);
+      same-chunk-rows = λ rows k l. rw (chunk-refused rows k (length l), chunk-ruled rows k);
+      same-action-answer = λ prev a room. rw (action-refused prev a room, action-ruled prev a);
+      same-action-row = λ prev a l. rw (action-refused prev a (length l), action-ruled prev a);
+    }
