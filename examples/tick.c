@@ -22,7 +22,7 @@ struct guard {
     double slacks[64];
 };
 
-/* what was measured and what was planned at tick t, numbered from 1; this arm has no camera */
+/* what was measured and what was planned at tick t, numbered from 1; this arm has no camera, and no slow zone */
 struct measured {
     uint32_t t;
     double pos[AXES], vel[AXES];

@@ -36,10 +36,10 @@
 /* ---- the version of this file, and so of the archive that it was installed with */
 
 #define LICTOR_VERSION_MAJOR 0
-#define LICTOR_VERSION_MINOR 4
+#define LICTOR_VERSION_MINOR 5
 #define LICTOR_VERSION_PATCH 0
-#define LICTOR_VERSION "0.4.0"
-/* for comparisons: LICTOR_VERSION_NUMBER >= 400 is 0.4.0 or later */
+#define LICTOR_VERSION "0.5.0"
+/* for comparisons: LICTOR_VERSION_NUMBER >= 500 is 0.5.0 or later */
 #define LICTOR_VERSION_NUMBER (LICTOR_VERSION_MAJOR * 10000 + LICTOR_VERSION_MINOR * 100 + LICTOR_VERSION_PATCH)
 
 /* ---- what a compiler is told: a result that is dropped and a null pointer are mistakes */
@@ -265,7 +265,7 @@ uint64_t lictor_trail_len(const double numbers[256], const struct lictor_trail_m
 LICTOR_MUST_USE LICTOR_NOT_NULL
 uint64_t lictor_trail_is_empty(const double numbers[256], const struct lictor_trail_marks *marks, uint64_t *empty);
 
-/* ---- the configuration: 44 numbers, 26 counts and codes, and the calibration's two tables */
+/* ---- the configuration: 44 numbers, 27 counts and codes, and the calibration's two tables */
 
 struct lictor_numbers {
     double dt, v_max, a_max, j_max, reach_max, margin; /*  0.. 5 */
@@ -292,6 +292,7 @@ struct lictor_counts {
     uint64_t calibrated;                      /* 22: a flag, 1 where there is a calibration; else nothing of it is judged */
     uint64_t mask, n_terms;                   /* 23..24: feature bits, 32 bits, and a count, 8 bits; LICTOR_SIZE past them */
     uint64_t horizon_ticks;                   /* 25: 32 bits */
+    uint64_t absent_camera;                   /* 26: a code, LICTOR_ABSENT_CAMERA_SLOW or LICTOR_ABSENT_CAMERA_NO_ZONE */
 };
 
 /* codes of kind */
@@ -311,6 +312,12 @@ struct lictor_counts {
 #define LICTOR_BOUNDED_ACCEL 2
 #define LICTOR_JERK_LIMITED 3
 #define LICTOR_ZERO_VELOCITY_HOLD 4
+
+/* codes of absent_camera: what holds where a slow zone is configured and LICTOR_TRIP_CONTACT armed, and the camera's message is too short
+   for either channel or the position has fewer than two coordinates. All zeros has the first: the arm counts as inside the zone. With the
+   second there is no zone then, as an arm without a camera may ask for. A configuration without a zone has none under either. */
+#define LICTOR_ABSENT_CAMERA_SLOW 0
+#define LICTOR_ABSENT_CAMERA_NO_ZONE 1
 
 /* trip bits */
 #define LICTOR_TRIP_WORKSPACE 1
@@ -352,7 +359,9 @@ struct lictor_check_marks {
     uint64_t high_dims;    /* a bit for each axis that the box lowered to its high wall in any row, as the row came */
 };
 
-/* Checks a chunk from a position; aux is what the camera saw, and a slow zone whose channels it lacks is off. Writes the
+/* Checks a chunk from a position; aux is what the camera saw. Where it lacks a channel of the slow zone, or the position has fewer than two
+   coordinates, absent_camera says whether the arm counts as inside the zone or there is none; no distance is computed then. So lend what the
+   camera sent in this tick, and nothing where it sent nothing: an older message, or zeros in its place, is a camera that sees. Writes the
    first horizon x dim numbers of out, the marks, and the greatest speed. LICTOR_MISFIT, LICTOR_SIZE to
    LICTOR_COMPUTED. */
 LICTOR_MUST_USE LICTOR_NOT_NULL
@@ -524,8 +533,9 @@ uint64_t lictor_hold_action(const struct lictor_numbers *numbers, const struct l
 /* ---- guard forms: the entries that take a configuration, a calibration or a chunk, on one struct for each
 
    Where the entry is handed several arrays that belong together, its guard form is handed the struct that has them, so that no array of
-   another configuration comes in between. A null pointer with a count of 0 is a slice of no numbers, as for an arm without a camera;
-   with any other count it is refused with LICTOR_MISFIT. A pointer that has no count is not null. */
+   another configuration comes in between. A null pointer with a count of 0 is a slice of no numbers, as of a camera that is silent (an arm
+   that has a zone and no camera on purpose sets LICTOR_ABSENT_CAMERA_NO_ZONE); with any other count it is refused with LICTOR_MISFIT. A
+   pointer that has no count is not null. */
 
 /* A configuration with its calibration. Start from all zeros, then set what the arm has. lictor_guard_derive judges it; so does every call. */
 struct lictor_config {
@@ -719,7 +729,7 @@ static inline uint64_t lictor_guard_hold_action(const struct lictor_config *conf
 LICTOR_ASSERT(lictor_chunk_header, 6);
 LICTOR_ASSERT(lictor_trail_marks, 2);
 LICTOR_ASSERT(lictor_numbers, 44);
-LICTOR_ASSERT(lictor_counts, 26);
+LICTOR_ASSERT(lictor_counts, 27);
 LICTOR_ASSERT(lictor_derived, 29);
 LICTOR_ASSERT(lictor_check_marks, 4);
 LICTOR_ASSERT(lictor_held_marks, 2);
@@ -729,7 +739,7 @@ LICTOR_ASSERT(lictor_forecast_distances, 2);
 LICTOR_ASSERT(lictor_wall_marks, 2);
 LICTOR_ASSERT(lictor_scores, 25);
 LICTOR_ASSERT(lictor_marks, 2);
-LICTOR_ASSERT(lictor_config, 44 + 26 + 192 + 192);
+LICTOR_ASSERT(lictor_config, 44 + 27 + 192 + 192);
 #undef LICTOR_ASSERT
 
 #ifdef __cplusplus

@@ -2,7 +2,8 @@
 
 use differential::rng::Rng;
 use model::{
-    BrakeModel, Calibration, ChunkBuf, ChunkView, ClampMode, ContactLimit, FuseConfig, Scores, Tier1Rt, Trail, NAMED,
+    AbsentCamera, BrakeModel, Calibration, ChunkBuf, ChunkView, ClampMode, ContactLimit, FuseConfig, Scores, Tier1Rt,
+    Trail, NAMED,
 };
 
 /// Numbers in [0, 1), the same in every run.
@@ -21,8 +22,10 @@ pub fn chunk(dim: usize, data: &[f64]) -> ChunkView<'_> {
     ChunkView { seq: 1, t_emit: 1, horizon, dim: dim as u16, exec_steps: 1, data }
 }
 
+/// Under the old choice, which is the Rust's.
 fn boxed(dim: usize) -> FuseConfig {
-    FuseConfig { dim, pos_dim: dim, dt: 0.1, box_lo: [-2.0; 8], box_hi: [2.0; 8], ..FuseConfig::PLAIN }
+    let (box_lo, box_hi, absent_camera) = ([-2.0; 8], [2.0; 8], AbsentCamera::NoZone);
+    FuseConfig { dim, pos_dim: dim, dt: 0.1, box_lo, box_hi, absent_camera, ..FuseConfig::PLAIN }
 }
 
 /// 64 rows of 64 substeps.

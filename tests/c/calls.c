@@ -139,7 +139,7 @@ static int shown(uint64_t at, uint64_t value) {
     return 0;
 }
 
-/* the place of a count among the configuration's 26 */
+/* the place of a count among the configuration's 27 */
 #define AT(count) (offsetof(struct lictor_counts, count) / sizeof(uint64_t))
 
 /* Both sides of the edge of each count that the table or its field bounds. */
@@ -186,6 +186,8 @@ static void widths(void) {
         {AT(n_terms), bits + 1, 1}, {AT(n_terms), most, 1},
         {AT(horizon_ticks), 0, 3}, {AT(horizon_ticks), bits - 1, 0}, {AT(horizon_ticks), bits, 255},
         {AT(horizon_ticks), most, 255},
+        {AT(absent_camera), 0, 0}, {AT(absent_camera), 1, 0}, {AT(absent_camera), 2, 255}, {AT(absent_camera), bits, 255},
+        {AT(absent_camera), most, 255},
     };
     const struct {
         uint64_t a0, a1, aux, due;
@@ -204,9 +206,18 @@ static void widths(void) {
         c = good, ((uint64_t *)&c)[cases[i].at] = cases[i].value;
         EXPECT(lictor_derive(&n, &c, center, scale, &d) == cases[i].due || shown(cases[i].at, cases[i].value));
         /* without a calibration nothing of it is judged, and without a contact no channel */
-        if ((cases[i].at >= AT(terms) && cases[i].at < AT(armed)) || cases[i].at > AT(calibrated)) {
+        if ((cases[i].at >= AT(terms) && cases[i].at < AT(armed)) || (cases[i].at > AT(calibrated) && cases[i].at < AT(absent_camera))) {
             c.calibrated = 0;
             DUE(0);
+        }
+        /* a code is judged with a zone and without one, armed or not */
+        if (cases[i].at == AT(absent_camera)) {
+            c.armed = LICTOR_TRIP_CONTACT;
+            DUE(cases[i].due);
+            c.contact = c.calibrated = 0;
+            DUE(cases[i].due);
+            c.armed = 0;
+            DUE(cases[i].due);
         }
         if (cases[i].at == AT(contact_a0) || cases[i].at == AT(contact_a1)) {
             c.contact = 0;
@@ -350,6 +361,109 @@ static void walls(void) {
 #undef CHUNK
 #undef ALONE
 #undef ACTION
+}
+
+/* a zone of radius 1 in which a step of 1 is allowed, and a step of 3: all zeros means slow where the camera does not show the zone */
+static void cameras(void) {
+    struct lictor_numbers n = {0};
+    struct lictor_counts c = {0};
+    struct lictor_check_marks m = {7, 7, 7, 7};
+    const double origin[2] = {0.0, 0.0}, row[2] = {3.0, 0.0}, far[3] = {9.0, 9.0, 9.0};
+    double out[2] = {7.0, 7.0}, speed = 7.0;
+    n.dt = n.v_max = n.a_max = n.j_max = n.reach_max = n.brake_k_v = n.brake_dt = n.contact_radius = n.contact_v_max = 1.0;
+    n.norm_scale[0] = n.norm_scale[1] = 1.0;
+    c.dim = c.pos_dim = 2, c.substeps = 1, c.clamp = LICTOR_CLAMP_PROJECT, c.armed = LICTOR_TRIP_CONTACT;
+    c.contact = 1, c.aux_count = 3;
+#define CHUNK(pos, aux, count) lictor_check_chunk(&n, &c, center, scale, origin, pos, aux, count, row, 2, 1, 2, 1, out, 2, &m, &speed)
+#define ACTION(pos, aux, count) lictor_check_action(&n, &c, center, scale, origin, pos, aux, count, origin, 2, row, 2, out, 2, &m, &speed)
+#define SLOWED(call) EXPECT(call == LICTOR_ACCEPTED && m.trips == LICTOR_TRIP_CONTACT && m.clamped_dims == 1 && out[0] < 1.0)
+#define PASSED(call) EXPECT(call == LICTOR_ACCEPTED && m.trips == 0 && m.clamped_dims == 0 && out[0] == 3.0)
+    /* channels 0 and 2 in either order, and messages of no number, of the lower channel alone, and of one number less than the other needs */
+    for (size_t i = 0; i < 6; i++) {
+        const size_t length = i / 2;
+        c.contact_a0 = i % 2 ? 2 : 0, c.contact_a1 = i % 2 ? 0 : 2, c.absent_camera = 0;
+        SLOWED(CHUNK(2, far, length));
+        SLOWED(ACTION(2, far, length));
+        c.absent_camera = LICTOR_ABSENT_CAMERA_NO_ZONE;
+        PASSED(CHUNK(2, far, length));
+        PASSED(ACTION(2, far, length));
+    }
+    /* long enough: the centre is far away, or where the arm is */
+    for (c.absent_camera = 0; c.absent_camera < 2; c.absent_camera++) {
+        const double near[3] = {1.0, 9.0, 0.0};
+        PASSED(CHUNK(2, far, 3));
+        PASSED(ACTION(2, far, 3));
+        SLOWED(CHUNK(2, near, 3));
+        SLOWED(ACTION(2, near, 3));
+    }
+    /* one coordinate is too few, whatever the camera says, and for two axes refused */
+    c.absent_camera = LICTOR_ABSENT_CAMERA_SLOW;
+    EXPECT(CHUNK(1, far, 3) == LICTOR_SHORT && ACTION(1, far, 3) == LICTOR_SHORT);
+    c.pos_dim = 1;
+    SLOWED(CHUNK(1, far, 3));
+    SLOWED(ACTION(1, far, 3));
+    PASSED(CHUNK(2, far, 3));
+    c.absent_camera = LICTOR_ABSENT_CAMERA_NO_ZONE;
+    PASSED(CHUNK(1, far, 3));
+    PASSED(ACTION(1, far, 3));
+    /* slow nowhere: without a zone, and where its check is not armed */
+    c.absent_camera = LICTOR_ABSENT_CAMERA_SLOW, c.contact = 0;
+    PASSED(CHUNK(2, LICTOR_NONE, 0));
+    PASSED(ACTION(2, LICTOR_NONE, 0));
+    c.contact = 1, c.armed = 0;
+    PASSED(CHUNK(2, LICTOR_NONE, 0));
+    PASSED(ACTION(2, LICTOR_NONE, 0));
+    /* the zone's step is computed, where the arm counts as inside */
+    c.armed = LICTOR_TRIP_CONTACT, n.contact_v_max = 0x1.fffffffffffffp1023, n.dt = 2.0, out[0] = 7.0;
+    EXPECT(CHUNK(2, LICTOR_NONE, 0) == LICTOR_COMPUTED && ACTION(2, LICTOR_NONE, 0) == LICTOR_COMPUTED && out[0] == 7.0);
+    c.absent_camera = LICTOR_ABSENT_CAMERA_NO_ZONE;
+    PASSED(CHUNK(2, LICTOR_NONE, 0));
+#undef CHUNK
+#undef ACTION
+#undef SLOWED
+#undef PASSED
+}
+
+/* The code's edges at every entry that takes a configuration: a refused call writes nothing. */
+static void codes(void) {
+    static struct lictor_tier1 t;
+    const uint64_t most = UINT64_MAX, bits = UINT64_C(1) << 32, values[7] = {0, 1, 2, 3, bits, bits + 1, most};
+    const double origin[1] = {0.0};
+    struct lictor_numbers n = {0};
+    n.dt = n.v_max = n.a_max = n.j_max = n.reach_max = n.brake_k_v = n.brake_dt = n.norm_scale[0] = 1.0;
+    for (int i = 0; i < 7; i++) {
+        struct lictor_counts c = {.dim = 1, .pos_dim = 1, .substeps = 1, .commit = 1, .absent_camera = values[i]};
+        const uint64_t due = values[i] > 1 ? LICTOR_MISFIT : LICTOR_ACCEPTED;
+        struct lictor_derived d = {.inv_dt = 7.0};
+        struct lictor_check_marks m = {7, 7, 7, 7};
+        struct lictor_scores s = {{7.0}, {0.0}, 0.0};
+        struct lictor_marks marks = {0, 0};
+        struct lictor_forecast_marks f = {7, 7};
+        struct lictor_forecast_distances r = {7.0, 7.0};
+        struct lictor_wall_marks w = {7, 7};
+        double out[1] = {7.0}, slacks[1] = {7.0}, speed = 7.0;
+        uint64_t place = 7;
+        lictor_tier1_new(LICTOR_TIER1_PARTS(&t));
+#define CODE(call) EXPECT((call) == due || shown(AT(absent_camera), values[i]))
+        CODE(lictor_derive(&n, &c, center, scale, &d));
+        EXPECT((d.inv_dt == 7.0) == (due != 0));
+        CODE(lictor_check_chunk(&n, &c, center, scale, origin, 1, LICTOR_NONE, 0, origin, 1, 1, 1, 1, out, 1, &m, &speed));
+        EXPECT((m.trips == 7) == (due != 0) && (out[0] == 7.0) == (due != 0));
+        m.trips = 7, out[0] = 7.0;
+        CODE(lictor_check_action(&n, &c, center, scale, origin, 1, LICTOR_NONE, 0, origin, 1, origin, 1, out, 1, &m, &speed));
+        EXPECT((m.trips == 7) == (due != 0) && (out[0] == 7.0) == (due != 0));
+        CODE(lictor_features(&n, &c, center, scale, LICTOR_TIER1_PARTS(&t), origin, 1, origin, 0, 1, 3, 0, 1, 1, 1, origin, 1, &s, &marks));
+        EXPECT((s.f[0] == 7.0) == (due != 0) && t.header.filled == (due == 0));
+        CODE(lictor_brake_feasible(&n, &c, center, scale, origin, 1, origin, 1, origin, 1, 1, 1, 1, 0, slacks, 1, &f, &r, &place));
+        EXPECT((f.count == 7) == (due != 0) && (slacks[0] == 7.0) == (due != 0) && place == 7);
+        out[0] = 7.0;
+        CODE(lictor_brake_action(&n, &c, center, scale, origin, 1, origin, 1, out, 1, &w));
+        EXPECT((w.low_dims == 7) == (due != 0) && (out[0] == 7.0) == (due != 0));
+        w.low_dims = 7, out[0] = 7.0;
+        CODE(lictor_hold_action(&n, &c, center, scale, origin, 1, out, 1, &w));
+        EXPECT((w.low_dims == 7) == (due != 0) && (out[0] == 7.0) == (due != 0));
+#undef CODE
+    }
 }
 
 /* one axis: chunks that overlap not at all, in three rows, and in four; a trail that stands still; refusals; a reset */
@@ -498,6 +612,8 @@ int main(void) {
     held_widths();
     checks();
     walls();
+    cameras();
+    codes();
     features();
     brakes();
     gate();

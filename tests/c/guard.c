@@ -84,11 +84,13 @@ static void forms(void) {
         const size_t from = below(4), i = below(7), pos = AXES - (below(30) == 0), aux = below(3), ext = below(5);
         draw(a.pos, AXES), draw(a.vel, AXES), draw(a.aux, 2), draw(a.ext, 4), draw(a.rows, ROWS * AXES), draw(a.previous, AXES);
         c.counts.brake = below(5), c.counts.kind = below(5), c.counts.contact = below(2), c.counts.clamp = below(2);
+        c.counts.absent_camera = below(2);
         c.numbers.margin = below(2) ? 1.5 : 0.0;
         if (below(30) == 0) chunk.exec_steps = 9;
         if (below(30) == 0) a.rows[4] = NAN;
         if (below(30) == 0) c.numbers.margin = -1.0;
         if (below(30) == 0) c.counts.kind = 5;
+        if (below(30) == 0) c.counts.absent_camera = 2;
         if (below(30) == 0) c.scale[100] = 0.0;
         if (below(30) == 0) c.counts.mask |= 1 << LICTOR_STALL;
         b = a;
@@ -177,7 +179,7 @@ static void nulls(void) {
     EXPECT(lictor_guard_action(&lost, 0, a.row, AXES) == 0 && lictor_guard_action(&without, 0, a.row, AXES) == 0);
     EXPECT(lictor_guard_action(&chunk, 0, NULL, AXES) == 0 && lictor_guard_action(&chunk, 0, NULL, 0) == AXES);
     EXPECT(memcmp(&a, &b, sizeof a) == 0);
-    /* an arm without a camera, features without a position, a hold without one */
+    /* an arm without a zone and without a camera, features without a position, a hold without one */
     EXPECT(CHECK(a.pos, AXES, NULL, 0, &chunk, a.out, ROWS * AXES) == LICTOR_ACCEPTED && a.found.trips == 0);
     EXPECT(ACTION(a.pos, AXES, NULL, 0, a.previous, AXES, a.rows, AXES, a.row, AXES) == LICTOR_ACCEPTED);
     EXPECT(FEATURES(NULL, 0, NULL, 0, &chunk) == LICTOR_ACCEPTED && FEATURES(NULL, 0, NULL, 0, NULL) == LICTOR_ACCEPTED);
@@ -247,6 +249,37 @@ static void arming(void) {
     EXPECT(memcmp(a.out, a.rows, sizeof a.out) == 0);
 }
 
+/* A zone in which a step of 0.25 is allowed, and a camera that says nothing, as a null pointer, or too little: an arm is slow unless its
+   configuration says that there is no zone then. All zeros does not say it. */
+static void cameras(void) {
+    struct lictor_config c = arm();
+    static struct tick a;
+    const struct lictor_chunk chunk = {a.rows, ROWS * AXES, 0, 0, ROWS, AXES, 2};
+    /* far from the origin, so that a number which is missing is not one that happens to show the arm */
+    for (int i = 0; i < ROWS * AXES; i++) a.rows[i] = 3.5;
+    for (int i = 0; i < AXES; i++) a.pos[i] = a.previous[i] = 3.0;
+    c.counts.armed = LICTOR_TRIP_CONTACT, c.counts.contact = 1, a.aux[0] = a.aux[1] = 3.0;
+    EXPECT(c.counts.absent_camera == LICTOR_ABSENT_CAMERA_SLOW);
+    for (c.counts.absent_camera = 0; c.counts.absent_camera < 2; c.counts.absent_camera++) {
+        const uint64_t due = c.counts.absent_camera == LICTOR_ABSENT_CAMERA_SLOW ? LICTOR_TRIP_CONTACT : 0;
+        for (size_t count = 0; count < 2; count++) {
+            const double *aux = count ? a.aux : NULL;
+            EXPECT(lictor_guard_check_chunk(&c, a.pos, AXES, aux, count, &chunk, a.out, ROWS * AXES, &a.found, &a.speed) == LICTOR_ACCEPTED);
+            EXPECT(a.found.trips == due && (a.found.clamped_dims == 7) == (due != 0) && (a.out[0] < 3.5) == (due != 0));
+            EXPECT(lictor_guard_check_action(&c, a.pos, AXES, aux, count, a.previous, AXES, a.rows, AXES, a.row, AXES, &a.found, &a.speed) ==
+                   LICTOR_ACCEPTED);
+            EXPECT(a.found.trips == due && (a.row[0] < 3.5) == (due != 0));
+        }
+        /* both channels: the camera decides, and the centre is where the arm is, or is not */
+        a.aux[0] = 3.0;
+        EXPECT(lictor_guard_check_chunk(&c, a.pos, AXES, a.aux, 2, &chunk, a.out, ROWS * AXES, &a.found, &a.speed) == LICTOR_ACCEPTED);
+        EXPECT(a.found.trips == LICTOR_TRIP_CONTACT);
+        a.aux[0] = 9.0;
+        EXPECT(lictor_guard_check_chunk(&c, a.pos, AXES, a.aux, 2, &chunk, a.out, ROWS * AXES, &a.found, &a.speed) == LICTOR_ACCEPTED);
+        EXPECT(a.found.trips == 0);
+    }
+}
+
 /* Each number has a text of its own, and the version's parts agree. */
 static void words(void) {
     const char *unknown = lictor_refusal_text(14);
@@ -257,7 +290,7 @@ static void words(void) {
         for (uint64_t j = 0; known && j < i; j++) EXPECT(strcmp(lictor_refusal_text(i), lictor_refusal_text(j)) != 0);
     }
     snprintf(version, sizeof version, "%d.%d.%d", LICTOR_VERSION_MAJOR, LICTOR_VERSION_MINOR, LICTOR_VERSION_PATCH);
-    EXPECT(strcmp(version, LICTOR_VERSION) == 0 && LICTOR_VERSION_NUMBER >= 400);
+    EXPECT(strcmp(version, LICTOR_VERSION) == 0 && LICTOR_VERSION_NUMBER >= 500);
 }
 
 int main(void) {
@@ -265,6 +298,7 @@ int main(void) {
     nulls();
     widths();
     arming();
+    cameras();
     words();
     puts(failed ? "guard forms: failed" : "guard forms: as expected");
     return failed;

@@ -19,17 +19,19 @@ static struct lictor_scores s;
 static struct lictor_marks m;
 static double rows[512], slacks[4096], out[512], filled[512];
 static const double still[8];
+/* how many numbers the camera sends */
+static size_t camera;
 
 static void check_chunk(void) {
     struct lictor_check_marks marks;
     double speed;
-    if (lictor_check_chunk(&n, &c, center, scale, still, 8, still, 8, rows, 512, 64, 8, 64, out, 512, &marks, &speed)) abort();
+    if (lictor_check_chunk(&n, &c, center, scale, still, 8, still, camera, rows, 512, 64, 8, 64, out, 512, &marks, &speed)) abort();
 }
 
 static void check_action(void) {
     struct lictor_check_marks marks;
     double speed;
-    if (lictor_check_action(&n, &c, center, scale, still, 8, still, 8, still, 8, rows, 8, out, 8, &marks, &speed)) abort();
+    if (lictor_check_action(&n, &c, center, scale, still, 8, still, camera, still, 8, rows, 8, out, 8, &marks, &speed)) abort();
 }
 
 static void features(void) {
@@ -128,9 +130,10 @@ int main(void) {
     for (int i = 0; i < 512; i++) rows[i] = 0.001 * (i % 11);
     c.dim = c.pos_dim = 8, c.clamp = LICTOR_CLAMP_PROJECT, c.substeps = 32, c.commit = 64, c.brake_steps = 64;
     c.armed = 63, c.calibrated = 1, c.mask = 0xf7f, c.n_terms = 8, c.horizon_ticks = 200;
-    /* every brake and every kind of action, with a slow zone and without */
-    for (unsigned setting = 0; setting < 50; setting++) {
-        c.brake = setting / 2 % 5, c.kind = setting / 10, c.contact = setting % 2;
+    /* every brake and every kind of action, with a slow zone and without, with a camera and without one, and either choice in turn */
+    for (unsigned setting = 0; setting < 100; setting++) {
+        c.brake = setting / 2 % 5, c.kind = setting / 10 % 5, c.contact = setting % 2;
+        camera = setting < 50 ? 8 : 0, c.absent_camera = setting / 2 % 2;
         n.contact_radius = n.contact_v_max = 1.0, c.contact_a0 = 0, c.contact_a1 = 1, c.aux_count = 8;
         for (size_t i = 0; i < sizeof calls / sizeof *calls; i++) {
             /* once before, so that what the loader does at a first call is not counted */

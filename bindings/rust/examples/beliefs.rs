@@ -3,7 +3,7 @@
 use lictor::{
     brake,
     chunk::ChunkView,
-    config::{trip, BrakeKind, BrakeModel, Config, ConfigBuilder, Contact},
+    config::{trip, AbsentCamera, BrakeKind, BrakeModel, Config, ConfigBuilder, Contact},
     tier0, Refusal,
 };
 
@@ -31,9 +31,18 @@ const ARM: ConfigBuilder = Config::builder()
 fn main() -> Result<(), Refusal> {
     let (arm, origin, mut out) = (ARM.build()?, [0.0, 0.0], [0.0; 2]);
 
-    // An empty contact box means slow everywhere? The camera sees the hand at the arm, and a step of 1 passes.
+    // An empty contact box means slow everywhere? The camera sees the hand at the arm, and a step of 1 passes: no zone configured means slow
+    // nowhere.
     let found = tier0::check_action(&arm, &origin, &[0.0, 0.0], &origin, &[1.0, 0.0], &mut out)?;
     assert_eq!((found.trips & trip::CONTACT, out), (0, [1.0, 0.0]));
+    // What does mean it is a zone whose camera is silent: the same step trips, unless the arm is said to have no camera on purpose.
+    let zoned = ARM.contact(Contact { radius: 0.25, v_max: 0.5, a0: 0, a1: 1 });
+    let (place, row, half_a_message) = ([-0.5, 0.0], [0.5, 0.0], [0.75]);
+    let silent = tier0::check_action(&zoned.build()?, &place, &half_a_message, &place, &row, &mut out)?;
+    assert_eq!((silent.trips, out[0] < 0.0), (trip::CONTACT, true));
+    let without = zoned.absent_camera(AbsentCamera::NoZone).build()?;
+    let passed = tier0::check_action(&without, &place, &half_a_message, &place, &row, &mut out)?;
+    assert_eq!((passed.trips, out), (0, row));
 
     // Two coordinates may share a camera channel? The configuration is refused with 4, armed or not.
     let shared = ARM.armed(0).contact(Contact { radius: 1.0, v_max: 0.5, a0: 1, a1: 1 });

@@ -28,7 +28,7 @@ struct Guard {
     slacks: [f64; 64],
 }
 
-/// What was measured at tick `t`, numbered from 1; this arm has no camera.
+/// What was measured at tick `t`, numbered from 1; this arm has no camera, and no slow zone.
 struct Measured<'a> {
     t: u32,
     pos: &'a [f64],

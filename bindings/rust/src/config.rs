@@ -84,7 +84,7 @@ pub struct BrakeModel {
     pub react_ticks: u16,
 }
 
-/// A slow zone round the point that the camera's channels a0 and a1 give.
+/// A slow zone round the point that the camera's channels a0 and a1 give. [`AbsentCamera`] says what holds where they give none.
 #[derive(Clone, Copy, Debug, PartialEq)]
 pub struct Contact {
     /// How far the zone reaches, 0 or more.
@@ -95,6 +95,20 @@ pub struct Contact {
     pub a0: u8,
     /// The channel of its second; another than a0.
     pub a1: u8,
+}
+
+/// What holds where a slow zone is configured and `CONTACT` armed, and the camera's message is too short for either of the zone's channels
+/// or the position has fewer than two coordinates.
+///
+/// No zone configured means slow nowhere, under either choice. A zone whose camera is silent means slow everywhere, unless the
+/// configuration says [`NoZone`](Self::NoZone).
+#[derive(Clone, Copy, Debug, Default, PartialEq, Eq)]
+pub enum AbsentCamera {
+    /// The arm counts as inside the zone: a step longer than the zone's `v_max` allows raises `CONTACT`, and projection shortens it.
+    #[default]
+    Slow,
+    /// There is no zone then. For an arm that has a zone and runs without a camera on purpose.
+    NoZone,
 }
 
 /// The raw configuration. [`Config::builder`] starts from defaults; here every number is named.
@@ -128,6 +142,8 @@ pub struct FuseConfig {
     pub box_hi: [f64; 8],
     /// The slow zone, where there is one.
     pub contact: Option<Contact>,
+    /// What holds where the camera does not show that zone.
+    pub absent_camera: AbsentCamera,
     /// The brake.
     pub brake: BrakeModel,
     /// Whether rows are moved inside the limits.
@@ -185,6 +201,7 @@ impl Config {
     ///     box_lo: [-1.0; 8],
     ///     box_hi: [1.0; 8],
     ///     contact: None,
+    ///     absent_camera: AbsentCamera::Slow,
     ///     brake: BrakeModel {
     ///         kind: BrakeKind::BoundedAccel, k_p: 2.0, k_v: 1.0, dt: 0.5, substeps: 2, commit: 1, brake_steps: 4, react_ticks: 1,
     ///     },
@@ -260,6 +277,7 @@ impl Config {
             mask: gate.mask.into(),
             n_terms: gate.n_terms.into(),
             horizon_ticks: c.horizon_ticks.into(),
+            absent_camera: c.absent_camera as u64,
         };
         Self { numbers, counts, gate }
     }
@@ -334,6 +352,7 @@ impl Config {
 /// | `margin` | 0: the walls as they are |
 /// | `norm` | centers 0 and scales 1: coordinates as they are |
 /// | `contact`, `aux_count` | no slow zone, and no camera |
+/// | `absent_camera` | [`AbsentCamera::Slow`]: a zone that the camera does not show is slow everywhere |
 /// | `calibration` | none: nothing of it is judged |
 ///
 /// ```
@@ -373,6 +392,7 @@ impl ConfigBuilder {
         box_lo: [f64::NAN; 8],
         box_hi: [f64::NAN; 8],
         contact: None,
+        absent_camera: AbsentCamera::Slow,
         brake: BrakeModel {
             kind: BrakeKind::PdSecondOrder,
             k_p: f64::NAN,
@@ -467,6 +487,30 @@ impl ConfigBuilder {
         self
     }
 
+    /// What holds where the zone is not seen: an arm that has a zone and no camera on purpose says [`AbsentCamera::NoZone`].
+    ///
+    /// ```
+    /// # use lictor::config::{BrakeKind, BrakeModel, Config};
+    /// # let brake = BrakeModel {
+    /// #     kind: BrakeKind::PdSecondOrder, k_p: 2.0, k_v: 1.0, dt: 0.5, substeps: 2, commit: 1, brake_steps: 1, react_ticks: 1,
+    /// # };
+    /// # let builder = Config::builder().axes(2).dt(1.0).v_max(9.0).a_max(9.0).j_max(9.0).reach_max(99.0).walls([-9.0; 8], [9.0; 8]).brake(brake);
+    /// use lictor::{config::{trip, AbsentCamera, Contact}, tier0};
+    /// let zoned = builder.contact(Contact { radius: 1.0, v_max: 0.5, a0: 0, a1: 1 }).aux_count(2);
+    /// let mut out = [0.0; 2];
+    /// // a step of 1, and not a word from the camera
+    /// let silent = tier0::check_action(&zoned.build()?, &[0.0; 2], &[], &[0.0; 2], &[1.0, 0.0], &mut out)?;
+    /// assert_eq!(silent.trips, trip::CONTACT);
+    /// let without = zoned.absent_camera(AbsentCamera::NoZone).build()?;
+    /// let found = tier0::check_action(&without, &[0.0; 2], &[], &[0.0; 2], &[1.0, 0.0], &mut out)?;
+    /// assert_eq!((found.trips, out), (0, [1.0, 0.0]));
+    /// # Ok::<(), lictor::Refusal>(())
+    /// ```
+    pub const fn absent_camera(mut self, choice: AbsentCamera) -> Self {
+        self.0.absent_camera = choice;
+        self
+    }
+
     /// How many channels the camera declares.
     pub const fn aux_count(mut self, n: usize) -> Self {
         self.0.aux_count = n;
@@ -528,4 +572,19 @@ pub struct Derived {
     pub box_hi: [f64; 8],
     /// 1 / scale.
     pub inv_norm_scale: [f64; 8],
+}
+
+#[cfg(test)]
+mod tests {
+    use super::*;
+
+    /// The code at the end of the counts, which stands past all others.
+    #[test]
+    fn the_choice_is_the_last_count() {
+        let laid = |choice| Config::unjudged(&FuseConfig { absent_camera: choice, ..ConfigBuilder::START }).counts;
+        assert_eq!(laid(AbsentCamera::Slow).absent_camera, 0);
+        assert_eq!(laid(AbsentCamera::NoZone).absent_camera, 1);
+        assert_eq!(core::mem::offset_of!(raw::Counts, absent_camera), 26 * 8);
+        assert_eq!(core::mem::size_of::<raw::Counts>(), 27 * 8);
+    }
 }

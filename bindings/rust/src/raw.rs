@@ -46,6 +46,7 @@ pub struct Counts {
     pub mask: u64,
     pub n_terms: u64,
     pub horizon_ticks: u64,
+    pub absent_camera: u64,
 }
 
 extern "C" {

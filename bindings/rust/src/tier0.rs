@@ -33,8 +33,11 @@ impl Tier0Out {
     }
 }
 
-/// Checks a chunk from a position. The projected rows are written over the first horizon x dim numbers of `out`. A slow zone
-/// whose channels `aux` lacks is off; an arm without a camera lends `&[]`.
+/// Checks a chunk from a position. The projected rows are written over the first horizon x dim numbers of `out`. An arm without a
+/// camera lends `&[]`: where it has no slow zone it is slow nowhere, and where it has one, with `CONTACT` armed, it is slow everywhere, unless
+/// it says [`AbsentCamera::NoZone`](crate::config::AbsentCamera). So it is where `aux` lacks one channel of the two, or `pos` has one
+/// coordinate; no distance is computed then. Lend what the camera sent in this tick, and nothing where it sent nothing: an older message, or
+/// zeros in its place, is a camera that sees.
 ///
 /// ```
 /// # use lictor::config::{BrakeKind, BrakeModel, Config};
@@ -104,7 +107,7 @@ pub fn check_chunk(c: &Config, pos: &[f64], aux: &[f64], ch: ChunkView<'_>, out:
 }
 
 /// Checks one action against the one before it, without ACCEL and JERK. The projected action is written over the first dim
-/// numbers of `out`.
+/// numbers of `out`. `aux` and `pos` are read as by [`check_chunk`].
 ///
 /// ```
 /// # use lictor::config::{BrakeKind, BrakeModel, Config};

@@ -2,7 +2,9 @@
 
 use lictor::{
     chunk::ChunkView,
-    config::{trip, ActionKind, BrakeKind, BrakeModel, ClampMode, Config, ConfigBuilder, Contact, FuseConfig},
+    config::{
+        trip, AbsentCamera, ActionKind, BrakeKind, BrakeModel, ClampMode, Config, ConfigBuilder, Contact, FuseConfig,
+    },
     conformal::{self, Calibration, Scores},
     tier0, Refusal,
 };
@@ -121,6 +123,55 @@ fn kind_clamp_and_armed_come_to_the_library() {
     };
     assert_eq!(hold(ActionKind::EePosition), Ok([0.5, 0.5]));
     assert_eq!(hold(ActionKind::JointVelocity), Ok([0.0, 0.0]));
+}
+
+/// A zone of half the arm's speed, on two of three channels: a step of 0.5 is longer than it allows.
+fn zoned(a0: u8, a1: u8) -> ConfigBuilder {
+    arm().armed(trip::CONTACT).contact(Contact { radius: 0.25, v_max: 0.5, a0, a1 }).aux_count(3)
+}
+
+/// The trips of a step of 0.5 from the origin, by a chunk and by an action, and whether the row was moved.
+fn stepped(builder: &ConfigBuilder, pos: &[f64], aux: &[f64]) -> Result<(u32, bool), Refusal> {
+    let (config, step) = (builder.build()?, [0.5, 0.0]);
+    let (mut rows, mut out) = ([0.0; 2], [0.0; 2]);
+    let chunk = tier0::check_chunk(&config, pos, aux, ChunkView::new(0, 0, 2, 1, &step), &mut rows)?;
+    let action = tier0::check_action(&config, pos, aux, &[0.0; 2], &step, &mut out)?;
+    assert_eq!((chunk, rows), (action, out));
+    Ok((action.trips, action.clamped_dims != 0))
+}
+
+#[test]
+fn a_form_without_a_tick_is_slow() {
+    assert_eq!(AbsentCamera::default(), AbsentCamera::Slow);
+    assert_eq!(ConfigBuilder::START.absent_camera, AbsentCamera::Slow);
+    // what a builder is not told
+    assert_eq!(stepped(&zoned(0, 2), &[0.0; 2], &[]), Ok((trip::CONTACT, true)));
+    let said = zoned(0, 2).absent_camera(AbsentCamera::default());
+    assert_eq!(stepped(&said, &[0.0; 2], &[]), Ok((trip::CONTACT, true)));
+}
+
+#[test]
+fn a_silent_camera_by_the_choice() {
+    let (inside, outside) = ([0.25, 9.0, 0.0], [0.5, 9.0, 0.0]);
+    for (choice, unseen) in [(AbsentCamera::Slow, (trip::CONTACT, true)), (AbsentCamera::NoZone, (0, false))] {
+        let builder = zoned(0, 2).absent_camera(choice);
+        for short in 0..3 {
+            let turned = zoned(2, 0).absent_camera(choice);
+            assert_eq!(stepped(&builder, &[0.0; 2], &outside[..short]), Ok(unseen), "{choice:?}, {short} channels");
+            assert_eq!(stepped(&turned, &[0.0; 2], &outside[..short]), Ok(unseen), "{choice:?}, {short} channels");
+        }
+        // a camera that is there decides by itself
+        assert_eq!(stepped(&builder, &[0.0; 2], &inside), Ok((trip::CONTACT, true)), "{choice:?}");
+        assert_eq!(stepped(&builder, &[0.0; 2], &outside), Ok((0, false)), "{choice:?}");
+        // one coordinate, whatever the camera says; two of an arm that has one
+        assert_eq!(stepped(&builder.pos_dim(1), &[0.0], &outside), Ok(unseen), "{choice:?}");
+        assert_eq!(stepped(&builder.pos_dim(1), &[0.0; 2], &outside), Ok((0, false)), "{choice:?}");
+        // no zone and no arming are slow nowhere
+        assert_eq!(stepped(&arm().absent_camera(choice), &[0.0; 2], &[]), Ok((0, false)), "{choice:?}");
+        let unarmed = builder.armed(trip::ALL - trip::CONTACT - trip::ACCEL - trip::JERK);
+        assert_eq!(stepped(&unarmed, &[0.0; 2], &[]), Ok((0, false)), "{choice:?}");
+        assert_eq!(stepped(&builder, &[0.0; 2], &[f64::NAN]), Err(Refusal::NotFinite), "{choice:?}");
+    }
 }
 
 #[test]

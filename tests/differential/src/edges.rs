@@ -4,11 +4,11 @@
 use std::fmt::Debug;
 
 use model::{
-    brake, conformal, envelope, tier0, tier1, ChunkView, ContactLimit, FuseConfig, Refusal, Scores, Tier1Rt, CONTACT,
-    MAX_SUBSTEPS,
+    brake, conformal, envelope, tier0, tier1, AbsentCamera, ChunkView, ContactLimit, FuseConfig, Refusal, Scores,
+    Tier1Rt, CONTACT, MAX_SUBSTEPS,
 };
 
-use crate::port::Port;
+use crate::{part::CHOICES, port::Port};
 
 /// A condition in the documents' words, the field, and the number due for each of the field's values.
 #[derive(Clone)]
@@ -438,6 +438,29 @@ fn unarmed() -> Vec<Condition> {
     ]
 }
 
+/// Either choice is accepted, with a zone and without, armed or not.
+fn choices() -> Vec<Condition> {
+    let chosen = |field: &'static str, change: fn(&mut FuseConfig)| {
+        let set = |c: &mut FuseConfig, choice: AbsentCamera| (c.absent_camera = choice, change(c)).1;
+        at("the configuration has a choice, old or new", field, set, &CHOICES.map(|choice| (choice, 0)))
+    };
+    vec![
+        chosen("absent_camera", |_| ()),
+        chosen("absent_camera, with CONTACT armed", |c| c.armed = CONTACT),
+        chosen("absent_camera, with no zone", |c| c.contact = None),
+        chosen("absent_camera, with no zone and CONTACT armed", |c| (c.contact, c.armed) = (None, CONTACT)),
+    ]
+}
+
+/// The condition of a configuration under the old choice: what is judged does not depend on it.
+fn under_the_old_choice(mut condition: Condition) -> Condition {
+    for case in &mut condition.cases {
+        case.value += ", NoZone";
+        case.cfg.absent_camera = AbsentCamera::NoZone;
+    }
+    condition
+}
+
 fn clear_flag() -> Vec<Condition> {
     let flag = |field: &'static str, due: u8, change: fn(&mut FuseConfig)| {
         let set = |c: &mut FuseConfig, is: bool| (c.calibrated = is, change(c)).1;
@@ -507,6 +530,7 @@ fn together() -> Vec<Condition> {
     .concat()
 }
 
+/// Every condition under the new choice, which a form without a tick has, and under the old one.
 fn table() -> Vec<Condition> {
     let parts = [
         sizes(),
@@ -524,7 +548,9 @@ fn table() -> Vec<Condition> {
         clear_flag(),
         together(),
     ];
-    parts.concat()
+    let new = parts.concat();
+    let old: Vec<Condition> = new.iter().cloned().map(under_the_old_choice).collect();
+    [new, old, choices()].concat()
 }
 
 /// What an entry gives for a configuration.

@@ -1,8 +1,8 @@
 //! Good inputs, and their parts.
 
 use model::{
-    BrakeModel, Calibration, ChunkBuf, ChunkView, ClampMode, ContactLimit, FuseConfig, Scores, Trail, BINS, HELD,
-    MAX_D, MAX_H, NAMED, NFEAT, STALL,
+    AbsentCamera, BrakeModel, Calibration, ChunkBuf, ChunkView, ClampMode, ContactLimit, FuseConfig, Scores, Trail,
+    BINS, HELD, MAX_D, MAX_H, NAMED, NFEAT, STALL,
 };
 
 use crate::{
@@ -225,7 +225,7 @@ fn fill_axes(rng: &mut Rng, field: Field, cfg: &mut FuseConfig, room: f64) {
 }
 
 /// A configuration that is accepted, unless the field's size is too much for a derived number. Of two, one has limits
-/// that the field's numbers seldom exceed.
+/// that the field's numbers seldom exceed. It has the old choice, which is the Rust's.
 pub fn config(rng: &mut Rng, field: Field) -> FuseConfig {
     let room = if rng.one_in(2) { 32.0 } else { 1.0 };
     let dim = rng.within(1, MAX_D);
@@ -247,6 +247,7 @@ pub fn config(rng: &mut Rng, field: Field) -> FuseConfig {
         norm_center: [f64::NAN; 8],
         norm_scale: [-1.0; 8],
         contact: contact(rng, field, aux_count),
+        absent_camera: AbsentCamera::NoZone,
         brake: brake(rng),
         clamp: if rng.one_in(4) { ClampMode::Off } else { ClampMode::Project },
         armed: if rng.one_in(3) { 63 } else { rng.below(128) as u32 },
@@ -263,7 +264,15 @@ pub fn config(rng: &mut Rng, field: Field) -> FuseConfig {
     cfg
 }
 
+/// All parts but the choice for an absent camera: one part more would change the inputs that the kept sample was made of.
 pub fn config_parts(c: &mut FuseConfig) -> Vec<Part<'_>> {
+    let mut parts = config_parts_with_choice(c);
+    parts.pop();
+    parts
+}
+
+/// All parts, the choice last.
+pub fn config_parts_with_choice(c: &mut FuseConfig) -> Vec<Part<'_>> {
     let mut parts = vec![
         Part::Usize(&mut c.dim),
         Part::Usize(&mut c.pos_dim),
@@ -294,6 +303,7 @@ pub fn config_parts(c: &mut FuseConfig) -> Vec<Part<'_>> {
         Part::U32(&mut c.horizon_ticks),
     ];
     parts.extend(calibration_parts(&mut c.cal));
+    parts.push(Part::Absent(&mut c.absent_camera));
     parts
 }
 

@@ -3,8 +3,8 @@
 
 use lictor::{brake, chunk, config, conformal, fmath, tier0, tier1, window};
 use model::{
-    ActionKind, BrakeKind, BrakeOut, Calibration, ChunkBuf, ChunkView, ClampMode, Derived, FuseConfig, Scores,
-    Tier0Out, Tier1Rt, Trail, WallMarks,
+    AbsentCamera, ActionKind, BrakeKind, BrakeOut, Calibration, ChunkBuf, ChunkView, ClampMode, Derived, FuseConfig,
+    Scores, Tier0Out, Tier1Rt, Trail, WallMarks,
 };
 
 use crate::port::{Answer, Port};
@@ -231,6 +231,10 @@ pub fn config(c: &FuseConfig) -> config::Config {
         box_lo: c.box_lo,
         box_hi: c.box_hi,
         contact,
+        absent_camera: match c.absent_camera {
+            AbsentCamera::Slow => config::AbsentCamera::Slow,
+            AbsentCamera::NoZone => config::AbsentCamera::NoZone,
+        },
         brake: brake(&c.brake),
         clamp: match c.clamp {
             ClampMode::Off => config::ClampMode::Off,

@@ -78,7 +78,7 @@ fn say_linked(tasks: &[Task]) {
 /// Each entry taken by the next free thread, and said when it is done.
 fn run_all(tasks: Vec<Task>, budget: &Budget) -> Vec<Report> {
     println!(
-        "{:<21} {:>9} {:>9} {:>9} {:>9} {:>8} {:>6}  refused, by number",
+        "{:<32} {:>9} {:>9} {:>9} {:>9} {:>8} {:>6}  refused, by number",
         "entry", "calls", "accepted", "= Rust", "= port", "skipped", "s"
     );
     let queue = Mutex::new(tasks.iter());
@@ -101,7 +101,7 @@ fn say(r: &Report) {
     let refused: Vec<String> =
         (1..r.refused.len()).filter(|n| r.refused[*n] > 0).map(|n| format!("{n}: {}", r.refused[n])).collect();
     println!(
-        "{:<21} {:>9} {:>9} {:>9} {:>9} {:>8} {:>6.1}  {}",
+        "{:<32} {:>9} {:>9} {:>9} {:>9} {:>8} {:>6.1}  {}",
         r.name,
         r.calls,
         r.accepted,

@@ -1,7 +1,7 @@
 //! The parts of an input: one of them is broken to damage a good input, and they are made simpler one by one when a
 //! failure is shown.
 
-use model::{ActionKind, BrakeKind, ClampMode, ContactLimit};
+use model::{AbsentCamera, ActionKind, BrakeKind, ClampMode, ContactLimit};
 
 use crate::{input::ChunkIn, number::broken, rng::Rng};
 
@@ -21,6 +21,7 @@ pub enum Part<'a> {
     Brake(&'a mut BrakeKind),
     Clamp(&'a mut ClampMode),
     Contact(&'a mut Option<ContactLimit>),
+    Absent(&'a mut AbsentCamera),
     Chunk(&'a mut ChunkIn),
 }
 
@@ -54,6 +55,7 @@ impl Part<'_> {
             Part::Brake(k) => **k = rng.pick(&BRAKES),
             Part::Clamp(m) => **m = rng.pick(&[ClampMode::Off, ClampMode::Project]),
             Part::Contact(z) => damage_contact(rng, z),
+            Part::Absent(choice) => **choice = rng.pick(&CHOICES),
             Part::Chunk(c) => damage_chunk(rng, c),
         }
     }
@@ -74,6 +76,7 @@ impl Part<'_> {
             Part::Brake(k) => once(way, *k, BrakeKind::PdSecondOrder),
             Part::Clamp(m) => once(way, *m, ClampMode::Off),
             Part::Contact(z) => simpler_contact(z, way),
+            Part::Absent(choice) => once(way, *choice, AbsentCamera::Slow),
             Part::Chunk(c) => simpler_chunk(c, way),
         }
     }
@@ -94,6 +97,8 @@ pub const BRAKES: [BrakeKind; 5] = [
     BrakeKind::JerkLimited,
     BrakeKind::ZeroVelocityHold,
 ];
+
+pub const CHOICES: [AbsentCamera; 2] = [AbsentCamera::Slow, AbsentCamera::NoZone];
 
 fn damage_one(rng: &mut Rng, v: &mut [f64]) {
     if !v.is_empty() {

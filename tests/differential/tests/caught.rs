@@ -12,8 +12,8 @@ use model::{
     chunk::action,
     fmath::{self, min},
     refusal::WITHDRAWN,
-    ActionKind, BrakeKind, BrakeOut, Calibration, ChunkView, ClampMode, Derived, FuseConfig, Refusal, Scores, Tier0Out,
-    Tier1Rt, Trail, WallMarks, MAX_D, NAMED, STALL, WORKSPACE,
+    AbsentCamera, ActionKind, BrakeKind, BrakeOut, Calibration, ChunkView, ClampMode, ContactLimit, Derived,
+    FuseConfig, Refusal, Scores, Tier0Out, Tier1Rt, Trail, WallMarks, CONTACT, MAX_D, NAMED, STALL, WORKSPACE,
 };
 
 /// What the run of one entry says with this port.
@@ -307,6 +307,220 @@ fn a_side_of_the_last_row_alone() {
     let last = masked!(|s| s.moved(&s.came[s.came.len() - 1..], shared(s.cfg), fmath::side));
     let text = sides_found(last, "check_chunk at walls", "[0, 0], not [");
     assert!(text.contains("horizon: 2"), "a small input");
+}
+
+/// What a check is told of the world: the configuration, the position and the camera's message.
+struct World {
+    cfg: FuseConfig,
+    pos: Vec<f64>,
+    aux: Vec<f64>,
+}
+
+impl World {
+    fn has(&self, channel: u8) -> bool {
+        self.aux.len() > channel as usize
+    }
+
+    /// The zone where one is configured and not seen.
+    fn unseen(&self) -> Option<ContactLimit> {
+        self.cfg.contact.filter(|z| !self.has(z.a0) || !self.has(z.a1) || self.pos.len() < 2)
+    }
+
+    fn slow(&self) -> bool {
+        self.cfg.absent_camera == AbsentCamera::Slow
+    }
+
+    /// A message that has the channel, with this number where it was missing.
+    fn add(&mut self, channel: u8, x: f64) {
+        if !self.has(channel) {
+            self.aux.resize(channel as usize + 1, 0.0);
+            self.aux[channel as usize] = x;
+        }
+    }
+}
+
+/// The model's checks in another world than the one that they are told of.
+macro_rules! told {
+    ($change:expr) => {{
+        const CHANGE: fn(&mut World) = $change;
+        fn other(cfg: &FuseConfig, pos: &[f64], aux: &[f64]) -> World {
+            let mut world = World { cfg: *cfg, pos: pos.to_vec(), aux: aux.to_vec() };
+            CHANGE(&mut world);
+            world
+        }
+        let check_chunk: CheckChunk = |cfg, pos, aux, ch, out| {
+            let w = other(cfg, pos, aux);
+            model::tier0::check_chunk(&w.cfg, &w.pos, &w.aux, ch, out)
+        };
+        let check_action: CheckAction = |cfg, pos, aux, prev, a, out| {
+            let w = other(cfg, pos, aux);
+            model::tier0::check_action(&w.cfg, &w.pos, &w.aux, prev, a, out)
+        };
+        Port { check_chunk: Some(check_chunk), check_action: Some(check_action), ..Port::default() }
+    }};
+}
+
+/// The texts of both checks' runs with a short camera.
+fn camera_found(port: Port) -> [String; 2] {
+    ["check_chunk with a short camera", "check_action with a short camera"].map(|name| failure(port, name))
+}
+
+#[test]
+fn the_new_choice_switches_the_zone_off() {
+    for text in camera_found(told!(|w| w.cfg.absent_camera = AbsentCamera::NoZone)) {
+        assert!(text.contains("counts [0, 0], not [32, 0]") && text.contains("pos: [0.0], aux: []"), "a small input");
+    }
+}
+
+#[test]
+fn the_old_choice_is_the_default() {
+    let swapped = told!(|w| {
+        w.cfg.absent_camera = if w.slow() { AbsentCamera::NoZone } else { AbsentCamera::Slow };
+    });
+    for text in camera_found(swapped) {
+        assert!(
+            text.contains("counts [0, 0], not [32, 0]") && !text.contains("absent_camera"),
+            "a form without a tick"
+        );
+    }
+}
+
+#[test]
+fn the_new_choice_slows_where_no_zone_is_configured() {
+    let invented = told!(|w| {
+        if w.slow() && w.cfg.contact.is_none() {
+            w.cfg.contact = Some(ContactLimit { radius: 0.0, v_max: 5e-324, a0: 254, a1: 255 });
+            w.cfg.aux_count = 256;
+        }
+    });
+    for text in camera_found(invented) {
+        assert!(text.contains("the port") && !text.contains("contact:") && text.contains("armed:"), "no zone");
+    }
+}
+
+#[test]
+fn the_new_choice_slows_where_contact_is_not_armed() {
+    let armed = told!(|w| {
+        if w.slow() && w.unseen().is_some() {
+            w.cfg.armed |= CONTACT;
+        }
+    });
+    for text in camera_found(armed) {
+        assert!(text.contains("counts [32, 0], not [0, 0]") && !text.contains("armed:"), "nothing is armed");
+    }
+}
+
+#[test]
+fn one_missing_channel_counts_as_present() {
+    // the distance is then that of the other coordinate
+    let one = told!(|w| {
+        if let (Some(z), &[x, y, ..]) = (w.unseen(), &w.pos[..]) {
+            if w.has(z.a0) || w.has(z.a1) {
+                w.add(z.a0, x);
+                w.add(z.a1, y);
+            }
+        }
+    });
+    for text in camera_found(one) {
+        assert!(text.contains("the model accepts") && text.contains("pos: [0.0, 0.0]"), "a position that is there");
+    }
+}
+
+#[test]
+fn a_distance_from_missing_numbers() {
+    let zeros = told!(|w| {
+        if let Some(z) = w.unseen() {
+            w.add(z.a0, 0.0);
+            w.add(z.a1, 0.0);
+            if (w.pos.len(), w.cfg.pos_dim) == (1, 1) {
+                w.pos.push(0.0);
+            }
+        }
+    });
+    for text in camera_found(zeros) {
+        assert!(
+            text.contains("counts [0, 0], not [32, 0]") && text.contains("2.0], aux: []"),
+            "no message, and not at 0"
+        );
+    }
+}
+
+#[test]
+fn a_short_position_by_the_old_rule() {
+    let old = told!(|w| {
+        if w.pos.len() < 2 {
+            w.cfg.absent_camera = AbsentCamera::NoZone;
+        }
+    });
+    for text in camera_found(old) {
+        assert!(text.contains("pos: [0.0],"), "one coordinate");
+    }
+}
+
+#[test]
+fn pos_dim_for_the_lent_length() {
+    let cut = told!(|w| {
+        if w.pos.iter().all(|x| x.is_finite()) {
+            w.pos.truncate(w.cfg.pos_dim);
+        }
+    });
+    for text in camera_found(cut) {
+        assert!(
+            text.contains("pos: [0.0, 0.0]") && !text.contains("pos_dim:"),
+            "two coordinates of an arm that has one"
+        );
+    }
+}
+
+#[test]
+fn a_step_that_is_not_evaluated() {
+    let unevaluated = told!(|w| {
+        if w.unseen().is_some_and(|z| !(z.v_max * w.cfg.dt).is_finite()) {
+            w.cfg.absent_camera = AbsentCamera::NoZone;
+        }
+    });
+    for text in camera_found(unevaluated) {
+        assert!(text.contains("the port accepts; the model says Refusal { number: 13, place: 0 }"));
+    }
+}
+
+/// 13 where the distance is not finite, what is missing counting as 0.
+fn measured(cfg: &FuseConfig, pos: &[f64], aux: &[f64]) -> Result<(), Refusal> {
+    let at = |v: &[f64], i: usize| v.get(i).copied().unwrap_or(0.0);
+    let Some(z) = cfg.contact.filter(|_| cfg.armed & CONTACT != 0) else { return Ok(()) };
+    let centre = [at(aux, z.a0 as usize), at(aux, z.a1 as usize)];
+    fmath::dist(&[at(pos, 0), at(pos, 1)], &centre, 2).map(|_| ())
+}
+
+#[test]
+fn a_distance_that_is_evaluated_and_dropped() {
+    let check_chunk: CheckChunk = |cfg, pos, aux, ch, out| {
+        model::tier0::check_chunk(cfg, pos, aux, ch, &mut out.to_vec())?;
+        measured(cfg, pos, aux)?;
+        model::tier0::check_chunk(cfg, pos, aux, ch, out)
+    };
+    let check_action: CheckAction = |cfg, pos, aux, prev, a, out| {
+        model::tier0::check_action(cfg, pos, aux, prev, a, &mut out.to_vec())?;
+        measured(cfg, pos, aux)?;
+        model::tier0::check_action(cfg, pos, aux, prev, a, out)
+    };
+    for text in
+        camera_found(Port { check_chunk: Some(check_chunk), check_action: Some(check_action), ..Port::default() })
+    {
+        assert!(text.contains("the port says Refusal { number: 13, place: 0 }; the model accepts"));
+    }
+}
+
+#[test]
+fn a_message_that_is_not_judged() {
+    let unjudged = told!(|w| {
+        if w.cfg.contact.is_some_and(|z| !w.has(z.a0.max(z.a1))) {
+            w.aux.iter_mut().filter(|x| !x.is_finite()).for_each(|x| *x = 0.0);
+        }
+    });
+    for text in camera_found(unjudged) {
+        assert!(text.contains("the port accepts; the model says Refusal { number: 12, place: 0 }"));
+    }
 }
 
 /// A brake and a hold with other masks, made of the configuration, the position and the right ones.

@@ -15,9 +15,10 @@ fn refused_at<T>(number: u8, place: usize) -> Result<T, Refusal> {
     Err(Refusal { number, place })
 }
 
-/// One axis or more in a box of -1..1.
+/// One axis or more in a box of -1..1, under the old choice, which is the Rust's.
 fn boxed(dim: usize) -> FuseConfig {
-    FuseConfig { dim, pos_dim: dim, box_lo: [-1.0; 8], box_hi: [1.0; 8], ..FuseConfig::PLAIN }
+    let (box_lo, box_hi, absent_camera) = ([-1.0; 8], [1.0; 8], AbsentCamera::NoZone);
+    FuseConfig { dim, pos_dim: dim, box_lo, box_hi, absent_camera, ..FuseConfig::PLAIN }
 }
 
 fn rows(dim: usize, data: &[f64]) -> ChunkView<'_> {
@@ -305,6 +306,56 @@ fn no_side_of_a_wall() {
     assert_eq!(brake::brake_action(&cfg, &[2.0], &[], &mut out), Ok(WallMarks { low_dims: 0, high_dims: 1 }));
     assert_eq!((rust, out), ([1.0], [1.0]));
     assert_eq!((oracle::rust::fmath::clamp(2.0, 0.0, 1.0), fmath::clamp_side(2.0, 0.0, 1.0)), (1.0, (1.0, 1)));
+}
+
+/// CONTACT alone armed, and a zone in which a step of 1 is allowed.
+fn zoned(pos_dim: usize) -> FuseConfig {
+    let contact = Some(ContactLimit { radius: 1.0, v_max: 1.0, a0: 0, a1: 1 });
+    FuseConfig { pos_dim, armed: CONTACT, contact, aux_count: 2, clamp: ClampMode::Project, ..boxed(2) }
+}
+
+/// What the model and the linked port answer to a chunk, which is one.
+fn checked_by_both(cfg: &FuseConfig, pos: &[f64], aux: &[f64], ch: ChunkView<'_>) -> Result<(u32, f64), Refusal> {
+    let [model, port] =
+        [tier0::check_chunk, differential::linked::port().check_chunk.expect("an entry")].map(|check| {
+            let mut out = [0.0; 2];
+            check(cfg, pos, aux, ch, &mut out).map(|r| (r.trips, out[0]))
+        });
+    assert_eq!(model, port);
+    port
+}
+
+/// A step of 2 from the origin: trips and the row that goes out, of the Rust, and of the port under the old and the new choice.
+fn stepped(pos_dim: usize, pos: &[f64], aux: &[f64]) -> [Result<(u32, f64), Refusal>; 3] {
+    let (old, ch, mut out) = (zoned(pos_dim), rows(2, &[2.0, 0.0]), [0.0; 2]);
+    let new = FuseConfig { absent_camera: AbsentCamera::Slow, ..old };
+    let rust = oracle::check_chunk(&old, pos, aux, ch, &mut out).trips;
+    [Ok((rust, out[0])), checked_by_both(&old, pos, aux, ch), checked_by_both(&new, pos, aux, ch)]
+}
+
+/// The Rust and the old choice have no zone where the camera does not show it or the position has one coordinate; the new one is inside it.
+/// Where the zone is seen, and where there is none, the three are one.
+#[test]
+fn a_zone_that_the_camera_does_not_show() {
+    let (slowed, passed) = (Ok((CONTACT, 2.0 * ((1.0 - 1.0 / 68719476736.0) / 2.0))), Ok((0, 2.0)));
+    for aux in [&[][..], &[9.0]] {
+        assert_eq!(stepped(2, &[0.0; 2], aux), [passed, passed, slowed]);
+    }
+    assert_eq!(stepped(1, &[0.0], &[9.0; 2]), [passed, passed, slowed]);
+    assert_eq!(stepped(2, &[0.0; 2], &[9.0; 2]), [passed; 3]);
+    assert_eq!(stepped(2, &[0.0; 2], &[0.0; 2]), [slowed; 3]);
+}
+
+/// The step of such a zone is evaluated under the new choice alone: 13 where it is not finite.
+#[test]
+fn a_step_of_a_zone_that_the_camera_does_not_show() {
+    let contact = zoned(2).contact.map(|zone| ContactLimit { v_max: MAX, ..zone });
+    let old = FuseConfig { contact, dt: 2.0, ..zoned(2) };
+    let ch = rows(2, &[2.0, 0.0]);
+    assert_eq!(checked(&old, &[0.0; 2], &[], ch), (0, Ok(0)));
+    assert_eq!(checked_by_both(&old, &[0.0; 2], &[], ch), Ok((0, 2.0)));
+    let new = FuseConfig { absent_camera: AbsentCamera::Slow, ..old };
+    assert_eq!(checked_by_both(&new, &[0.0; 2], &[], ch), refused(13));
 }
 
 /// A box move that a short leash takes back: nothing of it is left in the Rust's answer.

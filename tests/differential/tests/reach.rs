@@ -1,5 +1,5 @@
-//! The generators reach what matters: every trip on its limit and off it, every side of a wall and of clamp, every kind, every place of
-//! 13, and 17 at every entry.
+//! The generators reach what matters: every trip on its limit and off it, every side of a wall and of clamp, every way in which a zone is not
+//! seen, every kind, every place of 13, and 17 at every entry.
 
 use std::collections::BTreeMap;
 
@@ -9,7 +9,7 @@ use differential::{
     run::Entry,
 };
 use model::{brake::count_of, refusal::WITHDRAWN, tier0 as rule};
-use model::{ActionKind, Calibration, FuseConfig, Refusal, Tier0Out};
+use model::{AbsentCamera, ActionKind, Calibration, ContactLimit, FuseConfig, Refusal, Tier0Out};
 use model::{ACCEL, CONTACT, JERK, NFEAT, REACH, SPEED, SPEED_PEAK, STALL, WORKSPACE};
 
 const CALLS: u64 = 60_000;
@@ -139,6 +139,113 @@ fn the_walls_of_the_checks() {
         met.all(touched(name));
     }
     met.all(["chunk low 1 high 1 moved 1".to_string()]);
+}
+
+/// What the camera and the position lack of a zone.
+fn lacking(zone: &ContactLimit, pos: &[f64], aux: &[f64]) -> &'static str {
+    let has = |a: u8| aux.len() > a as usize;
+    match (has(zone.a0), has(zone.a1), aux.is_empty(), pos.len() < 2) {
+        (true, true, _, false) => "nothing",
+        (true, true, _, true) => "a coordinate",
+        (false, true, _, _) => "a0",
+        (true, false, _, _) => "a1",
+        (false, false, false, _) => "a0 and a1",
+        (false, false, true, _) => "a message",
+    }
+}
+
+/// Whether the distance is not finite where what is missing counts as 0.
+fn too_far(zone: &ContactLimit, pos: &[f64], aux: &[f64]) -> bool {
+    let [a0, a1] = [zone.a0, zone.a1].map(|a| aux.get(a as usize).copied().unwrap_or(0.0));
+    let at = |c: usize| pos.get(c).copied().unwrap_or(0.0);
+    model::fmath::dist(&[at(0), at(1)], &[a0, a1], 2).is_err()
+}
+
+/// What a check answers under the configuration's choice and under the old one, where it lies between refusals of its arguments.
+fn note_camera(
+    met: &mut Met,
+    name: &str,
+    (cfg, pos, aux): (&FuseConfig, &[f64], &[f64]),
+    check: impl Fn(&FuseConfig) -> Result<Tier0Out, Refusal>,
+) {
+    let (choice, armed) = (cfg.absent_camera, cfg.armed & CONTACT != 0);
+    let answer = check(cfg);
+    let trip = answer.map(|r| r.trips & CONTACT != 0);
+    let Some(zone) = &cfg.contact else {
+        if let Ok(trip) = trip {
+            met.note(format!("{name} {choice:?} no zone, message {}, armed {armed}, trip {trip}", !aux.is_empty()));
+        }
+        return;
+    };
+    let lacks = lacking(zone, pos, aux);
+    match trip {
+        Ok(trip) => met.note(format!("{name} {choice:?} lacks {lacks}, armed {armed}, trip {trip}")),
+        Err(Refusal { number: 12, .. }) => met.note(format!("{name} {choice:?} lacks {lacks}, 12")),
+        Err(Refusal { number: 13, .. }) if lacks != "nothing" => {
+            let old = check(&FuseConfig { absent_camera: AbsentCamera::NoZone, ..*cfg });
+            met.note(format!("{name} {choice:?} lacks {lacks}, 13 by its step {}", old.is_ok()));
+        }
+        Err(_) => (),
+    }
+    if armed && answer.is_ok() && too_far(zone, pos, aux) {
+        met.note(format!("{name} {choice:?} lacks {lacks}, too far to measure"));
+    }
+    if zone.a0.max(zone.a1) == 5 {
+        met.note(format!("{name} {choice:?} {} numbers for channel 5", aux.len()));
+    }
+}
+
+/// Whether the Rust is asked, of the calls that are accepted or 13.
+fn note_rust<I: Clone + std::fmt::Debug + 'static>(met: &mut Met, entry: &Entry<I>, i: &I, choice: AbsentCamera) {
+    let number = (entry.model)(i).answer.map_or_else(|r| r.number, |_| 0);
+    if [0, 13].contains(&number) {
+        met.note(format!("{} {choice:?} {number}, Rust asked {}", entry.name, (entry.rust)(i).is_some()));
+    }
+}
+
+#[test]
+fn the_camera_of_the_checks() {
+    let port = Port::default();
+    let (chunks, actions) =
+        (tier0::check_chunk_with_a_short_camera(&port), tier0::check_action_with_a_short_camera(&port));
+    let mut met = Met::new();
+    for call in 0..CALLS * 2 {
+        let i = chunks.input(1, call);
+        note_camera(&mut met, "chunk", (&i.cfg, &i.pos, &i.aux), |cfg| {
+            rule::check_chunk(cfg, &i.pos, &i.aux, i.ch.view(), &mut i.out.clone())
+        });
+        note_rust(&mut met, &chunks, &i, i.cfg.absent_camera);
+        let i = actions.input(1, call);
+        note_camera(&mut met, "action", (&i.cfg, &i.pos, &i.aux), |cfg| {
+            rule::check_action(cfg, &i.pos, &i.aux, &i.prev, &i.a, &mut i.out.clone())
+        });
+        note_rust(&mut met, &actions, &i, i.cfg.absent_camera);
+    }
+    let names = [chunks.name, actions.name];
+    met.all(names.iter().flat_map(|name| [0, 13].map(|number| format!("{name} NoZone {number}, Rust asked true"))));
+    met.all(names.iter().flat_map(|name| [0, 13].map(|number| format!("{name} Slow {number}, Rust asked false"))));
+    assert!(!met.0.keys().any(|case| case.contains("Slow") && case.contains("Rust asked true")));
+    let lacks = ["a0", "a1", "a0 and a1", "a message", "a coordinate"];
+    for name in ["chunk", "action"] {
+        let new = lacks.iter().flat_map(|l| {
+            let trips = [true, false].map(|trip| format!("{name} Slow lacks {l}, armed true, trip {trip}"));
+            trips.into_iter().chain([format!("{name} Slow lacks {l}, 13 by its step true")])
+        });
+        met.all(new);
+        met.all(lacks.map(|l| format!("{name} NoZone lacks {l}, armed true, trip false")));
+        for choice in ["Slow", "NoZone"] {
+            let of = |case: &str| format!("{name} {choice} {case}");
+            met.all(lacks.map(|l| of(&format!("lacks {l}, armed false, trip false"))));
+            met.all([true, false].map(|trip| of(&format!("lacks nothing, armed true, trip {trip}"))));
+            met.all([true, false].map(|seen| of(&format!("no zone, message {seen}, armed true, trip false"))));
+            met.all(["a0", "a1", "a0 and a1", "a coordinate", "nothing"].map(|l| of(&format!("lacks {l}, 12"))));
+            met.all(["a0", "a1", "a coordinate"].map(|l| of(&format!("lacks {l}, too far to measure"))));
+            met.all((0..=9).map(|n| of(&format!("{n} numbers for channel 5"))));
+        }
+        let none = |case: &str| assert!(!met.0.contains_key(&format!("{name} {case}")), "{name} {case}");
+        lacks.iter().for_each(|l| none(&format!("NoZone lacks {l}, armed true, trip true")));
+        ["Slow", "NoZone"].iter().for_each(|choice| none(&format!("{choice} lacks nothing, too far to measure")));
+    }
 }
 
 #[test]

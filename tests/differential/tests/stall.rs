@@ -35,7 +35,7 @@ fn moved(net: f64) -> [f64; 20] {
 }
 
 fn config(dt: f64, scale: f64) -> FuseConfig {
-    FuseConfig { dt, norm_scale: [scale; MAX_D], ..FuseConfig::PLAIN }
+    FuseConfig { dt, norm_scale: [scale; MAX_D], absent_camera: AbsentCamera::NoZone, ..FuseConfig::PLAIN }
 }
 
 /// The features of a tick without a chunk, of scores that have every bit.

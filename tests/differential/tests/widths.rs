@@ -7,7 +7,7 @@ use model::boundary;
 extern "C" {
     fn lictor_derive(
         numbers: &[f64; 44],
-        counts: &[u64; 26],
+        counts: &[u64; 27],
         center: &[f64; 192],
         scale: &[f64; 192],
         derived: &mut [f64; 29],
@@ -49,12 +49,12 @@ fn counts_of_any_width_are_refused_as_the_table_has_them() {
     let mut numbers = [1.0; 44];
     numbers[27..35].fill(-9.0); // box_lo
     numbers[35..43].fill(9.0); // box_hi
-    let good = [1, 1, 0, 1, 0, 1, 0, 1, 1, 1, 1, 1, 1, 1, 1, 1, 1, 1, 1, 1, 63, 2, 1, 3967, 8, 200];
+    let good = [1, 1, 0, 1, 0, 1, 0, 1, 1, 1, 1, 1, 1, 1, 1, 1, 1, 1, 1, 1, 63, 2, 1, 3967, 8, 200, 1];
     let mut rng = Rng::new(15);
     let mut given = Vec::new();
     for _ in 0..200_000 {
         let kept = rng.below(3);
-        let c: [u64; 26] =
+        let c: [u64; 27] =
             std::array::from_fn(|i| if rng.one_in(1 + 4 * kept) { count(&mut rng, good[i]) } else { good[i] });
         let mut derived = [7.0; 29];
         // SAFETY: the arrays are as long as include/lictor.h says, and each stands by itself.

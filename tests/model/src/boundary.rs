@@ -22,14 +22,14 @@ fn withdrawn(bits: u64) -> bool {
     bits >> STALL & 1 == 1
 }
 
-/// The configuration's 26 counts, by their names in include/lictor.h, all of its numbers being accepted.
-pub fn counts(c: &[u64; 26]) -> u8 {
+/// The configuration's 27 counts, by their names in include/lictor.h, all of its numbers being accepted.
+pub fn counts(c: &[u64; 27]) -> u8 {
     let &[dim, pos_dim, kind, clamp, brake, contact, contact_a0, contact_a1, ref rest @ ..] = c;
     let &[substeps, commit, brake_steps, react_ticks, ref rest @ ..] = rest;
-    let &[ref terms @ .., armed, aux_count, calibrated, mask, n_terms, horizon_ticks] = rest;
+    let &[ref terms @ .., armed, aux_count, calibrated, mask, n_terms, horizon_ticks, absent_camera] = rest;
     let (zone, gate) = (contact == 1, calibrated == 1);
     let channels = zone && (contact_a0 == contact_a1 || contact_a0 >= aux_count || contact_a1 >= aux_count);
-    let code = kind > 4 || clamp > 1 || brake > 4 || contact > 1 || calibrated > 1;
+    let code = kind > 4 || clamp > 1 || brake > 4 || contact > 1 || calibrated > 1 || absent_camera > 1;
     let field = react_ticks > SHORT
         || armed > WORD
         || gate && horizon_ticks > WORD

@@ -6,8 +6,8 @@ use crate::{
     envelope::{self, derive},
     fmath::{clamp, max, min},
     refusal::{judged, not_finite, shorter, when, WIDTH},
-    ChunkView, ClampMode, Derived, FuseConfig, Refusal, Tier0Out, WallMarks, ACCEL, CONTACT, JERK, MAX_D, REACH, SPEED,
-    WORKSPACE,
+    AbsentCamera, ChunkView, ClampMode, ContactLimit, Derived, FuseConfig, Refusal, Tier0Out, WallMarks, ACCEL,
+    CONTACT, JERK, MAX_D, REACH, SPEED, WORKSPACE,
 };
 
 /// 1 - 2^-36.
@@ -108,19 +108,27 @@ fn pull(a: &mut Row, q: &[f64], n: usize, limit: f64) -> Result<(), NotFinite> {
     Ok(())
 }
 
-/// The zone's speed times dt when CONTACT is armed and configured, the position has two coordinates, aux has both
-/// channels and the distance to the centre is at most the radius.
+/// The zone's centre as the camera gives it, where aux has both channels and the position two coordinates to measure from.
+fn seen(zone: &ContactLimit, pos: &[f64], aux: &[f64]) -> Option<[f64; 2]> {
+    let channel = |a: u8| aux.get(a as usize).copied();
+    let centre = [channel(zone.a0)?, channel(zone.a1)?];
+    (pos.len() >= 2).then_some(centre)
+}
+
+/// The zone's speed times dt when CONTACT is armed and configured and the arm is inside: at most the radius away from a centre that is
+/// seen, and by the choice where none is.
 fn contact_step(cfg: &FuseConfig, pos: &[f64], aux: &[f64]) -> Result<Option<f64>, NotFinite> {
     let Some(zone) = cfg.contact.filter(|_| cfg.armed & CONTACT != 0) else {
         return Ok(None);
     };
-    let (Some(x), Some(y)) = (aux.get(zone.a0 as usize), aux.get(zone.a1 as usize)) else {
-        return Ok(None);
+    let inside = match seen(&zone, pos, aux) {
+        Some(centre) => dist(pos, &centre, 2)? <= zone.radius,
+        None => cfg.absent_camera == AbsentCamera::Slow,
     };
-    if pos.len() < 2 || dist(pos, &[*x, *y], 2)? > zone.radius {
-        return Ok(None);
+    match inside {
+        true => Ok(Some(mul(zone.v_max, cfg.dt)?)),
+        false => Ok(None),
     }
-    Ok(Some(mul(zone.v_max, cfg.dt)?))
 }
 
 /// A bit for each coordinate that differs as a number.

@@ -78,6 +78,17 @@ pub struct ContactLimit {
     pub a1: u8,
 }
 
+/// What holds where a zone is configured and CONTACT armed, and the camera does not show the zone or the position has fewer than two
+/// coordinates.
+#[derive(Clone, Copy, Debug, Default, PartialEq, Eq)]
+pub enum AbsentCamera {
+    /// The arm counts as inside the zone.
+    #[default]
+    Slow,
+    /// There is no zone then, as in the Rust.
+    NoZone,
+}
+
 /// Entry `bin x 12 + feature` of each table.
 #[derive(Clone, Copy, PartialEq)]
 pub struct Calibration {
@@ -128,6 +139,7 @@ pub struct FuseConfig {
     pub norm_center: [f64; MAX_D],
     pub norm_scale: [f64; MAX_D],
     pub contact: Option<ContactLimit>,
+    pub absent_camera: AbsentCamera,
     pub brake: BrakeModel,
     pub clamp: ClampMode,
     pub armed: u32,
@@ -154,6 +166,7 @@ impl FuseConfig {
         norm_center: [0.0; MAX_D],
         norm_scale: [1.0; MAX_D],
         contact: None,
+        absent_camera: AbsentCamera::Slow,
         brake: BrakeModel {
             kind: BrakeKind::PdSecondOrder,
             k_p: 1.0,
@@ -199,7 +212,8 @@ impl core::fmt::Debug for FuseConfig {
             };
         }
         differing!(dim, pos_dim, kind, dt, v_max, a_max, j_max, reach_max, margin, box_lo, box_hi);
-        differing!(norm_center, norm_scale, contact, brake, clamp, armed, aux_count, calibrated, cal, horizon_ticks);
+        differing!(norm_center, norm_scale, contact, absent_camera, brake, clamp, armed, aux_count, calibrated, cal);
+        differing!(horizon_ticks);
         shown.finish_non_exhaustive()
     }
 }

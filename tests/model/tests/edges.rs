@@ -2,12 +2,13 @@
 
 use model::*;
 
-/// What the configuration is answered after one change.
+/// What the configuration is answered after one change, the same under either choice.
 fn judged(change: impl Fn(&mut FuseConfig)) -> Option<u8> {
     let mut c = FuseConfig::WHOLE;
     change(&mut c);
     let number = envelope::judge(&c);
     assert_eq!(envelope::derive(&c).err().map(|r| r.number), number);
+    assert_eq!(envelope::judge(&FuseConfig { absent_camera: AbsentCamera::NoZone, ..c }), number);
     number
 }
 
@@ -361,4 +362,140 @@ fn scores_and_trails() {
     let mut t = Trail::NEW;
     t.buf[255] = f64::NAN;
     assert_eq!(window::path(&t, 1, 2).err().map(|r| r.number), Some(12), "all 256 numbers");
+}
+
+/// Two axes, CONTACT alone armed, and a zone of radius 1 in which a step of 2 is allowed, on two of three channels.
+fn zoned(absent_camera: AbsentCamera, (a0, a1): (u8, u8)) -> FuseConfig {
+    let contact = Some(ContactLimit { radius: 1.0, v_max: 2.0, a0, a1 });
+    let clamp = ClampMode::Project;
+    FuseConfig { armed: CONTACT, contact, aux_count: 3, calibrated: false, clamp, absent_camera, ..FuseConfig::WHOLE }
+}
+
+/// Trips of a step to (x, 0), by a chunk and by an action, from positions that are lent whole or in part.
+fn stepped(c: &FuseConfig, pos: &[f64], aux: &[f64], x: f64) -> Result<u32, Refusal> {
+    let (mut rows, mut out) = ([7.0; 2], [7.0; 2]);
+    let chunk = tier0::check_chunk(c, pos, aux, view(1, 2, 0, &[x, 0.0]), &mut rows);
+    let action = tier0::check_action(c, pos, aux, &[0.0; 2], &[x, 0.0], &mut out);
+    assert_eq!((chunk, rows), (action, out), "from 0 the two are one");
+    assert_eq!(out == [7.0; 2], action.is_err());
+    assert!(action.is_err() || (out[0] != x) == action.is_ok_and(|r| r.trips == CONTACT), "moved where it trips");
+    action.map(|r| r.trips)
+}
+
+const OVER: f64 = 2.0000000000000004;
+
+/// Either side of the lengths at which each channel, and both, are there.
+#[test]
+fn a_message_of_every_length() {
+    for channels in [(0, 2), (2, 0), (1, 2), (2, 1), (0, 1), (1, 0)] {
+        let enough = channels.0.max(channels.1) as usize + 1;
+        for length in 0..=enough + 2 {
+            // the centre is far away where it is seen
+            let aux = vec![9.0; length];
+            let at = |choice, x| stepped(&zoned(choice, channels), &[0.0; 2], &aux, x);
+            let slow = if length < enough { CONTACT } else { 0 };
+            assert_eq!(at(AbsentCamera::Slow, OVER), Ok(slow), "{channels:?} of {length}");
+            assert_eq!(at(AbsentCamera::Slow, 2.0), Ok(0), "a step that is touched");
+            assert_eq!(at(AbsentCamera::NoZone, OVER), Ok(0), "{channels:?} of {length}");
+            // and at the arm
+            let near = |choice| stepped(&zoned(choice, channels), &[0.0; 2], &vec![0.0; length], OVER);
+            assert_eq!(near(AbsentCamera::Slow), Ok(CONTACT));
+            assert_eq!(near(AbsentCamera::NoZone), Ok(if length < enough { 0 } else { CONTACT }));
+        }
+    }
+}
+
+/// The lent length counts, and not pos_dim.
+#[test]
+fn a_position_of_every_length() {
+    for (choice, unseen) in [(AbsentCamera::Slow, CONTACT), (AbsentCamera::NoZone, 0)] {
+        let one = FuseConfig { pos_dim: 1, ..zoned(choice, (0, 1)) };
+        let from = |c: &FuseConfig, n: usize, aux: &[f64]| stepped(c, &[0.0; 3][..n], aux, OVER);
+        for (aux, seen) in [(&[9.0; 2], 0), (&[0.0; 2], CONTACT)] {
+            assert_eq!(from(&one, 0, aux), Err(Refusal { number: 11, place: 0 }));
+            assert_eq!(from(&one, 1, aux), Ok(unseen), "whatever the camera says");
+            assert_eq!([from(&one, 2, aux), from(&one, 3, aux)], [Ok(seen); 2]);
+            let two = zoned(choice, (0, 1));
+            assert_eq!(from(&two, 1, aux), Err(Refusal { number: 11, place: 0 }));
+            assert_eq!([from(&two, 2, aux), from(&two, 3, aux)], [Ok(seen); 2]);
+        }
+        assert_eq!([from(&one, 1, &[]), from(&one, 2, &[])], [Ok(unseen); 2]);
+    }
+}
+
+#[test]
+fn no_zone_and_no_arming_are_slow_nowhere() {
+    for choice in [AbsentCamera::Slow, AbsentCamera::NoZone] {
+        let zoned = zoned(choice, (0, 1));
+        for aux in [&[][..], &[0.0], &[0.0; 2]] {
+            let none = FuseConfig { contact: None, ..zoned };
+            assert_eq!(stepped(&none, &[0.0; 2], aux, 9.0), Ok(0), "{choice:?}");
+            let unarmed = FuseConfig { armed: 0, ..zoned };
+            assert_eq!(stepped(&unarmed, &[0.0; 2], aux, 9.0), Ok(0), "{choice:?}");
+        }
+    }
+    let plain = FuseConfig::PLAIN;
+    assert_eq!((AbsentCamera::default(), plain.absent_camera), (AbsentCamera::Slow, AbsentCamera::Slow));
+}
+
+/// The step of a zone that is not seen is evaluated under the new choice alone, and its distance under neither.
+#[test]
+fn what_is_computed_of_a_zone_that_is_not_seen() {
+    let computed = Err(Refusal { number: 13, place: 0 });
+    let over_1 = 1f64.next_up();
+    let with = |choice, dt, armed| {
+        let mut c = FuseConfig { dt, armed, ..zoned(choice, (0, 1)) };
+        zone(&mut c).v_max = f64::MAX;
+        move |aux: &[f64]| stepped(&c, &[0.0; 2], aux, 1.0)
+    };
+    for aux in [&[][..], &[0.0]] {
+        assert_eq!(with(AbsentCamera::Slow, 1.0, CONTACT)(aux), Ok(0), "the largest step");
+        assert_eq!(with(AbsentCamera::Slow, over_1, CONTACT)(aux), computed, "one that is infinite");
+        assert_eq!(with(AbsentCamera::NoZone, over_1, CONTACT)(aux), Ok(0));
+        assert_eq!(with(AbsentCamera::Slow, over_1, 0)(aux), Ok(0));
+    }
+    for choice in [AbsentCamera::Slow, AbsentCamera::NoZone] {
+        assert_eq!(with(choice, over_1, CONTACT)(&[0.0; 2]), computed, "inside");
+        assert_eq!(with(choice, over_1, CONTACT)(&[9.0; 2]), Ok(0), "outside");
+        let far =
+            |pos: &[f64], aux: &[f64]| stepped(&FuseConfig { pos_dim: 1, ..zoned(choice, (0, 1)) }, pos, aux, 1.0);
+        assert_eq!(far(&[0.0, 0.0], &[1e200, 0.0]), computed);
+        assert_eq!(far(&[0.0, 0.0], &[1e200]), Ok(0));
+        assert_eq!(far(&[0.0], &[1e200, 0.0]), Ok(0));
+        assert_eq!(far(&[0.0, 1e200], &[0.0, 0.0]), computed);
+        assert_eq!(far(&[0.0, 1e200], &[0.0]), Ok(0));
+    }
+}
+
+/// aux is judged whether or not the zone is seen.
+#[test]
+fn a_number_of_a_short_message_that_is_not_finite() {
+    for choice in [AbsentCamera::Slow, AbsentCamera::NoZone] {
+        for (channels, aux) in
+            [((0, 1), &[f64::NAN][..]), ((1, 2), &[f64::NAN, 0.0]), ((0, 1), &[0.0, 0.0, f64::INFINITY])]
+        {
+            let refused = stepped(&zoned(choice, channels), &[0.0; 2], aux, 1.0);
+            assert_eq!(refused, Err(Refusal { number: 12, place: 0 }), "{choice:?}");
+        }
+        let one = FuseConfig { pos_dim: 1, ..zoned(choice, (0, 1)) };
+        assert_eq!(stepped(&one, &[0.0], &[0.0, f64::NAN], 1.0), Err(Refusal { number: 12, place: 0 }), "{choice:?}");
+    }
+}
+
+/// The code as C passes it: judged with a zone or without, armed or not, before every other number.
+#[test]
+fn the_choice_as_a_code() {
+    let good = |contact: u64, armed: u64, code: u64| {
+        let mut c = [0; 27];
+        (c[0], c[1], c[5], c[7], c[8], c[20], c[21], c[26]) = (1, 1, contact, 1, 1, armed, 2, code);
+        c
+    };
+    for (code, want) in [(0, 0), (1, 0), (2, 255), (1 << 32, 255), (u64::MAX, 255)] {
+        for (contact, armed) in [(0, 0), (0, 32), (1, 0), (1, 32)] {
+            let mut c = good(contact, armed, code);
+            assert_eq!(boundary::counts(&c), want, "{code} with {contact} and {armed}");
+            c[0] = 9;
+            assert_eq!(boundary::counts(&c), want.max(1));
+        }
+    }
 }

@@ -1,11 +1,14 @@
 //! Module 5.
 
-use model::{tier0 as rule, ClampMode, FuseConfig, Refusal, Tier0Out, CONTACT, MAX_D, REACH, SPEED, WORKSPACE};
+use model::{
+    tier0 as rule, AbsentCamera, ClampMode, ContactLimit, FuseConfig, Refusal, Tier0Out, CONTACT, MAX_D, REACH, SPEED,
+    WORKSPACE,
+};
 
 use crate::{
-    input::{at_least, chunk, config, config_parts, lay_walls, narrower_config, ChunkIn},
+    input::{at_least, chunk, config, config_parts_with_choice, lay_walls, narrower_config, ChunkIn},
     number::{at_limit, filler, Field},
-    part::Part,
+    part::{Part, CHOICES},
     port::{CheckAction, CheckChunk, Port},
     rng::Rng,
     run::{Entry, Outcome, Shown},
@@ -138,10 +141,73 @@ fn generate_at_walls(rng: &mut Rng) -> CheckChunkIn {
     i
 }
 
+/// A zone on two channels, seldom none, under either choice, mostly armed; a message of any length from none to more than long enough; of
+/// three positions one of an arm with one coordinate, lent alone or with more behind it. Of six inputs one has a centre or a position
+/// whose distance is not finite, one a zone whose step is not, and of twelve one a NaN in the message, read or not.
+fn lay_camera(rng: &mut Rng, cfg: &mut FuseConfig, pos: &mut Vec<f64>, aux: &mut Vec<f64>) {
+    let field = Field(1.0);
+    cfg.absent_camera = rng.pick(&CHOICES);
+    let channels = rng.pick(&[(0, 1), (1, 0), (0, 2), (2, 0), (1, 3), (3, 1), (2, 3), (0, 5), (4, 0), (254, 255)]);
+    let (a0, a1): (u8, u8) = channels;
+    let enough = a0.max(a1) as usize + 1;
+    let (radius, v_max) = (2.0 * field.above(rng), field.above(rng));
+    cfg.aux_count = enough + rng.below(3);
+    cfg.contact = (!rng.one_in(8)).then_some(ContactLimit { radius, v_max, a0, a1 });
+    cfg.armed = if rng.one_in(6) { cfg.armed & !CONTACT } else { cfg.armed | CONTACT };
+    let length = if rng.one_in(8) { enough + rng.below(9) } else { rng.within(0, enough) };
+    *aux = field.numbers(rng, length);
+    if rng.one_in(3) {
+        cfg.pos_dim = 1;
+        let lent = rng.pick(&[1, 1, 2, 3]);
+        pos.resize_with(lent, || field.number(rng));
+    }
+    match rng.below(12) {
+        0 => [a0, a1].iter().for_each(|a| aux.iter_mut().skip(*a as usize).take(1).for_each(|x| *x = 1e200)),
+        1 => pos.iter_mut().skip(cfg.pos_dim).for_each(|x| *x = 1e200),
+        2 | 3 => (cfg.contact, cfg.dt) = (cfg.contact.map(|z| ContactLimit { v_max: f64::MAX, ..z }), 2.0),
+        4 if !aux.is_empty() => {
+            let at = rng.below(aux.len());
+            aux[at] = f64::NAN;
+        }
+        _ => (),
+    }
+}
+
+/// The zone's speed laid on a step, and its radius on the distance where there is one.
+fn lay_slow_step(rng: &mut Rng, cfg: &mut FuseConfig, pos: &[f64], aux: &[f64], step: f64) {
+    if rng.one_in(2) {
+        lay_zone(rng, cfg, pos, aux, step);
+    }
+    let speed = at_limit(rng, step / cfg.dt);
+    if let Some(zone) = cfg.contact.as_mut().filter(|z| z.v_max < f64::MAX && 0.0 < speed && speed < f64::MAX) {
+        if !rng.one_in(3) {
+            zone.v_max = speed;
+        }
+    }
+}
+
+/// A chunk with a camera that may not show the zone.
+fn generate_short_camera(rng: &mut Rng) -> CheckChunkIn {
+    let mut i = generate(rng);
+    lay_camera(rng, &mut i.cfg, &mut i.pos, &mut i.aux);
+    let (d, nb) = (i.cfg.dim, i.cfg.dim.min(i.cfg.pos_dim));
+    if i.ch.dim as usize == d && !i.ch.data.is_empty() {
+        let step = oracle::rust::fmath::dist(&i.ch.data, &i.pos, nb);
+        lay_slow_step(rng, &mut i.cfg, &i.pos, &i.aux, step);
+    }
+    i
+}
+
 fn parts(i: &mut CheckChunkIn) -> Vec<Part<'_>> {
+    let mut parts = parts_with_choice(i);
+    parts.pop();
+    parts
+}
+
+fn parts_with_choice(i: &mut CheckChunkIn) -> Vec<Part<'_>> {
     let mut parts =
         vec![Part::Slice(&mut i.pos), Part::Slice(&mut i.aux), Part::Chunk(&mut i.ch), Part::Slice(&mut i.out)];
-    parts.extend(config_parts(&mut i.cfg));
+    parts.extend(config_parts_with_choice(&mut i.cfg));
     parts
 }
 
@@ -177,6 +243,24 @@ pub fn check_chunk_at_walls(port: &Port) -> Entry<CheckChunkIn> {
     Entry { name: "check_chunk at walls", generate: generate_at_walls, ..check_chunk(port) }
 }
 
+/// The same entry, with a camera that may not show the zone, under either choice. The Rust has the old one alone, and is asked there.
+pub fn check_chunk_with_a_short_camera(port: &Port) -> Entry<CheckChunkIn> {
+    let whole = check_chunk(port);
+    let rust = whole.rust;
+    Entry {
+        name: "check_chunk with a short camera",
+        generate: generate_short_camera,
+        parts: parts_with_choice,
+        rust: Box::new(move |i| if old(&i.cfg) { rust(i) } else { None }),
+        ..whole
+    }
+}
+
+/// Whether the Rust has the configuration's choice.
+fn old(cfg: &FuseConfig) -> bool {
+    cfg.absent_camera == AbsentCamera::NoZone
+}
+
 #[derive(Clone, Debug)]
 pub struct CheckActionIn {
     pub cfg: FuseConfig,
@@ -208,7 +292,22 @@ fn generate_action_at_walls(rng: &mut Rng) -> CheckActionIn {
     i
 }
 
+/// An action with a camera that may not show the zone.
+fn generate_action_with_a_short_camera(rng: &mut Rng) -> CheckActionIn {
+    let mut i = generate_action(rng);
+    lay_camera(rng, &mut i.cfg, &mut i.pos, &mut i.aux);
+    let step = oracle::rust::fmath::dist(&i.a, &i.prev, i.cfg.dim);
+    lay_slow_step(rng, &mut i.cfg, &i.pos, &i.aux, step);
+    i
+}
+
 fn action_parts(i: &mut CheckActionIn) -> Vec<Part<'_>> {
+    let mut parts = action_parts_with_choice(i);
+    parts.pop();
+    parts
+}
+
+fn action_parts_with_choice(i: &mut CheckActionIn) -> Vec<Part<'_>> {
     let mut parts = vec![
         Part::Slice(&mut i.pos),
         Part::Slice(&mut i.aux),
@@ -216,7 +315,7 @@ fn action_parts(i: &mut CheckActionIn) -> Vec<Part<'_>> {
         Part::Slice(&mut i.a),
         Part::Slice(&mut i.out),
     ];
-    parts.extend(config_parts(&mut i.cfg));
+    parts.extend(config_parts_with_choice(&mut i.cfg));
     parts
 }
 
@@ -245,4 +344,17 @@ pub fn check_action(port: &Port) -> Entry<CheckActionIn> {
 /// The same entry, its action about the walls.
 pub fn check_action_at_walls(port: &Port) -> Entry<CheckActionIn> {
     Entry { name: "check_action at walls", generate: generate_action_at_walls, ..check_action(port) }
+}
+
+/// The same entry, with a camera that may not show the zone, under either choice.
+pub fn check_action_with_a_short_camera(port: &Port) -> Entry<CheckActionIn> {
+    let whole = check_action(port);
+    let rust = whole.rust;
+    Entry {
+        name: "check_action with a short camera",
+        generate: generate_action_with_a_short_camera,
+        parts: action_parts_with_choice,
+        rust: Box::new(move |i| if old(&i.cfg) { rust(i) } else { None }),
+        ..whole
+    }
 }

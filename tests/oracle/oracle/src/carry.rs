@@ -3,8 +3,8 @@
 use lictor_core as rust;
 use lictor_detect::tier1;
 use model::{
-    ActionKind, BrakeKind, Calibration, ChunkBuf, ChunkView, ClampMode, Derived, FuseConfig, Scores, Tier1Rt, BINS,
-    HELD, MAX_D, MAX_H, NFEAT, STALL,
+    AbsentCamera, ActionKind, BrakeKind, Calibration, ChunkBuf, ChunkView, ClampMode, Derived, FuseConfig, Scores,
+    Tier1Rt, BINS, HELD, MAX_D, MAX_H, NFEAT, STALL,
 };
 
 use crate::trail;
@@ -164,7 +164,14 @@ pub fn brake(cfg: &FuseConfig) -> rust::BrakeModel {
     }
 }
 
+/// The Rust has no zone where the camera does not show it, and no choice: a configuration that says anything else is not carried over, by
+/// `config` or by `compile`, so that no run against the Rust is under the new choice.
 pub fn contact(cfg: &FuseConfig) -> Option<rust::ContactLimit> {
+    assert!(
+        cfg.absent_camera == AbsentCamera::NoZone,
+        "the Rust has AbsentCamera::NoZone alone, and is asked under {:?}",
+        cfg.absent_camera
+    );
     cfg.contact.map(|z| rust::ContactLimit { radius: z.radius, v_max: z.v_max, aux_center: [z.a0, z.a1] })
 }
 

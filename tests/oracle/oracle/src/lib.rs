@@ -272,6 +272,10 @@ pub fn time_bin(t: u32, horizon_ticks: u32) -> usize {
 
 #[cfg(test)]
 mod tests {
+    use std::panic::catch_unwind;
+
+    use model::AbsentCamera;
+
     use super::*;
 
     /// 3, 4 and 5 through the published files and the shims.
@@ -279,6 +283,20 @@ mod tests {
     fn the_published_sources_answer() {
         assert_eq!(rust::fmath::norm(&[3.0, 4.0], 2), 5.0);
         assert_eq!(hits(push(push(0, true, 7), true, 7)), 2);
+    }
+
+    /// Whether a configuration is carried over, by itself and to `compile`.
+    fn carried(cfg: FuseConfig) -> [bool; 2] {
+        [catch_unwind(|| config(&cfg)).is_ok(), catch_unwind(|| compile(&cfg, 1, 1)).is_ok()]
+    }
+
+    /// Whether or not there is a zone, and whether or not it is armed.
+    #[test]
+    fn a_configuration_under_the_new_choice_is_not_carried_over() {
+        for cfg in [FuseConfig::PLAIN, FuseConfig::WHOLE, FuseConfig { armed: 63, ..FuseConfig::WHOLE }] {
+            assert_eq!(carried(FuseConfig { absent_camera: AbsentCamera::NoZone, ..cfg }), [true; 2]);
+            assert_eq!(carried(FuseConfig { absent_camera: AbsentCamera::Slow, ..cfg }), [false; 2]);
+        }
     }
 
     /// A trail is carried over with any head and count, and back.
