@@ -16,6 +16,7 @@ SETTINGS = [
     Setting('channel1', 'channel', 'which is the second: another one', '1'),
     Setting('channels', 'count', 'how many numbers the camera is declared to send', '2'),
     Setting('camera', 'list', 'the numbers that it sends, at most 8, m', '0,0'),
+    Setting('absent_camera', 'choice', 'what a zone counts as whose camera is silent: slow or no-zone', 'slow'),
     Setting('armed', 'trips', 'the checks that are armed: all, none, or names with commas', 'all'),
     Setting('v_max', 'number', 'the greatest speed, m/s: above 0', '1'),
     Setting('reach_max', 'number', 'how far from the arm a row may be, m: above 0', '4'),
@@ -42,7 +43,7 @@ Belief = namedtuple('Belief', 'said settings shows vary')
 BELIEFS = {
     'contact': Belief('An empty contact box means slow everywhere.', {},
                       'no zone is configured, and a step as long as v_max allows passes, whatever the camera sees',
-                      ['zone=yes', 'zone=yes camera=3,3', 'zone=yes camera=0']),
+                      ['zone=yes', 'zone=yes camera=3,3', 'zone=yes camera=3', 'zone=yes camera=3 absent_camera=no-zone']),
     'channels': Belief('Two arms may share camera channels.', {'zone': 'yes', 'channel0': '1', 'channel1': '1', 'armed': 'none'},
                        'one channel for both coordinates of a zone is refused, armed or not; another arm the guard does not see',
                        ['channel1=0', 'channel1=2', 'channel1=2 channels=3', 'zone=no']),
@@ -58,7 +59,7 @@ def usage():
         begins = ', with ' + ' '.join(f'{setting}={value}' for setting, value in belief.settings.items()) if belief.settings else ''
         lines.append(f'  {name:<10}"{belief.said}"{begins}')
     lines += ['', 'The arm is a point on a plane. Settings, each with what it is where none is given here or above:', '']
-    lines += [f'  {s.name + "=" + s.default:<16}{s.meaning}' for s in SETTINGS]
+    lines += [f'  {s.name + "=" + s.default:<20}{s.meaning}' for s in SETTINGS]
     lines += ['', f'The checks are {", ".join(TRIPS)}; accel and jerk need more than one row, so they never trip here.',
               'For "The stopping forecast inspects where the arm stands now.": tools/card ask cards/7-start-outside.card cards/3-F3.card']
     return '\n'.join(lines)
@@ -89,11 +90,20 @@ def flag(name, value):
     return int(value == 'yes')
 
 
+def choice(name, value):
+    """The code of include/lictor.h."""
+    codes = {'slow': 0, 'no-zone': 1}
+    if value not in codes:
+        raise ValueError(f'{name} is {" or ".join(codes)}: {text.shown(value)}')
+    return codes[value]
+
+
 READ = {
     'number': text.number,
     'count': text.count,
     'channel': lambda name, value: text.count(name, value, 255),
     'flag': flag,
+    'choice': choice,
     'trips': bits,
     'pair': lambda name, value: numbers(name, value, 2, 2),
     'list': lambda name, value: numbers(name, value, 0, 8),
@@ -130,10 +140,10 @@ def record(s):
     config += eight + [1.0] * 8 + (s['lo'] + eight)[:8] + (s['hi'] + eight)[:8] + [0.0]
     project, second_order = 1, 0
     counts = [2, 2, 0, project, second_order, s['zone'], s['channel0'], s['channel1'], 2, 1, 1, 1] + [0] * 8
-    counts += [s['armed'], s['channels'], 0, 0, 0, 1]
+    counts += [s['armed'], s['channels'], 0, 0, 0, 1, s['absent_camera']]
     place, row = (s['p'] + eight)[:8], (s['row'] + eight)[:8]
     camera = (s['camera'] + eight)[:8]
-    return struct.pack('<44d26QQ8dQ8d8d8d', *config, *counts, 2, *place, len(s['camera']), *camera, *place, *row)
+    return struct.pack('<44d27QQ8dQ8d8d8d', *config, *counts, 2, *place, len(s['camera']), *camera, *place, *row)
 
 
 def walls(low, high):
@@ -158,6 +168,15 @@ def told(line):
     return '; '.join(parts), not trips
 
 
+def silent(s):
+    """What is to be said where an armed zone is not seen: why, and what it counts as."""
+    missing = [s[name] for name in ('channel0', 'channel1') if s[name] >= len(s['camera'])]
+    if not s['zone'] or not s['armed'] & TRIPS['contact'] or not missing:
+        return []
+    counts_as = 'there is no zone (absent_camera=no-zone)' if s['absent_camera'] else 'the arm counts as inside the zone (absent_camera=slow)'
+    return [f'The camera sends no number for channel {" or ".join(map(str, missing))}: {counts_as}.']
+
+
 def run(name, words):
     """Tries a belief: the lines to print, and whether nothing trips."""
     belief = BELIEFS[name]
@@ -165,6 +184,8 @@ def run(name, words):
     answer, passed = told(programs.run('tries', record(read)).strip())
     settings = textwrap.wrap(' '.join(f'{s}={typed[s]}' for s in NAMES), 90, initial_indent='    ', subsequent_indent='    ')
     lines = [f'"{belief.said}"', *settings, answer]
+    if not answer.startswith('refused'):
+        lines += silent(read)
     if not words:
         lines += [f'So: {belief.shows}.', 'Change it:'] + [f'    tools/card try {name} {change}' for change in belief.vary]
     return lines, passed
