@@ -371,8 +371,9 @@ uint64_t lictor_check_chunk(const struct lictor_numbers *numbers, const struct l
                             size_t rows_count, uint16_t horizon, uint16_t dim, uint16_t exec_steps, double *out,
                             size_t out_count, struct lictor_check_marks *marks, double *peak_speed);
 
-/* Checks one action against the one before it, without LICTOR_TRIP_ACCEL and LICTOR_TRIP_JERK. Writes the first dim numbers
-   of out, the marks, and the speed. LICTOR_MISFIT, LICTOR_SIZE to LICTOR_WITHDRAWN, LICTOR_SHORT to LICTOR_COMPUTED. */
+/* Checks one action against the one before it, without LICTOR_TRIP_ACCEL and LICTOR_TRIP_JERK; aux and the position are read as by
+   lictor_check_chunk. Writes the first dim numbers of out, the marks, and the speed. LICTOR_MISFIT, LICTOR_SIZE to LICTOR_WITHDRAWN,
+   LICTOR_SHORT to LICTOR_COMPUTED. */
 LICTOR_MUST_USE LICTOR_NOT_NULL
 uint64_t lictor_check_action(const struct lictor_numbers *numbers, const struct lictor_counts *counts,
                              const double center[192], const double scale[192], const double *position,
