@@ -17,7 +17,7 @@ use Rattle.envelope.specs.declared.ActionKind.the-variants.{EePosition}
 use Rattle.envelope.specs.declared.ClampMode.the-variants.{Off}
 use Rattle.envelope.specs.declared.AbsentCamera.the-variants.{Slow}
 use Rattle.envelope.specs.declared.BrakeKind.the-variants.{PdSecondOrder}
-use Rattle.envelope.specs.declared.Contact.the-variants.{None}
+use Rattle.envelope.specs.Slots.{noZones}
 use Rattle.envelope.specs.declared.Limits.{Limits}
 use Rattle.envelope.specs.declared.Norm.{Norm}
 use Rattle.envelope.specs.declared.Box.{Box}
@@ -63,7 +63,7 @@ brakeOf c = record {
   «react_ticks» = 1;
 }
 
--- one axis, the PD brake, no contact, no calibration, nothing armed
+-- one axis, the PD brake, no zone, no calibration, nothing armed
 unfoldable pub configOf : Card → FuseConfig
 configOf c = record {
   kind = EePosition;
@@ -72,7 +72,7 @@ configOf c = record {
   limits = limitsOf;
   norm = normOf;
   walls = wallsOf c;
-  contact = None;
+  zones = noZones;
   «absent_camera» = Slow;
   brake = brakeOf c;
   clamp = Off;

@@ -3,6 +3,7 @@ ghost use mathlib.Core.Path.{_≡_};
 ghost use Prim.Native.Nat.{_-_};
 ghost use lib.ListN.{length, replicate};
 ghost use Rattle.checked.specs.Constants.{1! };
+ghost use Rattle.envelope.specs.Slots.{noZones};
 ghost use Rattle.card.specs.Desk.{calibrationOf, brakeOf, wallsOf, limitsOf, normOf, configOf, outcomeOf, slacksOf, countOf, answerFor};
 use crate::record::Card;
 use brake::BrakeOut;
@@ -21,6 +22,8 @@ use envelope::FuseConfig;
 use envelope::Limits;
 use envelope::Norm;
 use envelope::Substeps;
+use envelope::ZoneSlot;
+use envelope::Zones;
 use refusal::Refusal;
 use words::float_of;
 use words::pattern;
@@ -97,6 +100,18 @@ fn brake(c: Card) -> BrakeModel
     }
 }
 
+fn no_zones() -> Zones
+    ensures { λ r. ⌜ r ≡ noZones ⌝ }
+{
+    let empty = ZoneSlot {
+        contact: Contact::None,
+    };
+    Zones {
+        count: 0,
+        list: [empty; 4],
+    }
+}
+
 // The configuration of a card: one axis, PD, nothing armed, and every number that the card does not give 1.0, save the margin, 0.
 pub fn configure(c: Card) -> FuseConfig
     ensures { λ r. ⌜ r ≡ configOf c ⌝ }
@@ -104,6 +119,7 @@ pub fn configure(c: Card) -> FuseConfig
     let limits = limits();
     let norm = norm();
     let walls = walls(c);
+    let zones = no_zones();
     let brake = brake(c);
     let calib = calibration();
     FuseConfig {
@@ -113,7 +129,7 @@ pub fn configure(c: Card) -> FuseConfig
         limits,
         norm,
         walls,
-        contact: Contact::None,
+        zones,
         absent_camera: AbsentCamera::Slow,
         brake,
         clamp: ClampMode::Off,

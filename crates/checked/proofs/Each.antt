@@ -28,6 +28,18 @@ pub and-right : (a b : Bool) → a && b ≡ true → b ≡ true
 and-right true b e = e
 and-right false b e = absurd (false≢true e)
 
+pub or-left : (a b : Bool) → a ≡ true → (a || b) ≡ true
+or-left a b e = rw e
+
+pub or-right : (a b : Bool) → b ≡ true → (a || b) ≡ true
+or-right true b e = refl
+or-right false b e = e
+
+-- a test that cannot hold
+pub refuted : (b : Bool) → (b ≡ true → ⊥) → b ≡ false
+refuted true h = absurd (h refl)
+refuted false h = refl
+
 -- where neither of two tests holds
 pub neither : (a b : Bool) → a || b ≡ false → (a ≡ false) × (b ≡ false)
 neither true b e = absurd (false≢true (sym e))
@@ -63,6 +75,16 @@ all-fails p n j l e = go (all p n) refl
     go : (b : Bool) → all p n ≡ b → b ≡ false
     go true h = sym (all-at p n h j l) ∙ e
     go false h = refl
+
+-- where not all hold, one fails
+pub all-fails-at : (p : ℕ → Bool) (n : ℕ) → all p n ≡ false → (j : ℕ) × (j < n) × (p j ≡ false)
+unfolding all
+all-fails-at p zero h = absurd (false≢true (sym h))
+all-fails-at p (suc n) h = go (all p n) (p n) refl refl h (all-fails-at p n)
+  where
+    go : (a b : Bool) → all p n ≡ a → p n ≡ b → a && b ≡ false → (all p n ≡ false → (j : ℕ) × (j < n) × (p j ≡ false)) → (j : ℕ) × (j < suc n) × (p j ≡ false)
+    go true b e g f before = (n, omega arith, g ∙ f)
+    go false b e g f before = let w = before e in (w .0, omega (arith, w .1), w .2)
 
 -- an entry that is not there fails a test that a NaN fails
 pub all-missing : (q : Float → Bool) (l : List Float) (n : ℕ) → q nan ≡ false → length l < n → all (λ (i : ℕ). q (at l i)) n ≡ false
@@ -114,6 +136,18 @@ some-there p n j l e = go (some p n) refl
     go : (b : Bool) → some p n ≡ b → b ≡ true
     go true h = refl
     go false h = sym (some-none-at p n h j l) ∙ e
+
+or-apart : (a b p q : Bool) → (a || b) || (p || q) ≡ (a || p) || (b || q)
+or-apart true b p q = refl
+or-apart false true true q = refl
+or-apart false true false q = refl
+or-apart false false p q = refl
+
+-- one of two tests holds of some: the one of some, or the other
+pub some-either : (p q : ℕ → Bool) (n : ℕ) → some (λ (i : ℕ). p i || q i) n ≡ (some p n || some q n)
+unfolding some
+some-either p q zero = refl
+some-either p q (suc n) = ap (λ (b : Bool). b || (p n || q n)) (some-either p q n) ∙ or-apart (some p n) (some q n) (p n) (q n)
 
 -- ---- every
 

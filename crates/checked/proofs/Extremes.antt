@@ -1,6 +1,6 @@
 -- The least and the greatest of some numbers: one turn of a loop, that they are attained, and that they bound every member.
-use mathlib.Core.Path.{_≡_, refl}
-use mathlib.Core.Bool.{Bool, true, false, cond}
+use mathlib.Core.Path.{_≡_, refl, sym, _∙_}
+use mathlib.Core.Bool.{Bool, true, false, cond, _||_, false≢true}
 use Prim.Native.Nat.{ℕ, zero, suc, _+_, _≤_, _<_}
 use native.Mathlib.Numerals.{add-one}
 use native.Mathlib.Omega.{arith}
@@ -8,7 +8,7 @@ use borrow.Author.Count.{below-more}
 use mathlib.Core.Logic.{_⊎_, inl, inr}
 use lib.Ieee.{Float, nan, inf, fin, lt, isNan}
 use Rattle.checked.specs.Least.{lesser, greater, least, greatest}
-use Rattle.checked.proofs.Ordered.{Real, lt-not-below, lt-asymmetric, lt-irrefl, below-nan}
+use Rattle.checked.proofs.Ordered.{Real, lt-not-below, lt-asymmetric, lt-irrefl, lt-transitive, below-nan}
 
 -- ---- of two
 
@@ -19,6 +19,31 @@ lesser-real a b p q = go (lt a b)
     go : (t : Bool) → Real (cond t a b)
     go true = p
     go false = q
+
+either-of : (t : Bool) (a b : Float) → (cond t a b ≡ a) ⊎ (cond t a b ≡ b)
+either-of true a b = inl refl
+either-of false a b = inr refl
+
+pub lesser-either : (a b : Float) → (lesser a b ≡ a) ⊎ (lesser a b ≡ b)
+unfolding lesser
+lesser-either a b = either-of (lt a b) a b
+
+pub greater-either : (a b : Float) → (greater a b ≡ a) ⊎ (greater a b ≡ b)
+unfolding greater
+greater-either a b = either-of (lt b a) a b
+
+-- the lesser is below what one of the two is below
+pub lesser-below : (a b x : Float) → Real b → lt (lesser a b) x ≡ (lt a x || lt b x)
+unfolding lesser
+lesser-below a b x w = go (lt a b) (lt a x) (lt b x) refl refl refl
+  where
+    go : (t u v : Bool) → lt a b ≡ t → lt a x ≡ u → lt b x ≡ v → lt (cond t a b) x ≡ (u || v)
+    go true true v e h g = h
+    go true false true e h g = absurd (false≢true (sym h ∙ lt-transitive a b x e g))
+    go true false false e h g = h
+    go false true true e h g = g
+    go false true false e h g = absurd (false≢true (sym (lt-not-below a b x w e g) ∙ h))
+    go false false v e h g = g
 
 -- what is not below the first is not below the lesser
 pub lesser-left : (a b x : Float) → Real a → lt x a ≡ false → lt x (lesser a b) ≡ false

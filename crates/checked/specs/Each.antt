@@ -1,5 +1,6 @@
 -- What the rules say of each number below n, of every test of a list, and of the entries of a list.
-use Prim.Native.Nat.{ℕ, zero, suc}
+use Prim.Native.Nat.{ℕ, zero, suc, _<_}
+use mathlib.Core.Path.{_≡_}
 use mathlib.Core.Bool.{Bool, true, false, _&&_, _||_}
 use mathlib.Core.List.{List, [], _∷_, _++_}
 use lib.ListN.{getD, set}
@@ -18,6 +19,13 @@ all p (suc n) = all p n && p n
 unfoldable pub some : (ℕ → Bool) → ℕ → Bool
 some p zero = false
 some p (suc n) = some p n || p n
+
+-- an index below n of which p and Q hold
+pub record Among (p : ℕ → Bool) (n : ℕ) (Q : ℕ → Type 0) : Type 0 where
+  pub index : ℕ
+  pub within : index < n
+  pub holds : p index ≡ true
+  pub such : Q index
 
 unfoldable pub every-from : Bool → List Bool → Bool
 every-from a [] = a

@@ -1,17 +1,18 @@
 -- A fold that keeps one of two at each step, as least and greatest do: none of those joined lies beyond the result, and the result is one of them.
 use Prim.Native.Nat.{ℕ, zero, suc, _<_}
 use mathlib.Core.Path.{_≡_, refl, ap, _∙_}
-use mathlib.Core.Bool.{Bool, true, false, cond}
+use mathlib.Core.Bool.{Bool, true, false}
 use mathlib.Core.Logic.{_⊎_, inl, inr, ⊎-elim}
 use native.Mathlib.Omega.{arith}
 use borrow.Author.Count.{below-more}
 use lib.Ieee.{Float, nan, inf, fin, lt, isNan}
 use Rattle.bits.specs.Choice.{if_then_else_}
+use Rattle.checked.specs.Each.{Among}
 use Rattle.checked.specs.Least.{lesser, greater}
 use Rattle.checked.proofs.Extremes.{not-above-inf}
 use Rattle.checked.proofs.Ordered.{Real}
 use Rattle.conformal.specs.Rule.{joinWhere}
-use Rattle.conformal.specs.Promises.{Among, NoneOf}
+use Rattle.conformal.specs.Promises.{NoneOf}
 
 -- ---- a fold that picks one of two at each step
 
@@ -78,18 +79,6 @@ module _ (op : Float → Float → Float) (o : Float) (either : (a b : Float) �
     attained (suc n) = chosen n (joinWhere op o p g n) (p n) refl (attained n)
 
 -- ---- least and greatest are such folds
-
-either-of : (t : Bool) (a b : Float) → (cond t a b ≡ a) ⊎ (cond t a b ≡ b)
-either-of true a b = inl refl
-either-of false a b = inr refl
-
-pub lesser-either : (a b : Float) → (lesser a b ≡ a) ⊎ (lesser a b ≡ b)
-unfolding lesser
-lesser-either a b = either-of (lt a b) a b
-
-pub greater-either : (a b : Float) → (greater a b ≡ a) ⊎ (greater a b ≡ b)
-unfolding greater
-greater-either a b = either-of (lt b a) a b
 
 none-below : (x : Float) → lt x (inf true) ≡ false
 unfolding lt

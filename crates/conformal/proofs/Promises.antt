@@ -5,19 +5,19 @@ use mathlib.Core.Bool.{Bool, true, false, false≢true}
 use mathlib.Core.Logic.{_⊎_, ⊎-elim}
 use mathlib.Core.List.{List}
 use lib.Ieee.{Float, inf, lt}
-use Rattle.checked.specs.Each.{at, some}
+use Rattle.checked.specs.Each.{at, some, Among}
 use Rattle.checked.specs.Least.{lesser, greater}
 use Rattle.checked.proofs.Each.{and-left, some-none}
 use Rattle.checked.proofs.Ordered.{Real}
-use Rattle.checked.proofs.Extremes.{lesser-left, lesser-right, greater-left, greater-right}
+use Rattle.checked.proofs.Extremes.{lesser-either, greater-either, lesser-left, lesser-right, greater-left, greater-right}
 use Rattle.bits.specs.Bits.{bit}
 use Rattle.conformal.specs.Rule.{liveTerm, leastOf, termAt, counts, aggregate, fires, firedBits}
-use Rattle.conformal.specs.Promises.{Among, NoneOf, Numbers, Aggregate, Promised}
+use Rattle.conformal.specs.Promises.{NoneOf, Numbers, Aggregate, Promised}
 use Rattle.conformal.specs.declared.GateSpec.{GateSpec}
 use Rattle.bits.proofs.Bits.{bit-where, no-bit-past}
 use Rattle.conformal.proofs.Bins.{bins}
 use Rattle.conformal.proofs.Stall.{without-stall, past-the-count}
-use Rattle.conformal.proofs.Picked.{join-number, none-beyond, attained, lesser-either, lesser-start, greater-either, greater-start, real-∞}
+use Rattle.conformal.proofs.Picked.{join-number, none-beyond, attained, lesser-start, greater-start, real-∞}
 
 -- ---- s
 

@@ -9,7 +9,7 @@ use mathlib.Core.List.{List}
 use lib.Dec.{T}
 use lib.ListN.{getD}
 use lib.Ieee.{Float, Format, inf, lt, isNan}
-use Rattle.checked.specs.Each.{at}
+use Rattle.checked.specs.Each.{at, Among}
 use Rattle.checked.specs.Finite.{+0}
 use Rattle.bits.specs.Bits.{bit}
 use Rattle.conformal.specs.Feat.{STALL}
@@ -21,13 +21,7 @@ use Rattle.conformal.specs.declared.Scores.{Scores}
 use Rattle.conformal.specs.declared.Verdict.the-variants.{Trips}
 use Rattle.conformal.specs.declared.TimeBin.the-variants.{Bin}
 
--- an index below n of which p and Q hold
-pub record Among (p : ℕ → Bool) (n : ℕ) (Q : ℕ → Type 0) : Type 0 where
-  pub index : ℕ
-  pub within : index < n
-  pub holds : p index ≡ true
-  pub such : Q index
-
+-- p holds of none below n
 abbrev pub NoneOf : (ℕ → Bool) → ℕ → Type 0
 NoneOf p n = (j : ℕ) → j < n → p j ≡ false
 

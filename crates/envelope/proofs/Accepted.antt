@@ -12,7 +12,7 @@ use Rattle.checked.proofs.Each.{all-at, every-at}
 use Rattle.conformal.specs.Rule.{Tables}
 use Rattle.envelope.specs.Derive.{derived}
 use Rattle.envelope.specs.Steps.{substepsIn}
-use Rattle.envelope.specs.Refusals.{sizesOk, zoneOk, ordered, derivedOk, numbersFrom, numbersOk, countsOk, stepsOk, channelsFit, featuresOk, configJudged}
+use Rattle.envelope.specs.Refusals.{sizesOk, ordered, scalarsOk, derivedOk, numbersFrom, numbersOk, countsOk, stepsOk, channelsFit, featuresOk, configJudged}
 use Rattle.envelope.specs.Promises.{Fit}
 use Rattle.envelope.specs.declared.Compiled.{Compiled}
 use Rattle.envelope.specs.declared.FuseConfig.{FuseConfig}
@@ -45,18 +45,16 @@ module _ (f : Format) (c : FuseConfig) (t : Tables) (fit : Fit f c t) where
   unfolding sizesOk
   dim-most = leb-true _ _ (every-at _ 1 (fit .sizes))
 
-  -- ---- the configuration's numbers
-
-  -- the zone's radius and speed, where there is a zone
-  pub zone-fits : zoneOk (c .contact) ≡ true
-  unfolding numbersFrom
-  zone-fits = every-at _ 2 (fit .numbers)
-
   -- ---- the derived numbers
 
   derived-fit : derivedOk (derived f c) ≡ true
   unfolding numbersFrom
   derived-fit = every-at _ 5 (fit .numbers)
+
+  -- the longest step is a finite number
+  pub step-max-finite : finite (derived f c .«step_max») ≡ true
+  unfolding derivedOk scalarsOk
+  step-max-finite = every-at _ 3 (every-at _ 0 derived-fit)
 
   -- no low wall exceeds its high wall
   pub walls-ordered : (i : ℕ) → i < 8 → lt (at (derived f c .«box_hi») i) (at (derived f c .«box_lo») i) ≡ false

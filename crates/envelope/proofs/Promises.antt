@@ -1,27 +1,29 @@
 -- What is promised of a configuration's refusal: each condition reads only entries that are in use, so that two configurations that agree there are judged alike.
 use Prim.Native.Nat.{ℕ, zero, suc, _<_, min}
 use mathlib.Core.Path.{_≡_, refl, ap}
-use mathlib.Core.Bool.{Bool, true, false}
+use mathlib.Core.Bool.{Bool, true, false, _&&_, and-true, and-false}
 use mathlib.Core.List.{List}
 use native.Mathlib.Omega.{arith}
-use borrow.Author.Tests.{ltb-true}
-use lib.Dec.{ltb}
+use borrow.Author.Tests.{eqb-true, eq-eqb, ltb-true, lt-leb, not-true}
+use lib.Dec.{eqb, leb, ltb}
 use lib.Ieee.{Float, Format, add, sub, div}
 use Rattle.refusal.specs.Order.{refusal}
 use Rattle.checked.specs.Constants.{1! }
 use Rattle.checked.specs.Each.{at, all, every, table}
 use Rattle.checked.specs.Finite.{finite, aboveZero, allFinite, allAboveZero}
 use Rattle.checked.specs.Least.{least}
-use Rattle.checked.proofs.Each.{all-same, every-at}
+use Rattle.checked.proofs.Each.{_&&≡_, and-left, and-right, all-at, all-from, all-same, every-at}
 use Rattle.conformal.specs.Rule.{Tables}
 use Rattle.conformal.specs.Promises.{NamesNoStall}
 use Rattle.conformal.proofs.Stall.{names-no-stall, same-sizes, same-numbers, same-features}
 use Rattle.envelope.specs.Derive.{kept, lowWalls, highWalls, inverses, isotropic, derivedFrom, derived}
-use Rattle.envelope.specs.Refusals.{sizesOk, numbersFrom, countsOk, stepsOk, normOk, boxOk, featuresOk, configJudged}
+use Rattle.envelope.specs.Slots.{counted, zoneAt}
+use Rattle.envelope.specs.Refusals.{sizesOk, zoneOk, zonesOk, numbersFrom, countsOk, stepsOk, normOk, boxOk, channelsOk, pairIsOwn, zonesFit, featuresOk, configJudged}
 use Rattle.envelope.specs.declared.FuseConfig.{FuseConfig}
+use Rattle.envelope.specs.declared.Zones.{Zones}
 use Rattle.envelope.specs.declared.Norm.{Norm}
 use Rattle.envelope.specs.declared.Box.{Box}
-use Rattle.envelope.specs.Promises.{measuredBy, Agree, AgreeWithin, Promised}
+use Rattle.envelope.specs.Promises.{measuredBy, zonedBy, Agree, AgreeWithin, SameZones, ZonesJudged, PairsTold, OneZoneJudged, Promised}
 use Rattle.envelope.proofs.Accepted.{accepted}
 
 table-same : (g k : ℕ → Float) (n : ℕ) → ((i : ℕ) → i < n → g i ≡ k i) → table g n ≡ table k n
@@ -70,10 +72,54 @@ module _ (f : Format) (c : FuseConfig) (n : Norm) (w : Box) (same : AgreeWithin 
       let hi-same = tested-each (w .hi) (c .walls .hi) (c .«pos_dim») (same .highs) finite in
       rw (unread-past, center-same, scale-same, lo-same, hi-same)
 
+-- ---- the zones
+
+pair-told : (radius speed wide fast : Float) (i j k l : ℕ) → PairsTold radius speed wide fast i j k l
+pair-told radius speed wide fast i j k l = record {
+  repeated = λ first second. eq-eqb i k first &&≡ eq-eqb j l second;
+  same-first = λ e. eqb-true i k (and-left (eqb i k) (eqb j l) e);
+  same-second = λ e. eqb-true j l (and-right (eqb i k) (eqb j l) e);
+}
+
+module _ (z : Zones) (aux : ℕ) where
+  abbrev placeFits : ℕ → Bool
+  placeFits k = channelsOk (zoneAt z k) aux && pairIsOwn z k
+
+  zones-told : ZonesJudged z aux
+  unfolding zonesOk zonesFit pairIsOwn
+  zones-told = record {
+    each-number = all-at _ (counted z);
+    all-numbers = all-from _ (counted z);
+    each-channel = λ fit k l. and-left (channelsOk (zoneAt z k) aux) (pairIsOwn z k) (all-at placeFits (counted z) fit k l);
+    no-pair-twice = λ fit m k before l. not-true _ (all-at _ k (and-right (channelsOk (zoneAt z k) aux) (pairIsOwn z k) (all-at placeFits (counted z) fit k l)) m before);
+    all-channels = λ own apart. all-from placeFits (counted z) (λ k l. own k l &&≡ all-from _ k (λ m before. rw (apart m k before l)));
+  }
+
+  one-told : z .count ≡ 1 → OneZoneJudged z aux
+  unfolding zonesOk zonesFit pairIsOwn all
+  one-told one = record { its-numbers = rw one; its-channels = rw one (and-true (channelsOk (zoneAt z 0) aux)) }
+
+  -- so many zones, of which each is the same, are judged alike
+  pub same-judged : (w : Zones) → counted w ≡ counted z → ((k : ℕ) → k < counted z → zoneAt w k ≡ zoneAt z k) → (zonesOk w ≡ zonesOk z) × (zonesFit w aux ≡ zonesFit z aux)
+  unfolding zonesOk zonesFit pairIsOwn
+  same-judged w many each =
+      (rw many (all-same _ _ (counted z) (λ k l. ap zoneOk (each k l))), rw many (all-same _ _ (counted z) (λ k l. rw (each k l) (ap (λ (b : Bool). channelsOk (zoneAt z k) aux && b) (all-same _ _ k (λ m before. rw (each m (omega arith))))))))
+
+  pub same-told : (w : Zones) → SameZones z w → (zonesOk w ≡ zonesOk z) × (zonesFit w aux ≡ zonesFit z aux)
+  same-told w same = same-judged w (rw (same .same-count)) (same .same-places)
+
+unread-zones : (f : Format) (c : FuseConfig) (t : Tables) (z : Zones) → SameZones (c .zones) z → refusal (configJudged f (zonedBy c z) t) ≡ refusal (configJudged f c t)
+unfolding sizesOk numbersFrom stepsOk
+unread-zones f c t z same = let told = same-told (c .zones) (c .«aux_count») z same in rw (told .0, told .1, same .same-count)
+
+too-many : (c : FuseConfig) → 4 < c .zones .count → sizesOk c ≡ false
+unfolding sizesOk every
+too-many c many = rw (lt-leb (c .zones .count) 4 many, and-false (leb 1 (c .dim) && leb (c .dim) 8 && leb 1 (c .«pos_dim») && leb (c .«pos_dim») 8))
+
 -- with the flag set, the tests of 1 and of 17 are tests of the calibration
 pub no-stall : (c : FuseConfig) → c .calibrated ≡ true → sizesOk c ≡ true → featuresOk c ≡ true → NamesNoStall (c .calib)
 unfolding sizesOk
-no-stall c set sizes features = names-no-stall (c .calib) (rw set at (every-at _ 4 sizes)) (rw set at features)
+no-stall c set sizes features = names-no-stall (c .calib) (rw set at (every-at _ 5 sizes)) (rw set at features)
 
 pub promised : Promised
 unfolding sizesOk numbersFrom stepsOk countsOk every
@@ -85,6 +131,11 @@ promised = record {
   past-the-count = λ f c t terms same. rw (same-sizes (c .calib) terms same, same-numbers (c .calib) terms same t, same-features (c .calib) terms same);
   armed-or-not = λ f c t bits. refl;
   either-choice = λ f c t choice. refl;
+  over-four = λ f c t many. rw (too-many c many);
+  zones-judged = zones-told;
+  pairs-told = pair-told;
+  one-zone-judged = one-told;
+  unread-zones = unread-zones;
   exactly-4096 = λ b sub commit e. rw (sub, commit, e);
   one-step-more = λ b sub commit e. rw (sub, commit, e);
   unread-past = unread-past;

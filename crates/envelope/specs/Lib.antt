@@ -1,4 +1,6 @@
 pub mod Derive
 pub mod Steps
+pub mod Slots
 pub mod Refusals
 pub mod Promises
+pub mod Worked

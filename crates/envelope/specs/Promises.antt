@@ -1,5 +1,5 @@
--- What is promised of a configuration's refusal: it is accepted exactly where its five conditions hold, and what is not looked at cannot change it. The proof is
--- `proofs/Promises.promised`.
+-- What is promised of a configuration's refusal: it is accepted exactly where its five conditions hold, what each asks of the list of zones, and that what is not
+-- looked at cannot change it. The proof is `proofs/Promises.promised`.
 use Prim.Native.Nat.{ℕ, _<_}
 use mathlib.Core.Path.{_≡_}
 use mathlib.Core.Bool.{true, false}
@@ -11,8 +11,11 @@ use Rattle.conformal.specs.Rule.{Tables}
 use Rattle.conformal.specs.Promises.{NamesNoStall, withTerms, AgreeCounted}
 use Rattle.conformal.specs.declared.Calibration.{Calibration}
 use Rattle.envelope.specs.Derive.{derived}
-use Rattle.envelope.specs.Refusals.{sizesOk, numbersOk, countsOk, stepsOk, channelsFit, featuresOk, configJudged}
+use Rattle.envelope.specs.Slots.{counted, zoneAt}
+use Rattle.envelope.specs.Refusals.{sizesOk, zoneOk, zonesOk, numbersOk, countsOk, stepsOk, channelsOk, samePair, zonesFit, channelsFit, featuresOk, configJudged}
+use Rattle.envelope.specs.declared.Contact.the-variants.{Zone}
 use Rattle.envelope.specs.declared.AbsentCamera.{AbsentCamera}
+use Rattle.envelope.specs.declared.Zones.{Zones}
 use Rattle.envelope.specs.declared.FuseConfig.{FuseConfig}
 use Rattle.envelope.specs.declared.BrakeModel.{BrakeModel}
 use Rattle.envelope.specs.declared.Norm.{Norm}
@@ -26,16 +29,16 @@ pub record Fit (f : Format) (c : FuseConfig) (t : Tables) : Type 0 where
   pub apart : channelsFit c ≡ true
   pub features : featuresOk c ≡ true
 
--- c with another choice for an absent camera, other norms, walls, brake, armed bits, calibration and horizon: the one place where a changed configuration is spelled out
-abbrev pub altered : FuseConfig → AbsentCamera → Norm → Box → BrakeModel → ℕ → Calibration → ℕ → FuseConfig
-altered c choice n w b bits cal ticks = record {
+-- c with other zones, another choice for an absent camera, other norms, walls, brake, armed bits, calibration and horizon: the one place where a changed configuration is spelled out
+abbrev pub altered : FuseConfig → Zones → AbsentCamera → Norm → Box → BrakeModel → ℕ → Calibration → ℕ → FuseConfig
+altered c z choice n w b bits cal ticks = record {
   kind = c .kind;
   dim = c .dim;
   «pos_dim» = c .«pos_dim»;
   limits = c .limits;
   norm = n;
   walls = w;
-  contact = c .contact;
+  zones = z;
   «absent_camera» = choice;
   brake = b;
   clamp = c .clamp;
@@ -47,19 +50,22 @@ altered c choice n w b bits cal ticks = record {
 }
 
 abbrev pub calibratedBy : FuseConfig → Calibration → ℕ → FuseConfig
-calibratedBy c cal ticks = altered c (c .«absent_camera») (c .norm) (c .walls) (c .brake) (c .armed) cal ticks
+calibratedBy c cal ticks = altered c (c .zones) (c .«absent_camera») (c .norm) (c .walls) (c .brake) (c .armed) cal ticks
 
 abbrev pub armedBy : FuseConfig → ℕ → FuseConfig
-armedBy c bits = altered c (c .«absent_camera») (c .norm) (c .walls) (c .brake) bits (c .calib) (c .«horizon_ticks»)
+armedBy c bits = altered c (c .zones) (c .«absent_camera») (c .norm) (c .walls) (c .brake) bits (c .calib) (c .«horizon_ticks»)
 
 abbrev pub measuredBy : FuseConfig → Norm → Box → FuseConfig
-measuredBy c n w = altered c (c .«absent_camera») n w (c .brake) (c .armed) (c .calib) (c .«horizon_ticks»)
+measuredBy c n w = altered c (c .zones) (c .«absent_camera») n w (c .brake) (c .armed) (c .calib) (c .«horizon_ticks»)
 
 abbrev pub brakedBy : FuseConfig → BrakeModel → FuseConfig
-brakedBy c b = altered c (c .«absent_camera») (c .norm) (c .walls) b (c .armed) (c .calib) (c .«horizon_ticks»)
+brakedBy c b = altered c (c .zones) (c .«absent_camera») (c .norm) (c .walls) b (c .armed) (c .calib) (c .«horizon_ticks»)
 
 abbrev pub absentBy : FuseConfig → AbsentCamera → FuseConfig
-absentBy c choice = altered c choice (c .norm) (c .walls) (c .brake) (c .armed) (c .calib) (c .«horizon_ticks»)
+absentBy c choice = altered c (c .zones) choice (c .norm) (c .walls) (c .brake) (c .armed) (c .calib) (c .«horizon_ticks»)
+
+abbrev pub zonedBy : FuseConfig → Zones → FuseConfig
+zonedBy c z = altered c z (c .«absent_camera») (c .norm) (c .walls) (c .brake) (c .armed) (c .calib) (c .«horizon_ticks»)
 
 -- two lists that agree on the first n entries
 abbrev pub Agree : ℕ → List Float → List Float → Type 0
@@ -70,6 +76,33 @@ pub record AgreeWithin (c : FuseConfig) (n : Norm) (w : Box) : Type 0 where
   pub scales : Agree (c .dim) (n .scale) (c .norm .scale)
   pub lows : Agree (c .«pos_dim») (w .lo) (c .walls .lo)
   pub highs : Agree (c .«pos_dim») (w .hi) (c .walls .hi)
+
+-- a list of zones with the same count as another, which agrees with it on the places that count
+pub record SameZones (z w : Zones) : Type 0 where
+  pub same-count : w .count ≡ z .count
+  pub same-places : (k : ℕ) → k < counted z → zoneAt w k ≡ zoneAt z k
+
+-- what 2 and 4 ask of a list of zones: each number and each channel of each zone that counts, and that no two of them name the same pair
+pub record ZonesJudged (z : Zones) (aux : ℕ) : Type 0 where
+  pub each-number : zonesOk z ≡ true → (k : ℕ) → k < counted z → zoneOk (zoneAt z k) ≡ true
+  pub all-numbers : ((k : ℕ) → k < counted z → zoneOk (zoneAt z k) ≡ true) → zonesOk z ≡ true
+  pub each-channel : zonesFit z aux ≡ true → (k : ℕ) → k < counted z → channelsOk (zoneAt z k) aux ≡ true
+  pub no-pair-twice : zonesFit z aux ≡ true → (m k : ℕ) → m < k → k < counted z → samePair (zoneAt z m) (zoneAt z k) ≡ false
+  pub all-channels :
+      ((k : ℕ) → k < counted z → channelsOk (zoneAt z k) aux ≡ true)
+      → ((m k : ℕ) → m < k → k < counted z → samePair (zoneAt z m) (zoneAt z k) ≡ false)
+      → zonesFit z aux ≡ true
+
+-- two zones have the same pair exactly where the first channels are one and the second channels are one: a swapped pair is another
+pub record PairsTold (radius speed wide fast : Float) (i j k l : ℕ) : Type 0 where
+  pub repeated : i ≡ k → j ≡ l → samePair (Zone i j radius speed) (Zone k l wide fast) ≡ true
+  pub same-first : samePair (Zone i j radius speed) (Zone k l wide fast) ≡ true → i ≡ k
+  pub same-second : samePair (Zone i j radius speed) (Zone k l wide fast) ≡ true → j ≡ l
+
+-- one zone is judged as a single contact is
+pub record OneZoneJudged (z : Zones) (aux : ℕ) : Type 0 where
+  pub its-numbers : zonesOk z ≡ zoneOk (zoneAt z 0)
+  pub its-channels : zonesFit z aux ≡ channelsOk (zoneAt z 0) aux
 
 pub record Promised : Type 0 where
   pub fit-accepted : (f : Format) (c : FuseConfig) (t : Tables) → Fit f c t → refusal (configJudged f c t) ≡ 0
@@ -86,6 +119,13 @@ pub record Promised : Type 0 where
   pub armed-or-not : (f : Format) (c : FuseConfig) (t : Tables) (bits : ℕ) → refusal (configJudged f (armedBy c bits) t) ≡ refusal (configJudged f c t)
   -- nor does the choice for an absent camera
   pub either-choice : (f : Format) (c : FuseConfig) (t : Tables) (choice : AbsentCamera) → refusal (configJudged f (absentBy c choice) t) ≡ refusal (configJudged f c t)
+  -- over four zones are refused with 1
+  pub over-four : (f : Format) (c : FuseConfig) (t : Tables) → 4 < c .zones .count → refusal (configJudged f c t) ≡ 1
+  pub zones-judged : (z : Zones) (aux : ℕ) → ZonesJudged z aux
+  pub pairs-told : (radius speed wide fast : Float) (i j k l : ℕ) → PairsTold radius speed wide fast i j k l
+  pub one-zone-judged : (z : Zones) (aux : ℕ) → z .count ≡ 1 → OneZoneJudged z aux
+  -- what stands past the count of zones is not judged
+  pub unread-zones : (f : Format) (c : FuseConfig) (t : Tables) (z : Zones) → SameZones (c .zones) z → refusal (configJudged f (zonedBy c z) t) ≡ refusal (configJudged f c t)
   -- commit 64, brake_steps 0, substeps 64: accepted; brake_steps 1: refused
   pub exactly-4096 : (b : BrakeModel) → b .substeps .0 ≡ 64 → b .commit .0 ≡ 64 → b .«brake_steps» .0 ≡ 0 → countsOk b ≡ true
   pub one-step-more : (b : BrakeModel) → b .substeps .0 ≡ 64 → b .commit .0 ≡ 64 → b .«brake_steps» .0 ≡ 1 → countsOk b ≡ false

@@ -1,6 +1,6 @@
 -- When a configuration is refused: one condition for each number of the table (R0), and the list that is judged.
 use Prim.Native.Nat.{ℕ}
-use mathlib.Core.Bool.{Bool, true, not, _&&_, _||_}
+use mathlib.Core.Bool.{Bool, true, false, not, _&&_, _||_}
 use mathlib.Core.List.{List, [], _∷_}
 use lib.Dec.{leb, ltb, eqb}
 use lib.Ieee.{Float, Format, lt}
@@ -11,10 +11,12 @@ use Rattle.conformal.specs.Refusals as calibration
 use Rattle.conformal.specs.Rule.{Tables}
 use Rattle.envelope.specs.Derive.{derived}
 use Rattle.envelope.specs.Steps.{substepsIn}
+use Rattle.envelope.specs.Slots.{counted, zoneAt}
 use Rattle.envelope.specs.declared.BrakeKind.{BrakeKind}
 use Rattle.envelope.specs.declared.BrakeKind.the-variants.{PdSecondOrder, FirstOrderDecay, BoundedAccel, JerkLimited, ZeroVelocityHold}
 use Rattle.envelope.specs.declared.Contact.{Contact}
 use Rattle.envelope.specs.declared.Contact.the-variants.{None, Zone}
+use Rattle.envelope.specs.declared.Zones.{Zones}
 use Rattle.envelope.specs.declared.Limits.{Limits}
 use Rattle.envelope.specs.declared.Norm.{Norm}
 use Rattle.envelope.specs.declared.Box.{Box}
@@ -25,11 +27,11 @@ use Rattle.envelope.specs.declared.Compiled.{Compiled}
 
 -- ---- 1
 
--- dim and pos_dim are in 1..8; where the flag is set, the calibration's sizes are right
+-- dim and pos_dim are in 1..8, and the count of zones is at most 4; where the flag is set, the calibration's sizes are right
 unfoldable pub sizesOk : FuseConfig → Bool
 sizesOk c =
     every
-    (leb 1 (c .dim) ∷ leb (c .dim) 8 ∷ leb 1 (c .«pos_dim») ∷ leb (c .«pos_dim») 8
+    (leb 1 (c .dim) ∷ leb (c .dim) 8 ∷ leb 1 (c .«pos_dim») ∷ leb (c .«pos_dim») 8 ∷ leb (c .zones .count) 4
     ∷ (not (c .calibrated) || calibration.sizesOk (c .calib)) ∷ [])
 
 -- ---- 2
@@ -55,7 +57,11 @@ brakeOk (ZeroVelocityHold kp kv dt) = gainsOk kp kv dt
 -- a zone's radius is not below 0, its speed is above 0
 abbrev pub zoneOk : Contact → Bool
 zoneOk None = true
-zoneOk (Zone radius speed i j) = notBelowZero radius && aboveZero speed
+zoneOk (Zone i j radius speed) = notBelowZero radius && aboveZero speed
+
+-- each zone that counts
+unfoldable pub zonesOk : Zones → Bool
+zonesOk z = all (λ (k : ℕ). zoneOk (zoneAt z k)) (counted z)
 
 -- on the first dim coordinates each center is finite and each scale above 0
 unfoldable pub normOk : Norm → ℕ → Bool
@@ -90,7 +96,7 @@ calibrationOk c t = not (c .calibrated) || calibration.numbersOk (c .calib) t
 unfoldable pub numbersFrom : FuseConfig → Derived → Tables → Bool
 numbersFrom c d t =
     every
-    (limitsOk (c .limits) ∷ brakeOk (c .brake .kind) ∷ zoneOk (c .contact) ∷ normOk (c .norm) (c .dim)
+    (limitsOk (c .limits) ∷ brakeOk (c .brake .kind) ∷ zonesOk (c .zones) ∷ normOk (c .norm) (c .dim)
     ∷ boxOk (c .walls) (c .«pos_dim») ∷ derivedOk d ∷ calibrationOk c t ∷ [])
 
 abbrev pub numbersOk : Format → FuseConfig → Tables → Bool
@@ -114,7 +120,21 @@ stepsOk c = every (countsOk (c .brake) ∷ (not (c .calibrated) || ltb 0 (c .«h
 -- a zone's two channels differ and each is below the declared count
 abbrev pub channelsOk : Contact → ℕ → Bool
 channelsOk None aux = true
-channelsOk (Zone radius speed i j) aux = not (eqb i j) && ltb i aux && ltb j aux
+channelsOk (Zone i j radius speed) aux = not (eqb i j) && ltb i aux && ltb j aux
+
+-- two zones name the same channels in the same order
+abbrev pub samePair : Contact → Contact → Bool
+samePair None z = false
+samePair (Zone i j radius speed) None = false
+samePair (Zone i j radius speed) (Zone k l wide fast) = eqb i k && eqb j l
+
+-- no place before k has the pair of the zone there
+unfoldable pub pairIsOwn : Zones → ℕ → Bool
+pairIsOwn z k = all (λ (m : ℕ). not (samePair (zoneAt z m) (zoneAt z k))) k
+
+-- the channels of each zone that counts are right, and its pair is its own
+unfoldable pub zonesFit : Zones → ℕ → Bool
+zonesFit z aux = all (λ (k : ℕ). channelsOk (zoneAt z k) aux && pairIsOwn z k) (counted z)
 
 -- ---- 17
 
@@ -125,7 +145,7 @@ featuresOk c = not (c .calibrated) || calibration.featuresOk (c .calib)
 -- ---- what is judged of a configuration
 
 abbrev pub channelsFit : FuseConfig → Bool
-channelsFit c = channelsOk (c .contact) (c .«aux_count»)
+channelsFit c = zonesFit (c .zones) (c .«aux_count»)
 
 abbrev pub configJudged : Format → FuseConfig → Tables → List Judged
 configJudged f c t =

@@ -1,11 +1,12 @@
 // The guard's configuration, what is derived from it (R4), and why it is refused.
 ghost use mathlib.Core.Path.{_≡_};
-ghost use Prim.Native.Nat.{min};
+ghost use Prim.Native.Nat.{_<_, min};
 ghost use lib.Ieee.{binary64};
 ghost use Rattle.conformal.specs.Of.{tables};
 ghost use Rattle.envelope.specs.Derive.{kept, lowWalls, highWalls, inverses, isotropic, derived};
 ghost use Rattle.envelope.specs.Steps.{substepsIn};
-ghost use Rattle.envelope.specs.Refusals.{sizesOk, limitsOk, gainsOk, brakeOk, zoneOk, normOk, boxOk, scalarsOk, ordered, derivedOk, calibrationOk, numbersFrom, countsOk, stepsOk, channelsOk, featuresOk, compiled};
+ghost use Rattle.envelope.specs.Slots.{counted};
+ghost use Rattle.envelope.specs.Refusals.{sizesOk, limitsOk, gainsOk, brakeOk, zoneOk, zonesOk, normOk, boxOk, scalarsOk, ordered, derivedOk, calibrationOk, numbersFrom, countsOk, stepsOk, channelsOk, samePair, pairIsOwn, zonesFit, featuresOk, compiled};
 use conformal::Calibration;
 use refusal::Refusal;
 
@@ -33,15 +34,28 @@ pub enum BrakeKind {
     ZeroVelocityHold { k_p: f64, k_v: f64, dt: f64 },
 }
 
-// A slow zone round the point that the camera's channels a0 and a1 give, or none.
+// A slow zone round the point that the camera's channels a0 and a1 give, or none. The channels stand first, beside the case, so that four zones
+// are copied in a few moves.
 pub enum Contact {
     None,
     Zone {
-        radius: f64,
-        v_max: f64,
         a0: u8,
         a1: u8,
+        radius: f64,
+        v_max: f64,
     },
+}
+
+// A place in the list of zones; an array may hold no enum itself.
+pub struct ZoneSlot {
+    pub contact: Contact,
+}
+
+// The slow zones of an arm: the first `count` places of the list, at most four. What stands past the count is not read, and a place
+// that holds none is no zone.
+pub struct Zones {
+    pub count: u8,
+    pub list: [ZoneSlot; 4],
 }
 
 // What a zone counts as that is not seen, since the camera's message is too short for one of its channels or the position has one
@@ -113,7 +127,7 @@ pub struct FuseConfig {
     pub limits: Limits,
     pub norm: Norm,
     pub walls: Box,
-    pub contact: Contact,
+    pub zones: Zones,
     pub absent_camera: AbsentCamera,
     pub brake: BrakeModel,
     pub clamp: ClampMode,
@@ -140,6 +154,16 @@ pub struct Derived {
 pub struct Compiled {
     pub number: u8,
     pub derived: Derived,
+}
+
+// ---- the zones
+
+// How many zones count, no more than the list has.
+pub fn counted(zones: Zones) -> usize
+    ensures { λ r. ⌜ r ≡ counted zones ⌝ }
+{
+    let n = zones.count as usize;
+    if n < 4 { n } else { 4 }
 }
 
 // ---- what is derived
@@ -236,12 +260,17 @@ fn derive(c: FuseConfig) -> Derived
 
 // ---- 1: sizes
 
-// dim, pos_dim and, where the flag is set, the sizes of the calibration.
+// dim, pos_dim, the count of zones and, where the flag is set, the sizes of the calibration.
 fn sizes_ok(c: FuseConfig) -> bool
     ensures { λ r. ⌜ r ≡ sizesOk c ⌝ }
 {
     let k = conformal::sizes_ok(c.calib);
-    (1 <= c.dim) & (c.dim <= 8) & (1 <= c.pos_dim) & (c.pos_dim <= 8) & (!c.calibrated | k)
+    (1 <= c.dim)
+        & (c.dim <= 8)
+        & (1 <= c.pos_dim)
+        & (c.pos_dim <= 8)
+        & (c.zones.count <= 4)
+        & (!c.calibrated | k)
 }
 
 // ---- 2: numbers
@@ -289,16 +318,33 @@ fn zone_ok(contact: Contact) -> bool
     match contact {
         Contact::None => true,
         Contact::Zone {
-            radius,
-            v_max,
             a0: _,
             a1: _,
+            radius,
+            v_max,
         } => {
             let a = fmath::not_below_zero(radius);
             let b = fmath::above_zero(v_max);
             a & b
         }
     }
+}
+
+// Each zone that counts.
+fn zones_ok(zones: Zones) -> bool
+    ensures { λ r. ⌜ r ≡ zonesOk zones ⌝ }
+{
+    let list = zones.list;
+    let n = counted(zones);
+    let mut ok = true;
+    let mut k = 0usize;
+    while k < n {
+        let slot = list[k];
+        let contact = slot.contact;
+        ok = ok & zone_ok(contact);
+        k += 1;
+    }
+    ok
 }
 
 // Entries past dim are not judged.
@@ -373,10 +419,10 @@ fn numbers_ok(c: FuseConfig, d: Derived, center: &[f64; 192], scale: &[f64; 192]
 {
     let brake = c.brake;
     let kind = brake.kind;
-    let contact = c.contact;
+    let zones = c.zones;
     let e = limits_ok(c.limits);
     let f = brake_ok(kind);
-    let g = zone_ok(contact);
+    let g = zones_ok(zones);
     let h = norm_ok(c.norm, c.dim);
     let i = box_ok(c.walls, c.pos_dim);
     let j = derived_ok(d);
@@ -419,12 +465,73 @@ fn channels_ok(contact: Contact, aux_count: usize) -> bool
     match contact {
         Contact::None => true,
         Contact::Zone {
-            radius: _,
-            v_max: _,
             a0,
             a1,
+            radius: _,
+            v_max: _,
         } => (a0 != a1) & ((a0 as usize) < aux_count) & ((a1 as usize) < aux_count),
     }
+}
+
+// Two zones name the same channels in the same order.
+fn same_pair(one: Contact, other: Contact) -> bool
+    ensures { λ r. ⌜ r ≡ samePair one other ⌝ }
+{
+    match one {
+        Contact::None => false,
+        Contact::Zone {
+            a0: i,
+            a1: j,
+            radius: _,
+            v_max: _,
+        } => match other {
+            Contact::None => false,
+            Contact::Zone {
+                a0: k,
+                a1: l,
+                radius: _,
+                v_max: _,
+            } => (i == k) & (j == l),
+        },
+    }
+}
+
+// No place before k has the pair of the zone there.
+fn pair_is_own(zones: Zones, k: usize) -> bool
+    requires { ⌜ k < 4 ⌝ }
+    ensures { λ r. ⌜ r ≡ pairIsOwn zones k ⌝ }
+{
+    let list = zones.list;
+    let slot = list[k];
+    let contact = slot.contact;
+    let mut ok = true;
+    let mut m = 0usize;
+    while m < k {
+        let before = list[m];
+        let other = before.contact;
+        ok = ok & !same_pair(other, contact);
+        m += 1;
+    }
+    ok
+}
+
+// The channels of each zone that counts, and that no two have the same pair.
+fn zones_fit(zones: Zones, aux_count: usize) -> bool
+    ensures { λ r. ⌜ r ≡ zonesFit zones «aux_count» ⌝ }
+{
+    let list = zones.list;
+    let n = counted(zones);
+    let mut ok = true;
+    let mut k = 0usize;
+    while k < n {
+        let slot = list[k];
+        let contact = slot.contact;
+        let right = channels_ok(contact, aux_count);
+        let own = pair_is_own(zones, k);
+        ok = ok & (right & own);
+        k += 1;
+    }
+    ok
 }
 
 // ---- 17: features
@@ -443,12 +550,12 @@ fn features_ok(c: FuseConfig) -> bool
 pub fn compile(c: FuseConfig, center: &[f64; 192], scale: &[f64; 192]) -> Compiled
     ensures { λ r. ⌜ r ≡ compiled binary64 c (tables (now (center .entry)) (now (scale .entry))) ⌝ }
 {
-    let contact = c.contact;
+    let zones = c.zones;
     let derived = derive(c);
     let a = sizes_ok(c);
     let b = numbers_ok(c, derived, center, scale);
     let d = steps_ok(c);
-    let e = channels_ok(contact, c.aux_count);
+    let e = zones_fit(zones, c.aux_count);
     let f = features_ok(c);
     let of_features = Refusal::when(Refusal::WITHDRAWN, !f, 0);
     let of_channels = Refusal::when(Refusal::CHANNELS, !e, of_features);

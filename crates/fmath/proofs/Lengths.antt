@@ -35,9 +35,9 @@ module _ (f : Format) where
   dist-tells a b n = told _ _ _ (sum-tells f +0 (squaredGap f a b) refl (gap-tells a b) n) (fine-root f (sumFrom f +0 (squaredGap f a b) n .value))
 
   -- of points that agree on the coordinates that are read
-  pub dist-same : (a b c : List Float) (n : ℕ) → ((j : ℕ) → j < n → at b j ≡ at c j) → dist f a b n ≡ dist f a c n
+  pub dist-same : (a b c d : List Float) (n : ℕ) → ((j : ℕ) → j < n → at a j ≡ at c j) → ((j : ℕ) → j < n → at b j ≡ at d j) → dist f a b n ≡ dist f c d n
   unfolding dist squaredGap
-  dist-same a b c n e = rw (sum-same (squaredGap f a b) (squaredGap f a c) f +0 n (λ j l. rw (e j l)))
+  dist-same a b c d n e h = rw (sum-same (squaredGap f a b) (squaredGap f c d) f +0 n (λ j l. rw (e j l, h j l)))
 
   pub norm-tells : (v : List Float) (n : ℕ) → Tells (norm f v n)
   unfolding norm finite

@@ -11,14 +11,15 @@ use Rattle.envelope.specs.declared.ActionKind.{ActionKind}
 use Rattle.envelope.specs.declared.ClampMode.{ClampMode}
 use Rattle.envelope.specs.declared.AbsentCamera.{AbsentCamera}
 use Rattle.envelope.specs.declared.BrakeKind.{BrakeKind}
-use Rattle.envelope.specs.declared.Contact.{Contact}
+use Rattle.envelope.specs.declared.ZoneSlot.{ZoneSlot}
+use Rattle.envelope.specs.declared.Zones.{Zones}
 use Rattle.envelope.specs.declared.Limits.{Limits}
 use Rattle.envelope.specs.declared.Norm.{Norm}
 use Rattle.envelope.specs.declared.Box.{Box}
 use Rattle.envelope.specs.declared.BrakeModel.{BrakeModel}
 use Rattle.envelope.specs.declared.FuseConfig.{FuseConfig}
 use Rattle.layout.specs.Places.{count, in8, in16, in32}
-use Rattle.layout.specs.Config.{kindOf, clampOf, absentCameraOf, brakeKindOf, limitsOf, brakeOf, zoneOf, normOf, wallsOf, gateOf, calibrationOf, configOf}
+use Rattle.layout.specs.Config.{kindOf, clampOf, absentCameraOf, brakeKindOf, limitsOf, brakeOf, zoneOf, zonesOf, normOf, wallsOf, gateOf, calibrationOf, configOf}
 
 pub whole-brake : (n : List Float) (c : List ℕ) {kind : BrakeKind} {per rows steps ticks : ℕ}
     → kind ≡ brakeKindOf (count c 4) (at n 6) (at n 7) (at n 8)
@@ -46,12 +47,22 @@ pub whole-gate : (c : List ℕ) {k t0 t1 t2 t3 t4 t5 t6 t7 : ℕ}
 unfolding gateOf
 whole-gate c e e0 e1 e2 e3 e4 e5 e6 e7 = rw (e, e0, e1, e2, e3, e4, e5, e6, e7)
 
-pub whole-config : (n : List Float) (c : List ℕ) {kind : ActionKind} {limits : Limits} {norm : Norm} {walls : Box} {contact : Contact} {brake : BrakeModel} {clamp : ClampMode} {calib : Calibration} {armed ticks : ℕ} {absent : AbsentCamera}
+pub whole-zones : (n : List Float) (c : List ℕ) {k : ℕ} {z0 z1 z2 z3 : ZoneSlot}
+    → k ≡ in8 (count c 5)
+    → z0 ≡ zoneOf (at n 9) (at n 10) (count c 6) (count c 7)
+    → z1 ≡ zoneOf (at n 44) (at n 45) (count c 27) (count c 28)
+    → z2 ≡ zoneOf (at n 46) (at n 47) (count c 29) (count c 30)
+    → z3 ≡ zoneOf (at n 48) (at n 49) (count c 31) (count c 32)
+    → _≡_ {A = Zones} (record { count = k; list = z0 ∷ z1 ∷ z2 ∷ z3 ∷ [] }) (zonesOf n c)
+unfolding zonesOf
+whole-zones n c e e0 e1 e2 e3 = rw (e, e0, e1, e2, e3)
+
+pub whole-config : (n : List Float) (c : List ℕ) {kind : ActionKind} {limits : Limits} {norm : Norm} {walls : Box} {zones : Zones} {brake : BrakeModel} {clamp : ClampMode} {calib : Calibration} {armed ticks : ℕ} {absent : AbsentCamera}
     → kind ≡ kindOf (count c 2)
     → limits ≡ limitsOf n
     → norm ≡ normOf n
     → walls ≡ wallsOf n
-    → contact ≡ zoneOf n c
+    → zones ≡ zonesOf n c
     → brake ≡ brakeOf n c
     → clamp ≡ clampOf (count c 3)
     → armed ≡ in32 (count c 20)
@@ -66,7 +77,7 @@ pub whole-config : (n : List Float) (c : List ℕ) {kind : ActionKind} {limits :
       limits = limits;
       norm = norm;
       walls = walls;
-      contact = contact;
+      zones = zones;
       «absent_camera» = absent;
       brake = brake;
       clamp = clamp;

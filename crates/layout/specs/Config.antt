@@ -1,9 +1,9 @@
--- The configuration in flat arrays: 44 numbers and 27 counts and codes. The calibration's two tables of 192 are lent as they are.
+-- The configuration in flat arrays: 50 numbers and 33 counts and codes. The calibration's two tables of 192 are lent as they are.
 use Prim.Native.Nat.{ℕ, zero, suc}
 use mathlib.Core.Bool.{Bool, _&&_, _||_}
 use Rattle.bits.specs.Choice.{if_then_else_}
 use mathlib.Core.List.{List, [], _∷_, _++_}
-use lib.Dec.{leb, eqb}
+use lib.Dec.{leb, ltb, eqb}
 use lib.Ieee.{Float}
 use Rattle.checked.specs.Each.{at, every}
 use Rattle.conformal.specs.declared.Calibration.{Calibration}
@@ -16,7 +16,8 @@ use Rattle.envelope.specs.declared.AbsentCamera.{AbsentCamera}
 use Rattle.envelope.specs.declared.AbsentCamera.the-variants as A
 use Rattle.envelope.specs.declared.BrakeKind.{BrakeKind}
 use Rattle.envelope.specs.declared.BrakeKind.the-variants as B
-use Rattle.envelope.specs.declared.Contact.{Contact}
+use Rattle.envelope.specs.declared.ZoneSlot.{ZoneSlot}
+use Rattle.envelope.specs.declared.Zones.{Zones}
 use Rattle.envelope.specs.declared.Contact.the-variants as C
 use Rattle.envelope.specs.declared.Limits.{Limits}
 use Rattle.envelope.specs.declared.Norm.{Norm}
@@ -51,10 +52,6 @@ brakeKindOf (suc (suc zero)) kp kv dt = B.BoundedAccel kp kv dt
 brakeKindOf (suc (suc (suc zero))) kp kv dt = B.JerkLimited kp kv dt
 brakeKindOf (suc (suc (suc (suc k)))) kp kv dt = B.ZeroVelocityHold kp kv dt
 
-unfoldable pub contactOf : ℕ → Float → Float → ℕ → ℕ → Contact
-contactOf zero radius speed a0 a1 = C.None
-contactOf (suc k) radius speed a0 a1 = C.Zone radius speed a0 a1
-
 -- ---- the parts, n being the numbers and c the counts
 
 -- numbers 0 to 5
@@ -75,9 +72,19 @@ brakeOf n c = record {
 abbrev pub channelOf : ℕ → ℕ → ℕ
 channelOf own other = if leb other 255 then in8 own else 255
 
--- numbers 9 and 10, counts 5 to 7
-unfoldable pub zoneOf : List Float → List ℕ → Contact
-zoneOf n c = contactOf (count c 5) (at n 9) (at n 10) (channelOf (count c 6) (count c 7)) (channelOf (count c 7) (count c 6))
+unfoldable pub zoneOf : Float → Float → ℕ → ℕ → ZoneSlot
+zoneOf radius speed first second = record { contact = C.Zone (channelOf first second) (channelOf second first) radius speed }
+
+-- count 5; the first zone is numbers 9 and 10 and counts 6 and 7, the further ones are numbers 44 to 49 and counts 27 to 32
+unfoldable pub zonesOf : List Float → List ℕ → Zones
+zonesOf n c = record {
+  count = in8 (count c 5);
+  list =
+      zoneOf (at n 9) (at n 10) (count c 6) (count c 7)
+      ∷ zoneOf (at n 44) (at n 45) (count c 27) (count c 28)
+      ∷ zoneOf (at n 46) (at n 47) (count c 29) (count c 30)
+      ∷ zoneOf (at n 48) (at n 49) (count c 31) (count c 32) ∷ [];
+}
 
 -- numbers 11 to 26
 unfoldable pub normOf : List Float → Norm
@@ -110,7 +117,7 @@ configOf n c = record {
   limits = limitsOf n;
   norm = normOf n;
   walls = wallsOf n;
-  contact = zoneOf n c;
+  zones = zonesOf n c;
   «absent_camera» = absentCameraOf (count c 26);
   brake = brakeOf n c;
   clamp = clampOf (count c 3);
@@ -123,25 +130,33 @@ configOf n c = record {
 
 -- ---- what fits, field by field of the table (R0)
 -- Fields as wide as the array: dim, pos_dim and aux_count (counts 0, 1 and 21).
--- Cut, since row 1 or 3 refuses all that does not fit: substeps, commit and brake_steps (8 to 10), the counted terms (12 to 19), mask and n_terms (23, 24).
--- Judged here: codes and flags (2 to 5, 22 and 26), the channels of a contact (6 and 7), react_ticks (11), armed (20) and, with a calibration, horizon_ticks (25).
+-- Cut, since row 1 or 3 refuses all that does not fit: the count of zones (5), substeps, commit and brake_steps (8 to 10), the counted terms (12 to 19), mask and n_terms (23, 24).
+-- Judged here: codes and flags (2 to 4, 22 and 26), the channels of each zone that counts (6, 7 and 27 to 32), react_ticks (11), armed (20) and, with a calibration, horizon_ticks (25).
 
--- a contact's channels fit, or row 4 refuses them: they are equal, or one is at or above aux_count
-unfoldable pub zoneFits : List ℕ → Bool
-zoneFits c =
-    (leb (count c 6) 255 && leb (count c 7) 255) || eqb (count c 6) (count c 7) || leb (count c 21) (count c 6) || leb (count c 21) (count c 7)
+-- a zone's channels fit, or row 4 refuses them by themselves: they are equal, or one is at or above aux_count
+unfoldable pub zoneHeld : ℕ → ℕ → ℕ → Bool
+zoneHeld first second aux = (leb first 255 && leb second 255) || eqb first second || leb aux first || leb aux second
+
+-- those of each zone that counts
+unfoldable pub zonesHeld : List ℕ → Bool
+zonesHeld c =
+    every
+    ((ltb (count c 5) 1 || zoneHeld (count c 6) (count c 7) (count c 21))
+    ∷ (ltb (count c 5) 2 || zoneHeld (count c 27) (count c 28) (count c 21))
+    ∷ (ltb (count c 5) 3 || zoneHeld (count c 29) (count c 30) (count c 21))
+    ∷ (ltb (count c 5) 4 || zoneHeld (count c 31) (count c 32) (count c 21)) ∷ [])
 
 -- each code and each flag is one of its kind
 unfoldable pub codesFit : List ℕ → Bool
-codesFit c = every (leb (count c 2) 4 ∷ leb (count c 3) 1 ∷ leb (count c 4) 4 ∷ leb (count c 5) 1 ∷ leb (count c 22) 1 ∷ leb (count c 26) 1 ∷ [])
+codesFit c = every (leb (count c 2) 4 ∷ leb (count c 3) 1 ∷ leb (count c 4) 4 ∷ leb (count c 22) 1 ∷ leb (count c 26) 1 ∷ [])
 
 -- react_ticks and armed fit their fields
 unfoldable pub fieldsFit : List ℕ → Bool
 fieldsFit c = every (short (count c 11) ∷ long (count c 20) ∷ [])
 
--- all of it; the channels are read where there is a contact, horizon_ticks where there is a calibration
+-- all of it; the channels are read where their zone counts, horizon_ticks where there is a calibration
 unfoldable pub countsFit : List ℕ → Bool
-countsFit c = every (codesFit c ∷ fieldsFit c ∷ (eqb (count c 5) 0 || zoneFits c) ∷ (eqb (count c 22) 0 || long (count c 25)) ∷ [])
+countsFit c = every (codesFit c ∷ fieldsFit c ∷ zonesHeld c ∷ (eqb (count c 22) 0 || long (count c 25)) ∷ [])
 
 -- ---- what is derived, laid out in 29 numbers
 unfoldable pub derivedFlat : Derived → List Float

@@ -1,8 +1,8 @@
-// The configuration: 44 numbers and 27 counts and codes. The calibration's two tables of 192 are lent as they are.
+// The configuration: 50 numbers and 33 counts and codes. The calibration's two tables of 192 are lent as they are.
 ghost use mathlib.Core.Path.{_≡_};
 ghost use Prim.Native.Nat.{_+_, _≤_};
 ghost use Rattle.layout.specs.Places.{part};
-ghost use Rattle.layout.specs.Config.{kindOf, clampOf, absentCameraOf, brakeKindOf, contactOf, channelOf, limitsOf, brakeOf, zoneOf, normOf, wallsOf, gateOf, calibrationOf, configOf, zoneFits, codesFit, fieldsFit, countsFit, derivedFlat};
+ghost use Rattle.layout.specs.Config.{kindOf, clampOf, absentCameraOf, brakeKindOf, channelOf, limitsOf, brakeOf, zoneOf, zonesOf, normOf, wallsOf, gateOf, calibrationOf, configOf, zoneHeld, zonesHeld, codesFit, fieldsFit, countsFit, derivedFlat};
 use crate::places::to_u8;
 use crate::places::to_u16;
 use crate::places::to_u32;
@@ -21,6 +21,8 @@ use envelope::FuseConfig;
 use envelope::Limits;
 use envelope::Norm;
 use envelope::Substeps;
+use envelope::ZoneSlot;
+use envelope::Zones;
 
 // ---- codes: one that is none gives the last kind, and of the choices for an absent camera the slow one
 
@@ -66,23 +68,9 @@ fn brake_kind_of(k: u64, k_p: f64, k_v: f64, dt: f64) -> BrakeKind
     }
 }
 
-fn contact_of(k: u64, radius: f64, v_max: f64, a0: u8, a1: u8) -> Contact
-    ensures { λ r. ⌜ r ≡ contactOf k radius «v_max» a0 a1 ⌝ }
-{
-    match k {
-        0 => Contact::None,
-        _ => Contact::Zone {
-            radius,
-            v_max,
-            a0,
-            a1,
-        },
-    }
-}
-
 // ---- the parts
 
-fn limits_of(n: &[f64; 44]) -> Limits
+fn limits_of(n: &[f64; 50]) -> Limits
     ensures { λ r. ⌜ r ≡ limitsOf (now (n .entry)) ⌝ }
 {
     Limits {
@@ -95,7 +83,7 @@ fn limits_of(n: &[f64; 44]) -> Limits
     }
 }
 
-fn brake_of(n: &[f64; 44], c: &[u64; 27]) -> BrakeModel
+fn brake_of(n: &[f64; 50], c: &[u64; 33]) -> BrakeModel
     ensures { λ r. ⌜ r ≡ brakeOf (now (n .entry)) (now (c .entry)) ⌝ }
 {
     let kind = brake_kind_of(c[4], n[6], n[7], n[8]);
@@ -119,16 +107,37 @@ fn channel(own: u64, other: u64) -> u8
     if other <= 255 { to_u8(own) } else { 255 }
 }
 
-fn zone_of(n: &[f64; 44], c: &[u64; 27]) -> Contact
-    ensures { λ r. ⌜ r ≡ zoneOf (now (n .entry)) (now (c .entry)) ⌝ }
+fn zone_of(radius: f64, v_max: f64, first: u64, second: u64) -> ZoneSlot
+    ensures { λ r. ⌜ r ≡ zoneOf radius «v_max» first second ⌝ }
 {
-    let a0 = channel(c[6], c[7]);
-    let a1 = channel(c[7], c[6]);
-    contact_of(c[5], n[9], n[10], a0, a1)
+    let a0 = channel(first, second);
+    let a1 = channel(second, first);
+    ZoneSlot {
+        contact: Contact::Zone {
+            a0,
+            a1,
+            radius,
+            v_max,
+        },
+    }
 }
 
-fn eight(n: &[f64; 44], start: usize) -> [f64; 8]
-    requires { ⌜ start + 8 ≤ 44 ⌝ }
+// The first zone stands among the other fields, the further ones at the arrays' ends.
+fn zones_of(n: &[f64; 50], c: &[u64; 33]) -> Zones
+    ensures { λ r. ⌜ r ≡ zonesOf (now (n .entry)) (now (c .entry)) ⌝ }
+{
+    let count = to_u8(c[5]);
+    let list = [
+        zone_of(n[9], n[10], c[6], c[7]),
+        zone_of(n[44], n[45], c[27], c[28]),
+        zone_of(n[46], n[47], c[29], c[30]),
+        zone_of(n[48], n[49], c[31], c[32]),
+    ];
+    Zones { count, list }
+}
+
+fn eight(n: &[f64; 50], start: usize) -> [f64; 8]
+    requires { ⌜ start + 8 ≤ 50 ⌝ }
     ensures { λ r. ⌜ r ≡ part (now (n .entry)) start 8 ⌝ }
 {
     [
@@ -143,7 +152,7 @@ fn eight(n: &[f64; 44], start: usize) -> [f64; 8]
     ]
 }
 
-fn norm_of(n: &[f64; 44]) -> Norm
+fn norm_of(n: &[f64; 50]) -> Norm
     ensures { λ r. ⌜ r ≡ normOf (now (n .entry)) ⌝ }
 {
     let center = eight(n, 11);
@@ -151,7 +160,7 @@ fn norm_of(n: &[f64; 44]) -> Norm
     Norm { center, scale }
 }
 
-fn walls_of(n: &[f64; 44]) -> Box
+fn walls_of(n: &[f64; 50]) -> Box
     ensures { λ r. ⌜ r ≡ wallsOf (now (n .entry)) ⌝ }
 {
     let lo = eight(n, 27);
@@ -159,7 +168,7 @@ fn walls_of(n: &[f64; 44]) -> Box
     Box { lo, hi }
 }
 
-fn gate_of(c: &[u64; 27]) -> GateSpec
+fn gate_of(c: &[u64; 33]) -> GateSpec
     ensures { λ r. ⌜ r ≡ gateOf (now (c .entry)) ⌝ }
 {
     let n_terms = to_u8(c[24]);
@@ -176,7 +185,7 @@ fn gate_of(c: &[u64; 27]) -> GateSpec
     GateSpec { n_terms, terms }
 }
 
-fn calibration_of(n: &[f64; 44], c: &[u64; 27]) -> Calibration
+fn calibration_of(n: &[f64; 50], c: &[u64; 33]) -> Calibration
     ensures { λ r. ⌜ r ≡ calibrationOf (now (n .entry)) (now (c .entry)) ⌝ }
 {
     let mask = to_u32(c[23]);
@@ -191,14 +200,14 @@ fn calibration_of(n: &[f64; 44], c: &[u64; 27]) -> Calibration
 // ---- all of it
 
 // The configuration that the arrays stand for.
-pub fn config_of(n: &[f64; 44], c: &[u64; 27]) -> FuseConfig
+pub fn config_of(n: &[f64; 50], c: &[u64; 33]) -> FuseConfig
     ensures { λ r. ⌜ r ≡ configOf (now (n .entry)) (now (c .entry)) ⌝ }
 {
     let kind = kind_of(c[2]);
     let limits = limits_of(n);
     let norm = norm_of(n);
     let walls = walls_of(n);
-    let contact = zone_of(n, c);
+    let zones = zones_of(n, c);
     let brake = brake_of(n, c);
     let clamp = clamp_of(c[3]);
     let armed = to_u32(c[20]);
@@ -212,7 +221,7 @@ pub fn config_of(n: &[f64; 44], c: &[u64; 27]) -> FuseConfig
         limits,
         norm,
         walls,
-        contact,
+        zones,
         absent_camera,
         brake,
         clamp,
@@ -226,35 +235,48 @@ pub fn config_of(n: &[f64; 44], c: &[u64; 27]) -> FuseConfig
 
 // ---- what fits
 
-// The channels fit their fields, or are refused by the table: they are equal, or one is at or above the declared count.
-fn zone_fits(c: &[u64; 27]) -> bool
-    ensures { λ r. ⌜ r ≡ zoneFits (now (c .entry)) ⌝ }
+// A zone's channels are held by their fields, or are refused by the table, by themselves: they are equal, or one is at or above the declared count.
+fn zone_held(first: u64, second: u64, aux: u64) -> bool
+    ensures { λ r. ⌜ r ≡ zoneHeld first second aux ⌝ }
 {
-    ((c[6] <= 255) & (c[7] <= 255)) | (c[6] == c[7]) | (c[21] <= c[6]) | (c[21] <= c[7])
+    ((first <= 255) & (second <= 255)) | (first == second) | (aux <= first) | (aux <= second)
+}
+
+// Those of each zone that counts.
+fn zones_held(c: &[u64; 33]) -> bool
+    ensures { λ r. ⌜ r ≡ zonesHeld (now (c .entry)) ⌝ }
+{
+    let n = c[5];
+    let aux = c[21];
+    let i = zone_held(c[6], c[7], aux);
+    let j = zone_held(c[27], c[28], aux);
+    let k = zone_held(c[29], c[30], aux);
+    let l = zone_held(c[31], c[32], aux);
+    ((n < 1) | i) & ((n < 2) | j) & ((n < 3) | k) & ((n < 4) | l)
 }
 
 // Each code and each flag is one of its kind.
-fn codes_fit(c: &[u64; 27]) -> bool
+fn codes_fit(c: &[u64; 33]) -> bool
     ensures { λ r. ⌜ r ≡ codesFit (now (c .entry)) ⌝ }
 {
-    (c[2] <= 4) & (c[3] <= 1) & (c[4] <= 4) & (c[5] <= 1) & (c[22] <= 1) & (c[26] <= 1)
+    (c[2] <= 4) & (c[3] <= 1) & (c[4] <= 4) & (c[22] <= 1) & (c[26] <= 1)
 }
 
 // The ticks to react and the trip bits fit their fields.
-fn fields_fit(c: &[u64; 27]) -> bool
+fn fields_fit(c: &[u64; 33]) -> bool
     ensures { λ r. ⌜ r ≡ fieldsFit (now (c .entry)) ⌝ }
 {
     (c[11] <= 65535) & (c[20] <= 4294967295)
 }
 
 // All that the table has no row for fits, as far as it is read.
-pub fn counts_fit(c: &[u64; 27]) -> bool
+pub fn counts_fit(c: &[u64; 33]) -> bool
     ensures { λ r. ⌜ r ≡ countsFit (now (c .entry)) ⌝ }
 {
     let codes = codes_fit(c);
     let fields = fields_fit(c);
-    let zone = zone_fits(c);
-    codes & fields & ((c[5] == 0) | zone) & ((c[22] == 0) | (c[25] <= 4294967295))
+    let zones = zones_held(c);
+    codes & fields & zones & ((c[22] == 0) | (c[25] <= 4294967295))
 }
 
 // Lays what is derived out in the array.

@@ -23,7 +23,7 @@ use Rattle.conformal.specs.declared.Verdict.the-variants as verdict
 use Rattle.envelope.specs.declared.ActionKind.the-variants.{EePosition}
 use Rattle.envelope.specs.declared.ClampMode.the-variants.{Project}
 use Rattle.envelope.specs.declared.AbsentCamera.the-variants.{Slow}
-use Rattle.envelope.specs.declared.Contact.the-variants.{None}
+use Rattle.envelope.specs.Slots.{noZones}
 use Rattle.envelope.specs.declared.FuseConfig.{FuseConfig}
 use Rattle.tier0.specs.Rule.{SPEED}
 use Rattle.tier0.specs.Of.{chunkAnswer, chunkOut}
@@ -102,7 +102,7 @@ plane = record {
   limits = record { dt = one; «v_max» = num 0x4014_0000_0000_0000; «a_max» = one; «j_max» = one; «reach_max» = one; margin = +0 };
   norm = normOf;
   walls = wallsOf (card 0 2! 0 1);
-  contact = None;
+  zones = noZones;
   «absent_camera» = Slow;
   brake = brakeOf (card 0 2! 0 1);
   clamp = Project;

@@ -1,7 +1,7 @@
 -- The four beliefs, and what is easily mixed up with the first: each follows from the promises of the crate that has the entry.
-use Prim.Native.Nat.{ℕ}
-use mathlib.Core.Path.{_≡_, refl, ap, _∙_}
-use mathlib.Core.Bool.{false, not, _&&_, _||_}
+use Prim.Native.Nat.{ℕ, min}
+use mathlib.Core.Path.{_≡_, refl, sym, ap, subst, _∙_}
+use mathlib.Core.Bool.{Bool, true, false, not, _&&_, _||_, false≢true}
 use mathlib.Core.List.{List, [], _∷_, _++_}
 use native.Mathlib.Omega.{arith}
 use borrow.Author.Tests.{eq-eqb}
@@ -12,44 +12,48 @@ use Rattle.refusal.specs.Order.{Judged, computed, _when_, refusal, refusedFor}
 use Rattle.refusal.specs.Chain.{chain, first-refuses}
 use Rattle.fmath.specs.Answer.{someNotFinite}
 use Rattle.checked.specs.Finite.{+0}
-use Rattle.checked.specs.Checked.{Checked}
+use Rattle.checked.specs.Each.{some}
+use Rattle.checked.proofs.Each.{_&&≡_, refuted, some-there}
 use Rattle.fmath.specs.Norm.{dist}
 use Rattle.workspace.specs.declared.WallMasks.{WallMasks}
 use Rattle.chunk.specs.Refusals.{chunkReasons}
 use Rattle.chunk.specs.declared.Header.{Header}
 use Rattle.conformal.specs.Rule.{Tables}
-use Rattle.envelope.specs.Refusals.{configJudged}
+use Rattle.envelope.specs.Slots.{counted, zoneAt}
+use Rattle.envelope.specs.Refusals.{sizesOk, numbersOk, stepsOk, samePair, channelsFit, configJudged}
 use Rattle.envelope.specs.Promises.{absentBy}
 use Rattle.envelope.specs.declared.AbsentCamera.the-variants as absent
-use Rattle.envelope.specs.declared.Contact.the-variants.{None}
+use Rattle.envelope.specs.declared.Contact.{Contact}
+use Rattle.envelope.specs.declared.Contact.the-variants.{Zone}
+use Rattle.envelope.proofs.Promises.{promised as envelope}
 use Rattle.envelope.specs.declared.FuseConfig.{FuseConfig}
 use Rattle.tier0.specs.declared.Checks.{Checks}
-use Rattle.tier0.specs.Rule.{CONTACT, Slow, zoneStep, slowZone}
+use Rattle.tier0.specs.Rule.{CONTACT}
 use Rattle.tier0.specs.Chunk.{someLonger}
 use Rattle.tier0.specs.Refusals.{answerAt as checked}
 use Rattle.tier0.specs.Of.{checksOf, lentToAction, actionRuling, actionRefusal, actionAnswer, lentToChunk, chunkRuling, chunkRefusal, chunkAnswer}
-use Rattle.tier0.specs.Promises.{tripsIn, raised, beforeFirst, ZoneUnseen}
+use Rattle.tier0.specs.Promises.{tripsIn, raised, beforeFirst, NoZones, zoneFound, insideAt, ZoneUnseen, InsideUnseen}
 use Rattle.tier0.specs.declared.Tier0Out.the-variants as check
-use Rattle.tier0.proofs.Promises.{chunk-raised, action-raised, no-contact-no-trip, no-contact-no-action-trip}
+use Rattle.tier0.proofs.Promises.{no-contact-no-trip, no-contact-no-action-trip}
 use Rattle.tier0.proofs.Within.{chunk-touched, action-touched, trips-raised}
-use Rattle.tier0.proofs.Walled.{from-rule}
+use Rattle.tier0.proofs.Leash.{chunk-contact, action-contact}
 use Rattle.tier0.proofs.Zones.{no-contact-as-unarmed, unseen-is-inside}
 use Rattle.course.specs.Forecast.{placeOf}
 use Rattle.brake.specs.declared.BrakeOut.the-variants as forecast
 use Rattle.brake.specs.declared.Sent.the-variants as sent
 use Rattle.brake.specs.Answer.{answerAt as foreseen, plan, lentJudged, forecastRefusal, forecastAnswer, rowLent, sentAt, masksSent, brakeSent, brakeRefusal, brakeAnswer, holdSent, holdRefusal, holdAnswer}
 use Rattle.brake.proofs.Promises.{feasible-exactly}
-use Rattle.promises.specs.Beliefs.{EmptyBoxSlowsNothing, SilentCameraSlows, OneChannelIs4, OneChannelIsRefused, TouchingTripsNothing, StartIsNotInspected}
+use Rattle.promises.specs.Beliefs.{EmptyBoxSlowsNothing, SilentCameraSlows, ChannelsAre4, OneChannelIsRefused, SamePairIsRefused, TouchingTripsNothing, StartIsNotInspected}
 
 -- ---- an empty contact box
 
-chunk-not-raised : (c : FuseConfig) (tabs : Tables) → c .contact ≡ None → (p aux rows : List Float) (k : Header) (room : ℕ) → raised CONTACT (tripsIn (chunkAnswer binary64 c tabs p aux rows k room)) ≡ false
+chunk-not-raised : (c : FuseConfig) (tabs : Tables) → NoZones (c .zones) → (p aux rows : List Float) (k : Header) (room : ℕ) → raised CONTACT (tripsIn (chunkAnswer binary64 c tabs p aux rows k room)) ≡ false
 unfolding chunkAnswer chunkRuling checksOf
 chunk-not-raised c tabs is p aux rows k room =
     trips-raised CONTACT (chunkRefusal binary64 c tabs p aux rows k room) (chunkRuling binary64 c p aux rows (k .horizon) .value) refl
     (no-contact-no-trip binary64 (checksOf binary64 c) p aux rows (replicate 512 +0) (k .horizon) is)
 
-action-not-raised : (c : FuseConfig) (tabs : Tables) → c .contact ≡ None → (p aux prev a : List Float) (room : ℕ) → raised CONTACT (tripsIn (actionAnswer binary64 c tabs p aux prev a room)) ≡ false
+action-not-raised : (c : FuseConfig) (tabs : Tables) → NoZones (c .zones) → (p aux prev a : List Float) (room : ℕ) → raised CONTACT (tripsIn (actionAnswer binary64 c tabs p aux prev a room)) ≡ false
 unfolding actionAnswer actionRuling checksOf
 action-not-raised c tabs is p aux prev a room =
     trips-raised CONTACT (actionRefusal binary64 c tabs p aux prev a room) (actionRuling binary64 c p aux prev a .value) refl
@@ -64,36 +68,63 @@ empty-box-slows-nothing = record {
 
 -- ---- a silent camera
 
-module _ (c : FuseConfig) (tabs : Tables) (p aux : List Float) (radius speed : Float) (i j : ℕ) (new : c .«absent_camera» ≡ absent.Slow) (silent : ZoneUnseen (c .armed) (c .contact) p aux radius speed i j) where
+first-of-one : (test : ℕ → Bool) (n : ℕ) → n ≡ 1 → some test (min n 4) ≡ test 0
+unfolding some
+first-of-one test n one = rw one
+
+module _ (c : FuseConfig) (tabs : Tables) (k : ℕ) (p aux : List Float) (radius speed : Float) (i j : ℕ) (new : c .«absent_camera» ≡ absent.Slow) (silent : ZoneUnseen (c .armed) (c .zones) k p aux radius speed i j) where
   abbrev s : Checks
   s = checksOf binary64 c
 
-  inside : slowZone binary64 s p aux .value ≡ zoneStep binary64 (c .limits .dt) speed .value
+  told : InsideUnseen binary64 s k p aux speed
   unfolding checksOf
-  inside = ap (λ (z : Checked Slow). z .value) (unseen-is-inside binary64 s p aux radius speed i j new silent)
+  told = unseen-is-inside binary64 s k p aux radius speed i j new silent
 
-  silent-chunk : (rows : List Float) (k : Header) (room trips dims : ℕ) (peak : Float) (walls : WallMasks)
-      → chunkAnswer binary64 c tabs p aux rows k room ≡ check.Passed trips dims peak walls
-      → raised CONTACT trips ≡ someLonger binary64 (beforeFirst binary64 c p aux rows) rows (c .dim) (mul binary64 speed (c .limits .dt)) (k .horizon)
-  unfolding chunkAnswer chunkRuling checksOf zoneStep
-  silent-chunk rows k room trips dims peak walls e =
-      ap (raised CONTACT) (from-rule (chunkRefusal binary64 c tabs p aux rows k room) (chunkRuling binary64 c p aux rows (k .horizon) .value) trips dims peak walls e .same-trips)
-      ∙ chunk-raised binary64 s p aux rows (replicate 512 +0) (k .horizon) .contact
-      ∙ ap (λ (z : Slow). z .inside && someLonger binary64 (beforeFirst binary64 c p aux rows) rows (c .dim) (z .step) (k .horizon)) inside
+  one-step : mul binary64 speed (s .dt) ≡ mul binary64 speed (c .limits .dt)
+  unfolding checksOf
+  one-step = refl
+
+  -- a test that holds of the zone's step holds of some zone that the arm is inside
+  of-some : (longer : Float → Bool) → longer (mul binary64 speed (c .limits .dt)) ≡ true → some (λ (z : ℕ). insideAt binary64 s p aux z && longer (zoneFound binary64 s p aux z .step)) (counted (c .zones)) ≡ true
+  of-some longer e = some-there (λ (z : ℕ). insideAt binary64 s p aux z && longer (zoneFound binary64 s p aux z .step)) (counted (c .zones)) k (silent .counts) (told .counts-as-inside &&≡ (ap longer (told .its-step ∙ one-step) ∙ e))
+
+  silent-chunk : (rows : List Float) (h : Header) (room trips dims : ℕ) (peak : Float) (walls : WallMasks)
+      → chunkAnswer binary64 c tabs p aux rows h room ≡ check.Passed trips dims peak walls
+      → someLonger binary64 (beforeFirst binary64 c p aux rows) rows (c .dim) (mul binary64 speed (c .limits .dt)) (h .horizon) ≡ true → raised CONTACT trips ≡ true
+  silent-chunk rows h room trips dims peak walls e long =
+      chunk-contact binary64 c tabs p aux rows h room trips dims peak walls e ∙ of-some (λ (x : Float). someLonger binary64 (beforeFirst binary64 c p aux rows) rows (c .dim) x (h .horizon)) long
 
   silent-action : (prev a : List Float) (room trips dims : ℕ) (peak : Float) (walls : WallMasks)
       → actionAnswer binary64 c tabs p aux prev a room ≡ check.Passed trips dims peak walls
+      → lt (mul binary64 speed (c .limits .dt)) (dist binary64 a prev (c .dim) .value) ≡ true → raised CONTACT trips ≡ true
+  silent-action prev a room trips dims peak walls e long =
+      action-contact binary64 c tabs p aux prev a room trips dims peak walls e ∙ of-some (λ (x : Float). lt x (dist binary64 a prev (c .dim) .value)) long
+
+  -- of the only zone there is no other to exceed
+  of-only : c .zones .count ≡ 1 → (longer : Float → Bool) → some (λ (z : ℕ). insideAt binary64 s p aux z && longer (zoneFound binary64 s p aux z .step)) (counted (c .zones)) ≡ longer (mul binary64 speed (c .limits .dt))
+  of-only one longer =
+      let first : k ≡ 0 = omega (arith, silent .counts, one) in
+      first-of-one (λ (z : ℕ). insideAt binary64 s p aux z && longer (zoneFound binary64 s p aux z .step)) (c .zones .count) one
+      ∙ (subst (λ (z : ℕ). (insideAt binary64 s p aux z && longer (zoneFound binary64 s p aux z .step)) ≡ longer (mul binary64 speed (c .limits .dt))) first (told .counts-as-inside &&≡ ap longer (told .its-step ∙ one-step)))
+
+  only-chunk : c .zones .count ≡ 1 → (rows : List Float) (h : Header) (room trips dims : ℕ) (peak : Float) (walls : WallMasks)
+      → chunkAnswer binary64 c tabs p aux rows h room ≡ check.Passed trips dims peak walls
+      → raised CONTACT trips ≡ someLonger binary64 (beforeFirst binary64 c p aux rows) rows (c .dim) (mul binary64 speed (c .limits .dt)) (h .horizon)
+  only-chunk one rows h room trips dims peak walls e =
+      chunk-contact binary64 c tabs p aux rows h room trips dims peak walls e ∙ of-only one (λ (x : Float). someLonger binary64 (beforeFirst binary64 c p aux rows) rows (c .dim) x (h .horizon))
+
+  only-action : c .zones .count ≡ 1 → (prev a : List Float) (room trips dims : ℕ) (peak : Float) (walls : WallMasks)
+      → actionAnswer binary64 c tabs p aux prev a room ≡ check.Passed trips dims peak walls
       → raised CONTACT trips ≡ lt (mul binary64 speed (c .limits .dt)) (dist binary64 a prev (c .dim) .value)
-  unfolding actionAnswer actionRuling checksOf zoneStep
-  silent-action prev a room trips dims peak walls e =
-      ap (raised CONTACT) (from-rule (actionRefusal binary64 c tabs p aux prev a room) (actionRuling binary64 c p aux prev a .value) trips dims peak walls e .same-trips)
-      ∙ action-raised binary64 s p aux prev a .contact
-      ∙ ap (λ (z : Slow). z .inside && lt (z .step) (dist binary64 a prev (c .dim) .value)) inside
+  only-action one prev a room trips dims peak walls e =
+      action-contact binary64 c tabs p aux prev a room trips dims peak walls e ∙ of-only one (λ (x : Float). lt x (dist binary64 a prev (c .dim) .value))
 
 pub silent-camera-slows : SilentCameraSlows
-silent-camera-slows c tabs p aux radius speed i j new silent = record {
-  chunk-raised = silent-chunk c tabs p aux radius speed i j new silent;
-  action-raised = silent-action c tabs p aux radius speed i j new silent;
+silent-camera-slows c tabs k p aux radius speed i j new silent = record {
+  chunk-raised = silent-chunk c tabs k p aux radius speed i j new silent;
+  action-raised = silent-action c tabs k p aux radius speed i j new silent;
+  only-zone-chunk = only-chunk c tabs k p aux radius speed i j new silent;
+  only-zone-action = only-action c tabs k p aux radius speed i j new silent;
 }
 
 -- ---- one camera channel for both coordinates
@@ -128,11 +159,24 @@ module _ (c : FuseConfig) (tabs : Tables) (four : refusal (configJudged binary64
   unfolding holdAnswer holdRefusal
   hold-4 p room = ap (λ (n : ℕ). sentAt n (masksSent binary64 c p)) (is-4 (rowLent c (someNotFinite p) room ++ (computed when not (holdSent binary64 c p .sound) ∷ [])))
 
-  all-4 : OneChannelIs4 c tabs
+  all-4 : ChannelsAre4 c tabs
   all-4 = record { configuration-is-4 = four; chunk-is-4 = chunk-4; action-is-4 = action-4; forecast-is-4 = forecast-4; brake-is-4 = brake-4; hold-is-4 = hold-4 }
 
+-- where the channels do not fit, and nothing before them is refused
+unfit-4 : (c : FuseConfig) (tabs : Tables) → channelsFit c ≡ false → sizesOk c ≡ true → numbersOk binary64 c tabs ≡ true → stepsOk c ≡ true → ChannelsAre4 c tabs
+unfit-4 c tabs unfit sizes numbers counts = all-4 c tabs (rw (sizes, numbers, counts, unfit))
+
 pub one-channel-is-refused : OneChannelIsRefused
-one-channel-is-refused c tabs radius speed i is sizes numbers counts = all-4 c tabs (rw (sizes, numbers, counts, is, eq-eqb i i refl))
+one-channel-is-refused c tabs k radius speed i l is =
+    unfit-4 c tabs
+    (refuted (channelsFit c) (λ fit. false≢true (rw (is, eq-eqb i i refl) at (envelope.zones-judged (c .zones) (c .«aux_count») .each-channel fit k l))))
+
+-- ---- one pair for two zones
+
+pub same-pair-is-refused : SamePairIsRefused
+same-pair-is-refused c tabs m k radius speed wide fast i j before l first second =
+    unfit-4 c tabs
+    (refuted (channelsFit c) (λ fit. false≢true (sym (envelope.zones-judged (c .zones) (c .«aux_count») .no-pair-twice fit m k before l) ∙ ap (λ (x : Contact). samePair x (zoneAt (c .zones) k)) first ∙ ap (samePair (Zone i j radius speed)) second ∙ envelope.pairs-told radius speed wide fast i j i j .repeated refl refl)))
 
 -- ---- a limit that is touched
 

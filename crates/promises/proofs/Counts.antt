@@ -1,27 +1,31 @@
 -- The number that C is given for a count is the table's for the count as it came (`specs/Counts.antt`).
 use Prim.Native.Nat.{ℕ, zero, suc, _+_, _*_, _≤_, _<_, min}
-use mathlib.Core.Path.{_≡_, refl, sym, _∙_}
-use mathlib.Core.Bool.{Bool, true, false, not, _&&_, _||_}
-use mathlib.Core.List.{List}
+use mathlib.Core.Path.{_≡_, refl, sym, ap, _∙_}
+use mathlib.Core.Bool.{Bool, true, false, not, _&&_, _||_, and-false}
+use mathlib.Core.List.{List, [], _∷_}
 use native.Mathlib.Omega.{arith}
 use native.Mathlib.Nat.{min-eq-left, min-eq-right, mul-le-mul-left}
 use borrow.Author.Tests.{ltb-true, ltb-false, leb-true, leb-false, eqb-true, eqb-false, lt-ltb, le-ltb, le-leb, lt-leb, eq-eqb, ne-eqb}
-use lib.Dec.{leb, ltb, eqb, eqb·suc-zero}
+use lib.Dec.{leb, ltb, eqb}
 use lib.Ieee.{Float}
 use Rattle.refusal.specs.Order.{refusal}
 use Rattle.bits.specs.Choice.{if_then_else_}
 use Rattle.checked.specs.Each.{at, all, every, every-from}
-use Rattle.checked.proofs.Each.{and-left, and-right, all-at, every-at}
+use Rattle.checked.proofs.Each.{and-left, and-right, all-at, all-same, all-fails, all-fails-at, every-at}
 use Rattle.chunk.specs.declared.Header.{Header}
 use Rattle.chunk.specs.Refusals.{heldReasons}
 use Rattle.conformal.specs.Refusals.{named, withoutStall, sizesOk, featuresOk}
 use Rattle.conformal.specs.Rule.{termAt}
-use Rattle.envelope.specs.Refusals.{countsOk, channelsOk}
+use Rattle.envelope.specs.Slots.{counted, zoneAt}
+use Rattle.envelope.specs.Refusals.{countsOk, channelsOk, pairIsOwn, zonesFit}
+use Rattle.envelope.specs.declared.Contact.the-variants.{Zone}
+use Rattle.envelope.specs.declared.Zones.{Zones}
+use Rattle.envelope.proofs.Promises.{same-judged}
 use Rattle.layout.specs.Places.{count, in8, in16, in32}
 use Rattle.layout.specs.Chunk.{chunkOf}
 use Rattle.layout.specs.Trail.{trailOf}
-use Rattle.promises.specs.Counts.{TrailCounts, GateCounts, FeatureCounts, StepCounts, ChannelCounts, ChoiceCounts, cut, HeaderCounts, HeaderKept, HeaderLetGo}
-use Rattle.layout.specs.Config.{brakeOf, gateOf, calibrationOf, contactOf, channelOf, zoneOf, zoneFits, absentCameraOf, configOf}
+use Rattle.promises.specs.Counts.{TrailCounts, GateCounts, FeatureCounts, StepCounts, radiusAt, speedAt, firstAt, secondAt, zonesAsCame, ZoneCounts, ChannelCounts, SameCountedZones, UnreadPastTheCount, ChoiceCounts, cut, HeaderCounts, HeaderKept, HeaderLetGo}
+use Rattle.layout.specs.Config.{brakeOf, gateOf, calibrationOf, channelOf, zoneOf, zonesOf, zoneHeld, zonesHeld, absentCameraOf, configOf}
 
 -- ---- a test against a number that the field holds is the same of a count x and of the cut one
 
@@ -140,11 +144,17 @@ step-counts n c =
     (at-least (count c 8) 65535 1 (omega arith), at-most (count c 8) 65535 64 (omega arith), at-most (count c 9) 65535 64 (omega arith))
     (where-so (leb 1 (count c 8) && leb (count c 8) 64 && leb (count c 9) 64) (steps-in (count c 8) (count c 9) (count c 10)))
 
--- ---- row 4: the channels i and j of a contact, of so many that are declared
+-- ---- the zones
 
-and-false : (b : Bool) → (b && false) ≡ false
-and-false true = refl
-and-false false = refl
+counted-as : (n : List Float) (c : List ℕ) → zonesOf n c .count ≡ in8 (count c 5)
+unfolding zonesOf
+counted-as n c = refl
+
+pub zone-counts : (n : List Float) (c : List ℕ) → ZoneCounts n c
+unfolding zonesOf
+zone-counts n c = record { over-four = at-most (count c 5) 255 4 (omega arith); as-many = let e : min (min (count c 5) 255) 4 ≡ min (count c 5) 4 = omega arith in e }
+
+-- ---- row 4: the channels i and j of a zone, of so many that are declared
 
 refused : (i j aux : ℕ) (x y z : Bool) → eqb i j ≡ x → leb aux i ≡ y → leb aux j ≡ z → (x || y || z) ≡ true → (not (eqb i j) && ltb i aux && ltb j aux) ≡ false
 refused i j aux true y z e f g h = rw e
@@ -159,14 +169,98 @@ paired i j aux true false e f h = let w = leb-false j 255 f in rw (min-eq-right 
 paired i j aux false true e f h = let w = leb-false i 255 e in rw (min-eq-right {n = 255} {m = i} (omega (arith, w))) (sym (refused i j aux _ _ _ refl refl refl h))
 paired i j aux false false e f h = sym (refused i j aux _ _ _ refl refl refl h)
 
-channels-of : (k i j aux : ℕ) (r s : Float) → (eqb k 0 || ((leb i 255 && leb j 255) || eqb i j || leb aux i || leb aux j)) ≡ true → channelsOk (contactOf k r s (channelOf i j) (channelOf j i)) aux ≡ channelsOk (contactOf k r s i j) aux
-unfolding contactOf
-channels-of zero i j aux r s h = refl
-channels-of (suc k) i j aux r s h = paired i j aux (leb i 255) (leb j 255) refl refl (rw (eqb·suc-zero k) at h)
+-- a list of zones, and the same with each channel as it came
+module _ (z w : Zones) (aux : ℕ) (r s : ℕ → Float) (i j : ℕ → ℕ) (many : counted z ≡ counted w)
+    (cut-to : (k : ℕ) → k < counted w → zoneAt z k ≡ Zone (channelOf (i k) (j k)) (channelOf (j k) (i k)) (r k) (s k))
+    (came : (k : ℕ) → k < counted w → zoneAt w k ≡ Zone (i k) (j k) (r k) (s k))
+    (fit : (k : ℕ) → k < counted w → zoneHeld (i k) (j k) aux ≡ true) where
+  abbrev held : ℕ → Bool
+  held k = leb (i k) 255 && leb (j k) 255
+
+  one-by-one : (k : ℕ) → k < counted w → channelsOk (zoneAt z k) aux ≡ channelsOk (zoneAt w k) aux
+  unfolding zoneHeld
+  one-by-one k l = rw (cut-to k l, came k l) (paired (i k) (j k) aux (leb (i k) 255) (leb (j k) 255) refl refl (fit k l))
+
+  -- one that its field cannot hold is refused as it came
+  over : (k : ℕ) → k < counted w → held k ≡ false → channelsOk (zoneAt w k) aux ≡ false
+  unfolding zoneHeld
+  over k l e = rw (came k l) (refused (i k) (j k) aux _ _ _ refl refl refl (rw e at (fit k l)))
+
+  whole-channels : (k : ℕ) → k < counted w → held k ≡ true → zoneAt z k ≡ zoneAt w k
+  whole-channels k l e =
+      let first = and-left (leb (i k) 255) (leb (j k) 255) e in
+      let second = and-right (leb (i k) 255) (leb (j k) 255) e in
+      rw (cut-to k l, came k l, first, second, min-eq-left (leb-true (i k) 255 first), min-eq-left (leb-true (j k) 255 second))
+
+  zones-alike : zonesFit z aux ≡ zonesFit w aux
+  unfolding zonesFit
+  zones-alike = go (all held (counted w)) refl
+    where
+      one-refused : (k : ℕ) → k < counted w → held k ≡ false → zonesFit z aux ≡ zonesFit w aux
+      one-refused k l e =
+          let no = over k l e in
+          all-fails (λ (m : ℕ). channelsOk (zoneAt z m) aux && pairIsOwn z m) (counted z) k (rw many l) (rw (one-by-one k l, no))
+          ∙ sym (all-fails (λ (m : ℕ). channelsOk (zoneAt w m) aux && pairIsOwn w m) (counted w) k l (rw no))
+
+      go : (b : Bool) → all held (counted w) ≡ b → zonesFit z aux ≡ zonesFit w aux
+      go true e = same-judged w aux z many (λ k l. whole-channels k l (all-at held (counted w) e k l)) .1
+      go false e = let one = all-fails-at held (counted w) e in one-refused (one .0) (one .1) (one .2)
+
+module _ (n : List Float) (c : List ℕ) where
+  cut-to : (k : ℕ) → k < min (count c 5) 4 → zoneAt (zonesOf n c) k ≡ Zone (channelOf (firstAt c k) (secondAt c k)) (channelOf (secondAt c k) (firstAt c k)) (radiusAt n k) (speedAt n k)
+  unfolding zonesOf zoneOf
+  cut-to zero l = refl
+  cut-to (suc zero) l = refl
+  cut-to (suc (suc zero)) l = refl
+  cut-to (suc (suc (suc zero))) l = refl
+  cut-to (suc (suc (suc (suc k)))) l = absurd (omega arith)
+
+  came : (k : ℕ) → k < min (count c 5) 4 → zoneAt (zonesAsCame n c) k ≡ Zone (firstAt c k) (secondAt c k) (radiusAt n k) (speedAt n k)
+  came zero l = refl
+  came (suc zero) l = refl
+  came (suc (suc zero)) l = refl
+  came (suc (suc (suc zero))) l = refl
+  came (suc (suc (suc (suc k)))) l = absurd (omega arith)
+
+-- the tests of the boundary are those of the places that count
+held-each : (c : List ℕ) → zonesHeld c ≡ all (λ (k : ℕ). leb (count c 5) k || zoneHeld (firstAt c k) (secondAt c k) (count c 21)) 4
+unfolding zonesHeld every every-from all
+held-each c = rw (below-next (count c 5) 0, below-next (count c 5) 1, below-next (count c 5) 2, below-next (count c 5) 3)
+  where
+    below-by : (m k : ℕ) (b : Bool) → leb m k ≡ b → ltb m (suc k) ≡ b
+    below-by m k true e = let q = leb-true m k e in lt-ltb m (suc k) (omega (arith, q))
+    below-by m k false e = let q = leb-false m k e in le-ltb m (suc k) (omega (arith, q))
+
+    below-next : (m k : ℕ) → ltb m (suc k) ≡ leb m k
+    below-next m k = below-by m k (leb m k) refl
 
 pub channel-counts : ChannelCounts
-unfolding zoneOf zoneFits
-channel-counts n c h = channels-of (count c 5) (count c 6) (count c 7) (count c 21) (at n 9) (at n 10) h
+channel-counts n c h =
+    zones-alike (zonesOf n c) (zonesAsCame n c) (count c 21) (radiusAt n) (speedAt n) (firstAt c) (secondAt c) (zone-counts n c .as-many) (cut-to n c) (came n c)
+    (λ k l. rw (lt-leb (count c 5) k (omega arith)) at (all-at (λ (k : ℕ). leb (count c 5) k || zoneHeld (firstAt c k) (secondAt c k) (count c 21)) 4 (sym (held-each c) ∙ h) k (omega arith)))
+
+-- a place that counts has the same test, and another has none
+where-counted : (m k : ℕ) (x y : Bool) → (k < m → x ≡ y) → (leb m k || x) ≡ (leb m k || y)
+where-counted m k x y h = go (leb m k) refl
+  where
+    go : (b : Bool) → leb m k ≡ b → (b || x) ≡ (b || y)
+    go true e = refl
+    go false e = h (leb-false m k e)
+
+pub unread-past-the-count : (n : List Float) (c : List ℕ) (m : List Float) (d : List ℕ) → SameCountedZones n c m d → UnreadPastTheCount n c m d
+unread-past-the-count n c m d same = record {
+  same-fit =
+      held-each d
+      ∙ rw (same .same-count, same .same-aux) (all-same _ _ 4 (λ k l. where-counted (count c 5) k (zoneHeld (firstAt d k) (secondAt d k) (count c 21)) (zoneHeld (firstAt c k) (secondAt c k) (count c 21)) (λ h. rw (same .same-first k (omega arith), same .same-second k (omega arith)))))
+      ∙ sym (held-each c);
+  same-zones = record { same-count = as-many; same-places = λ k l. by-place k (rw (zone-counts n c .as-many) at l) };
+}
+  where
+    as-many : zonesOf m d .count ≡ zonesOf n c .count
+    as-many = counted-as m d ∙ ap in8 (same .same-count) ∙ sym (counted-as n c)
+
+    by-place : (k : ℕ) → k < min (count c 5) 4 → zoneAt (zonesOf m d) k ≡ zoneAt (zonesOf n c) k
+    by-place k l = cut-to m d k (rw (same .same-count) l) ∙ rw (same .same-radius k l, same .same-speed k l, same .same-first k l, same .same-second k l) (sym (cut-to n c k l))
 
 pub choice-counts : (n : List Float) (c : List ℕ) → ChoiceCounts n c
 unfolding configOf absentCameraOf

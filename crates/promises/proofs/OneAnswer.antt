@@ -47,6 +47,7 @@ use Rattle.window.proofs.Trail.path.Reads as trail-path
 use Rattle.window.proofs.Trail.clear.Reads as trail-clear
 use Rattle.window.proofs.Trail.len.Reads as trail-len
 use Rattle.window.proofs.Trail.is_empty.Reads as trail-is-empty
+use Rattle.envelope.proofs.counted.Reads as counted
 use Rattle.envelope.proofs.substeps_in.Reads as substeps-in
 use Rattle.envelope.proofs.compile.Reads as compile
 use Rattle.pull.proofs.pulled.Reads as pulled
@@ -283,6 +284,9 @@ pub one-trail-is-empty : One trail-is-empty.Post (λ r x. r)
 one-trail-is-empty l a r s x y = unique
 
 -- ---- envelope (R4)
+
+pub one-counted : One counted.Post (λ r x. r)
+one-counted l a r s x y = unique
 
 pub one-substeps-in : One substeps-in.Post (λ r x. r)
 one-substeps-in l a r s x y = unique

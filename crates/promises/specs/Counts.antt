@@ -1,10 +1,11 @@
 -- The number that C is given for a count is the table's for the count as it came. A count that its field cannot hold is cut to the field's largest, and each
--- condition of the table says of that what it says of the count; where the table accepts the count itself, the boundary has given 255.
-use Prim.Native.Nat.{ℕ, _+_, _*_, _≤_}
+-- condition of the table says of that what it says of the count; where the table accepts the count itself, the boundary has given 255. A zone's channels are judged there by
+-- themselves, so that a pair which its fields cannot hold is 255 also where another zone has it.
+use Prim.Native.Nat.{ℕ, _+_, _*_, _≤_, _<_, min}
 use mathlib.Core.Path.{_≡_}
 use mathlib.Core.Bool.{Bool, true, _||_}
 use mathlib.Core.List.{List, [], _∷_}
-use lib.Dec.{leb, ltb, eqb}
+use lib.Dec.{leb, ltb}
 use lib.Ieee.{Float}
 use Rattle.refusal.specs.Order.{refusal}
 use Rattle.checked.specs.Each.{at, all, every}
@@ -14,12 +15,17 @@ use Rattle.chunk.specs.Of.{clearedOf}
 use Rattle.window.specs.Rule.{flag}
 use Rattle.window.specs.Answer.{outOfSize}
 use Rattle.conformal.specs.Refusals.{named, withoutStall, sizesOk, featuresOk}
-use Rattle.envelope.specs.Refusals.{countsOk, channelsOk}
+use Rattle.envelope.specs.Slots.{counted}
+use Rattle.envelope.specs.Promises.{SameZones}
+use Rattle.envelope.specs.Refusals.{countsOk, zonesFit}
+use Rattle.envelope.specs.declared.Contact.the-variants.{Zone}
+use Rattle.envelope.specs.declared.ZoneSlot.{ZoneSlot}
+use Rattle.envelope.specs.declared.Zones.{Zones}
 use Rattle.envelope.specs.declared.AbsentCamera.the-variants as absent
 use Rattle.layout.specs.Places.{count, in16}
 use Rattle.layout.specs.Chunk.{chunkOf, headerFlat, unheld}
 use Rattle.layout.specs.Trail.{trailOf}
-use Rattle.layout.specs.Config.{brakeOf, calibrationOf, contactOf, zoneOf, configOf, zoneFits}
+use Rattle.layout.specs.Config.{brakeOf, calibrationOf, zonesOf, configOf, zonesHeld}
 
 -- a trail: its head and its length
 abbrev pub TrailCounts : Type 0
@@ -37,9 +43,48 @@ FeatureCounts = (n : List Float) (c : List ℕ) → sizesOk (calibrationOf n c) 
 abbrev pub StepCounts : Type 0
 StepCounts = (n : List Float) (c : List ℕ) → countsOk (brakeOf n c) ≡ every (leb 1 (count c 8) ∷ leb (count c 8) 64 ∷ leb (count c 9) 64 ∷ leb ((count c 9 + count c 10) * count c 8) 4096 ∷ [])
 
--- a zone's channels, where they fit or there is none
+-- the numbers and the counts of zone k: the first zone's stand among the other fields, the further ones' at the arrays' ends
+abbrev pub radiusAt : List Float → ℕ → Float
+radiusAt n = at (at n 9 ∷ at n 44 ∷ at n 46 ∷ at n 48 ∷ [])
+
+abbrev pub speedAt : List Float → ℕ → Float
+speedAt n = at (at n 10 ∷ at n 45 ∷ at n 47 ∷ at n 49 ∷ [])
+
+abbrev pub firstAt : List ℕ → ℕ → ℕ
+firstAt c = count (count c 6 ∷ count c 27 ∷ count c 29 ∷ count c 31 ∷ [])
+
+abbrev pub secondAt : List ℕ → ℕ → ℕ
+secondAt c = count (count c 7 ∷ count c 28 ∷ count c 30 ∷ count c 32 ∷ [])
+
+-- the list of zones as its counts came, none of them cut
+abbrev pub asCame : List Float → List ℕ → ℕ → ZoneSlot
+asCame n c k = record { contact = Zone (firstAt c k) (secondAt c k) (radiusAt n k) (speedAt n k) }
+
+abbrev pub zonesAsCame : List Float → List ℕ → Zones
+zonesAsCame n c = record { count = count c 5; list = asCame n c 0 ∷ asCame n c 1 ∷ asCame n c 2 ∷ asCame n c 3 ∷ [] }
+
+-- how many zones there are: whether they are over four, and how many count
+pub record ZoneCounts (n : List Float) (c : List ℕ) : Type 0 where
+  pub over-four : leb (zonesOf n c .count) 4 ≡ leb (count c 5) 4
+  pub as-many : counted (zonesOf n c) ≡ min (count c 5) 4
+
+-- the channels and the pairs of those that count, where each zone's channels are held by their fields or are refused by themselves
 abbrev pub ChannelCounts : Type 0
-ChannelCounts = (n : List Float) (c : List ℕ) → (eqb (count c 5) 0 || zoneFits c) ≡ true → channelsOk (zoneOf n c) (count c 21) ≡ channelsOk (contactOf (count c 5) (at n 9) (at n 10) (count c 6) (count c 7)) (count c 21)
+ChannelCounts = (n : List Float) (c : List ℕ) → zonesHeld c ≡ true → zonesFit (zonesOf n c) (count c 21) ≡ zonesFit (zonesAsCame n c) (count c 21)
+
+-- other arrays, with the same counts of zones and of aux numbers and the same numbers and channels of each zone that counts
+pub record SameCountedZones (n : List Float) (c : List ℕ) (m : List Float) (d : List ℕ) : Type 0 where
+  pub same-count : count d 5 ≡ count c 5
+  pub same-aux : count d 21 ≡ count c 21
+  pub same-radius : (k : ℕ) → k < min (count c 5) 4 → radiusAt m k ≡ radiusAt n k
+  pub same-speed : (k : ℕ) → k < min (count c 5) 4 → speedAt m k ≡ speedAt n k
+  pub same-first : (k : ℕ) → k < min (count c 5) 4 → firstAt d k ≡ firstAt c k
+  pub same-second : (k : ℕ) → k < min (count c 5) 4 → secondAt d k ≡ secondAt c k
+
+-- what stands past the count is neither held against a field nor read
+pub record UnreadPastTheCount (n : List Float) (c : List ℕ) (m : List Float) (d : List ℕ) : Type 0 where
+  pub same-fit : zonesHeld d ≡ zonesHeld c
+  pub same-zones : SameZones (zonesOf n c) (zonesOf m d)
 
 -- the choice for an absent camera: 0, which a struct of zeros has, is Slow, and 1 NoZone
 pub record ChoiceCounts (n : List Float) (c : List ℕ) : Type 0 where

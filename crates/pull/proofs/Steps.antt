@@ -1,6 +1,6 @@
 -- What each step of the pull answers, as a row of its parts: on plain values, at any format.
 use Prim.Native.Nat.{ℕ, _<_}
-use mathlib.Core.Path.{_≡_, sym, ap, _∙_}
+use mathlib.Core.Path.{_≡_, refl, sym, ap, _∙_}
 use mathlib.Core.Bool.{Bool, true, false, _&&_, and-true}
 use mathlib.Core.List.{List}
 use lib.Ieee.{Float, Format, mul, div, lt}
@@ -36,4 +36,4 @@ module _ (f : Format) (most : Float) (q : List Float) (n : ℕ) (a : List Float)
 pub pulled-same : (f : Format) (most : Float) (q r : List Float) (n : ℕ) (a : List Float) → ((j : ℕ) → j < n → at q j ≡ at r j) → pulled f most q n a ≡ pulled f most r n a
 unfolding pulled shortened
 pulled-same f most q r n a e =
-    rw (dist-same f a q r n e, each-same (towards f (div f (mul f most (leashShrink f)) (dist f a r n .value)) q a) (towards f (div f (mul f most (leashShrink f)) (dist f a r n .value)) r a) a n (λ j l. rw (e j l)))
+    rw (dist-same f a q a r n (λ j l. refl) e, each-same (towards f (div f (mul f most (leashShrink f)) (dist f a r n .value)) q a) (towards f (div f (mul f most (leashShrink f)) (dist f a r n .value)) r a) a n (λ j l. rw (e j l)))

@@ -6,9 +6,9 @@ use envelope::FuseConfig;
 use fmath::put;
 use sample::agrees;
 
-// The numbers of a flat configuration: limits, brake and contact, then the norm, then the box; tau, the last, is not in the record and stays 0.
-fn numbers(x: &Numbers) -> [f64; 44] {
-    let mut n = [0.0; 44];
+// The numbers of a flat configuration: limits, brake and the first zone, then the norm, then the box; tau and the further zones are not in the record and stay 0.
+fn numbers(x: &Numbers) -> [f64; 50] {
+    let mut n = [0.0; 50];
     let all: &mut [f64] = &mut n;
     put(part(x, 14, 11), 11, all);
     put(part(x, 41, 16), 16, &mut all[11..]);
@@ -16,8 +16,8 @@ fn numbers(x: &Numbers) -> [f64; 44] {
     n
 }
 
-// Its counts and codes; those of a calibration are 0. The last is the choice for an absent camera that answers as the Rust does: no zone.
-fn counts(w: &Words) -> [u64; 27] {
+// Its counts and codes; those of a calibration and of further zones are 0. The choice for an absent camera is the one that answers as the Rust does: no zone.
+fn counts(w: &Words) -> [u64; 33] {
     [
         w[0],
         w[1],
@@ -46,6 +46,12 @@ fn counts(w: &Words) -> [u64; 27] {
         0,
         0,
         1,
+        0,
+        0,
+        0,
+        0,
+        0,
+        0,
     ]
 }
 

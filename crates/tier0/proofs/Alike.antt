@@ -1,5 +1,5 @@
--- Two calls that read alike answer alike: they may differ in whether CONTACT is armed, in the choice for an absent camera, in the position past the shared axes and
--- in the camera's message, where the slow zone comes out the same.
+-- Two calls that read alike answer alike: they may differ in whether CONTACT is armed, in the zones past their count, in the choice for an absent camera, in the position
+-- past the shared axes and in the camera's message, where the slow zones come out the same.
 use Prim.Native.Nat.{ℕ, zero, suc, _<_}
 use mathlib.Core.Path.{_≡_, refl}
 use mathlib.Core.Bool.{Bool, true, _||_}
@@ -16,8 +16,10 @@ use Rattle.fmath.proofs.Lengths.{dist-same}
 use Rattle.pull.proofs.Steps.{pulled-same}
 use Rattle.chunk.specs.declared.Header.{Header}
 use Rattle.conformal.specs.Rule.{Tables}
-use Rattle.envelope.specs.Promises.{altered}
-use Rattle.envelope.specs.Refusals.{sizesOk, numbersFrom, stepsOk}
+use Rattle.envelope.specs.Promises.{altered, SameZones}
+use Rattle.envelope.specs.Refusals.{sizesOk, zonesOk, numbersFrom, stepsOk, zonesFit}
+use Rattle.envelope.specs.declared.Zones.{Zones}
+use Rattle.envelope.proofs.Promises.{same-told}
 use Rattle.envelope.specs.declared.AbsentCamera.{AbsentCamera}
 use Rattle.envelope.specs.declared.ClampMode.{ClampMode}
 use Rattle.envelope.specs.declared.ClampMode.the-variants.{Off, Project}
@@ -42,13 +44,13 @@ pub record ArmedAlike (armed bits : ℕ) : Type 0 where
 pub armed-as-it-is : (armed : ℕ) → ArmedAlike armed armed
 armed-as-it-is armed = record { workspace = refl; speed = refl; accel = refl; jerk = refl; reach = refl }
 
--- the checks with other bits armed and another choice
-abbrev rearmed : Checks → ℕ → AbsentCamera → Checks
-rearmed s bits choice = record {
+-- the checks with other bits armed, other zones and another choice
+abbrev rearmed : Checks → ℕ → Zones → AbsentCamera → Checks
+rearmed s bits w choice = record {
   dim = s .dim;
   «pos_dim» = s .«pos_dim»;
   armed = bits;
-  contact = s .contact;
+  zones = w;
   «absent_camera» = choice;
   clamp = s .clamp;
   dt = s .dt;
@@ -64,9 +66,9 @@ rearmed s bits choice = record {
 
 -- ---- the rules
 
-module _ (f : Format) (s : Checks) (bits : ℕ) (choice : AbsentCamera) (alike : ArmedAlike (s .armed) bits) where
+module _ (f : Format) (s : Checks) (bits : ℕ) (w : Zones) (choice : AbsentCamera) (alike : ArmedAlike (s .armed) bits) where
   abbrev other : Checks
-  other = rearmed s bits choice
+  other = rearmed s bits w choice
 
   workspace-alike : arms other WORKSPACE ≡ arms s WORKSPACE
   unfolding arms
@@ -125,7 +127,7 @@ module _ (f : Format) (s : Checks) (bits : ℕ) (choice : AbsentCamera) (alike :
   module _ (p q : List Float) (near : (j : ℕ) → j < boxDims s → at q j ≡ at p j) where
     same-reach : (a : List Float) → outOfReach f other q a ≡ outOfReach f s p a
     unfolding outOfReach
-    same-reach a = rw (reach-alike, dist-same f a q p (boxDims s) near)
+    same-reach a = rw (reach-alike, dist-same f a q a p (boxDims s) (λ j l. refl) near)
 
     same-reached : (a : List Float) → reached f other q a ≡ reached f s p a
     unfolding reached
@@ -188,40 +190,43 @@ module _ (f : Format) (s : Checks) (bits : ℕ) (choice : AbsentCamera) (alike :
 
 -- ---- the entries
 
-module _ (f : Format) (t : Tables) (c : FuseConfig) (bits : ℕ) (choice : AbsentCamera) where
+module _ (f : Format) (t : Tables) (c : FuseConfig) (bits : ℕ) (w : Zones) (choice : AbsentCamera) where
   -- the configuration of the other call
   abbrev changed : FuseConfig
-  changed = altered c choice (c .norm) (c .walls) (c .brake) bits (c .calib) (c .«horizon_ticks»)
+  changed = altered c w choice (c .norm) (c .walls) (c .brake) bits (c .calib) (c .«horizon_ticks»)
 
-  checks-rearmed : checksOf f changed ≡ rearmed (checksOf f c) bits choice
+  checks-rearmed : checksOf f changed ≡ rearmed (checksOf f c) bits w choice
   unfolding checksOf
   checks-rearmed = refl
 
-  module _ (alike : ArmedAlike (c .armed) bits) (p aux q cam : List Float) (near : (j : ℕ) → j < boxDims (checksOf f c) → at q j ≡ at p j)
+  module _ (alike : ArmedAlike (c .armed) bits) (same : SameZones (c .zones) w) (p aux q cam : List Float) (near : (j : ℕ) → j < boxDims (checksOf f c) → at q j ≡ at p j)
       (short : ltb (length q) (c .«pos_dim») ≡ ltb (length p) (c .«pos_dim»)) (finite : (someNotFinite q || someNotFinite cam) ≡ (someNotFinite p || someNotFinite aux))
       (zone : slowZone f (checksOf f changed) q cam ≡ slowZone f (checksOf f c) p aux) where
     armed-alike : ArmedAlike (checksOf f c .armed) bits
     unfolding checksOf
     armed-alike = alike
 
-    zone-alike : slowZone f (rearmed (checksOf f c) bits choice) q cam ≡ slowZone f (checksOf f c) p aux
+    zone-alike : slowZone f (rearmed (checksOf f c) bits w choice) q cam ≡ slowZone f (checksOf f c) p aux
     zone-alike = rw checks-rearmed at zone
+
+    zones-alike : (zonesOk w ≡ zonesOk (c .zones)) × (zonesFit w (c .«aux_count») ≡ zonesFit (c .zones) (c .«aux_count»))
+    zones-alike = same-told (c .zones) (c .«aux_count») w same
 
     chunk-ruled : (rows : List Float) (k : Header) → chunkRuling f changed q cam rows (k .horizon) ≡ chunkRuling f c p aux rows (k .horizon)
     unfolding chunkRuling
-    chunk-ruled rows k = rw checks-rearmed (same-chunk f (checksOf f c) bits choice armed-alike p q near aux cam zone-alike rows (replicate 512 +0) (k .horizon))
+    chunk-ruled rows k = rw checks-rearmed (same-chunk f (checksOf f c) bits w choice armed-alike p q near aux cam zone-alike rows (replicate 512 +0) (k .horizon))
 
     chunk-refused : (rows : List Float) (k : Header) (room : ℕ) → chunkRefusal f changed t q cam rows k room ≡ chunkRefusal f c t p aux rows k room
     unfolding chunkRefusal sizesOk numbersFrom stepsOk chunkTooShort someLentNotFinite some-from
-    chunk-refused rows k room = rw (chunk-ruled rows k, short, finite)
+    chunk-refused rows k room = rw (chunk-ruled rows k, zones-alike .0, zones-alike .1, same .same-count, short, finite)
 
     action-ruled : (prev a : List Float) → actionRuling f changed q cam prev a ≡ actionRuling f c p aux prev a
     unfolding actionRuling
-    action-ruled prev a = rw checks-rearmed (same-action f (checksOf f c) bits choice armed-alike p q near aux cam zone-alike prev a)
+    action-ruled prev a = rw checks-rearmed (same-action f (checksOf f c) bits w choice armed-alike p q near aux cam zone-alike prev a)
 
     action-refused : (prev a : List Float) (room : ℕ) → actionRefusal f changed t q cam prev a room ≡ actionRefusal f c t p aux prev a room
     unfolding actionRefusal sizesOk numbersFrom stepsOk tooShort someLentNotFinite some-from
-    action-refused prev a room = rw (action-ruled prev a, short, finite)
+    action-refused prev a room = rw (action-ruled prev a, zones-alike .0, zones-alike .1, same .same-count, short, finite)
 
     pub same-checks : SameChecks f t changed q cam c p aux
     unfolding chunkAnswer chunkOut actionAnswer actionOut

@@ -3,8 +3,10 @@ pub mod Refused
 pub mod Masks
 pub mod Rows
 pub mod ChunkRefused
+pub mod Slowest
 pub mod Promises
-pub mod Within
 pub mod Walled
+pub mod Leash
+pub mod Within
 pub mod Alike
 pub mod Zones

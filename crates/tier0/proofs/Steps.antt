@@ -3,9 +3,11 @@ use Prim.Native.Nat.{ℕ, _+_}
 use mathlib.Core.Path.{_≡_, refl, sym, ap, _∙_}
 use mathlib.Core.Bool.{Bool, true, false, _&&_, _||_, and-true}
 use mathlib.Core.List.{List, [], _∷_}
+use native.Mathlib.Numerals.{add-one}
 use lib.Ieee.{Float, Format, mul, lt, le}
 use Rattle.checked.specs.Each.{at}
 use Rattle.checked.specs.Finite.{finite, +0}
+use Rattle.checked.specs.Least.{lesser}
 use Rattle.checked.specs.Row.{padded}
 use Rattle.checked.specs.Checked.{pure}
 use Rattle.fmath.specs.Norm.{dist}
@@ -17,6 +19,7 @@ use Rattle.workspace.specs.Of.{wallsOf}
 use Rattle.workspace.specs.Rule.{outside, inward}
 use Rattle.envelope.specs.declared.ClampMode.{ClampMode}
 use Rattle.envelope.specs.declared.ClampMode.the-variants as M
+use Rattle.envelope.specs.Slots.{counted, zoneAt}
 use Rattle.envelope.specs.declared.AbsentCamera.{AbsentCamera}
 use Rattle.envelope.specs.declared.Contact.{Contact}
 use Rattle.envelope.specs.declared.Contact.the-variants as C
@@ -26,8 +29,8 @@ use Rattle.checked.specs.declared.Row.{Row}
 use Rattle.checked.specs.declared.Test.{Test}
 use Rattle.tier0.specs.declared.Clamped.{Clamped}
 use Rattle.tier0.specs.declared.JudgedAction.{JudgedAction}
-use Rattle.tier0.specs.Rule.{Slow, WORKSPACE, SPEED, ACCEL, JERK, REACH, CONTACT, arms, boxDims, clear, seen, insideSeen, insideUnseen, insideZone, zoneStep, zoneIn, slowZone, outOfBox, outOfReach, weight, tripBits, leash, boxed, leashed, reached, moves, movedDims, project, projection, rowMasks, checkAction}
-use Rattle.tier0.specs.Of.{slowOf, zoneFrom, clampedFrom, judgedActionFrom}
+use Rattle.tier0.specs.Rule.{Slow, WORKSPACE, SPEED, ACCEL, JERK, REACH, CONTACT, arms, boxDims, clear, seen, insideSeen, insideUnseen, insideZone, zoneStep, zoneIn, slowest, slowZone, outOfBox, outOfReach, weight, tripBits, leash, boxed, leashed, reached, moves, movedDims, project, projection, rowMasks, checkAction}
+use Rattle.tier0.specs.Of.{slowOf, zoneFrom, slowerOf, clampedFrom, judgedActionFrom}
 use Rattle.checked.specs.Of.{rowFrom, testFrom}
 
 -- ---- the workspace
@@ -49,7 +52,7 @@ module _ (f : Format) (s : Checks) (a : List Float) {k : Bool} (e : k ≡ arms s
   unfolding boxed
   boxed-on h p q = rw (sym e ∙ h) (rw p at q)
 
--- ---- the slow zone
+-- ---- the slow zones
 
 module _ (f : Format) (radius : Float) (i j : ℕ) (p aux : List Float) where
   pub seen-inside : {d : Float} {k : Bool} → d ≡ dist f p (at aux i ∷ at aux j ∷ []) 2 .value → k ≡ finite d → _≡_ {A = Test} (record { holds = le d radius; sound = k }) (testFrom (insideSeen f radius i j p aux))
@@ -70,7 +73,7 @@ module _ (f : Format) (s : Checks) (p aux : List Float) {k : Bool} (e : k ≡ ar
   unfolding slowZone
   slow-off h q = rw (sym e ∙ h) q
 
-  pub slow-on : k ≡ true → {z : SlowZone} → z ≡ zoneFrom (zoneIn f (s .dt) (s .«absent_camera») (s .contact) p aux) → z ≡ zoneFrom (slowZone f s p aux)
+  pub slow-on : k ≡ true → {z : SlowZone} → z ≡ zoneFrom (slowest f (s .dt) (s .«absent_camera») (zoneAt (s .zones)) p aux (counted (s .zones))) → z ≡ zoneFrom (slowZone f s p aux)
   unfolding slowZone
   slow-on h q = rw (sym e ∙ h) q
 
@@ -79,7 +82,7 @@ module _ (f : Format) (dt : Float) (choice : AbsentCamera) (z : Contact) (p aux 
   unfolding zoneIn
   unconfigured e h = rw e h
 
-  module _ (radius speed : Float) (i j : ℕ) (e : z ≡ C.Zone radius speed i j) {t : Test} (is : t ≡ testFrom (insideZone f choice radius i j p aux)) where
+  module _ (radius speed : Float) (i j : ℕ) (e : z ≡ C.Zone i j radius speed) {t : Test} (is : t ≡ testFrom (insideZone f choice radius i j p aux)) where
     pub zone-inside : t .holds ≡ true → {k : Bool} → k ≡ finite (mul f speed dt) → _≡_ {A = SlowZone} (record { inside = true; step = mul f speed dt; sound = t .sound && k }) (zoneFrom (zoneIn f dt choice z p aux))
     unfolding zoneIn zoneStep
     zone-inside h q = rw (e, sym (ap (λ (x : Test). x .holds) is) ∙ h, ap (λ (x : Test). x .sound) is, q, and-true)
@@ -87,6 +90,27 @@ module _ (f : Format) (dt : Float) (choice : AbsentCamera) (z : Contact) (p aux 
     pub zone-outside : t .holds ≡ false → _≡_ {A = SlowZone} (record { inside = false; step = +0; sound = t .sound }) (zoneFrom (zoneIn f dt choice z p aux))
     unfolding zoneIn
     zone-outside h = rw (e, sym (ap (λ (x : Test). x .holds) is) ∙ h, ap (λ (x : Test). x .sound) is, and-true)
+
+-- two findings together
+module _ (a b : SlowZone) where
+  pub slower-outside : a .inside ≡ false → _≡_ {A = SlowZone} (record { inside = b .inside; step = b .step; sound = a .sound && b .sound }) (slowerOf a b)
+  slower-outside e = rw e
+
+  pub slower-both : a .inside ≡ true → b .inside ≡ true → {m : Float} → m ≡ lesser (a .step) (b .step) → _≡_ {A = SlowZone} (record { inside = true; step = m; sound = a .sound && b .sound }) (slowerOf a b)
+  slower-both e h q = rw (e, h, q)
+
+  pub slower-first : a .inside ≡ true → b .inside ≡ false → _≡_ {A = SlowZone} (record { inside = true; step = a .step; sound = a .sound && b .sound }) (slowerOf a b)
+  slower-first e h = rw (e, h)
+
+-- one turn of the loop over the zones
+module _ (f : Format) (dt : Float) (choice : AbsentCamera) (zone : ℕ → Contact) (p aux : List Float) where
+  pub none-asked : {z : SlowZone} → z ≡ zoneFrom (pure clear) → z ≡ zoneFrom (slowest f dt choice zone p aux 0)
+  unfolding slowest
+  none-asked e = e
+
+  pub one-more-asked : (n : ℕ) {found z next : SlowZone} → found ≡ zoneFrom (slowest f dt choice zone p aux n) → z ≡ zoneFrom (zoneIn f dt choice (zone n) p aux) → next ≡ slowerOf found z → next ≡ zoneFrom (slowest f dt choice zone p aux (n + 1))
+  unfolding slowest
+  one-more-asked n e h q = rw (q, e, h, add-one, and-true)
 
 -- ---- reach
 

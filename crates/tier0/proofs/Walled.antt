@@ -7,6 +7,7 @@ use mathlib.Core.List.{List, [], _∷_, _++_}
 use native.Mathlib.Nat.{lt-of-lt-of-le}
 use native.Mathlib.Omega.{arith}
 use borrow.Author.Count.{below-more}
+use lib.Dec.{eqb}
 use lib.ListN.{drop, length, set, replicate}
 use lib.Seq.{getD-set-same, getD-set-other}
 use lib.Ieee.{Float, Format, nan, eq, ne}
@@ -18,8 +19,10 @@ use Rattle.refusal.specs.Chain.{both-pass}
 use Rattle.checked.specs.Each.{at, some, over}
 use Rattle.checked.specs.Finite.{+0}
 use Rattle.checked.specs.Row.{padded}
+use Rattle.checked.specs.Checked.{Checked}
 use Rattle.checked.proofs.Copy.{padded-at, length-padded}
 use Rattle.checked.proofs.Each.{over-at, some-there}
+use Rattle.pull.proofs.Steps.{pulled-same}
 use Rattle.workspace.specs.declared.WallMasks.{WallMasks}
 use Rattle.workspace.specs.Of.{wallsOf}
 use Rattle.workspace.specs.Rule.{inward, raisedAt, loweredAt, wallMasks, anyMasks, unmoved}
@@ -36,15 +39,15 @@ use Rattle.envelope.specs.declared.FuseConfig.{FuseConfig}
 use Rattle.tier0.specs.declared.Checks.{Checks}
 use Rattle.tier0.specs.declared.Tier0Out.{Tier0Out}
 use Rattle.tier0.specs.declared.Tier0Out.the-variants.{Passed, Refused}
-use Rattle.tier0.specs.Rule.{WORKSPACE, arms, boxDims, Slow, boxed, moves, movedDims, project, projection, boxesRows, rowMasks, Judgement, checkAction}
-use Rattle.tier0.specs.Chunk.{rawRow, putRow, nextRow, runRows, projectedRows, rowsMasks, checkChunk}
+use Rattle.tier0.specs.Rule.{WORKSPACE, SPEED, arms, boxDims, Slow, slowZone, leash, boxed, leashed, moves, movedDims, project, projection, boxesRows, rowMasks, Judgement, checkAction}
+use Rattle.tier0.specs.Chunk.{rawRow, rowBefore, putRow, nextRow, runRows, projectedRows, rowsMasks, checkChunk}
 use Rattle.tier0.specs.Refusals.{answerAt}
 use Rattle.tier0.specs.Of.{checksOf, lentToAction, actionRuling, actionRefusal, actionAnswer, actionOut, lentToChunk, chunkRuling, chunkRefusal, chunkAnswer, chunkOut}
-use Rattle.tier0.specs.Promises.{tripsIn, zoneNow, beforeFirst, zoneHere, ChunkWalls, ActionWalls}
+use Rattle.tier0.specs.Promises.{tripsIn, zoneNow, beforeFirst, zoneHere, movedRow, ChunkWalls, ActionWalls}
 use Rattle.tier0.proofs.Refused as action
 use Rattle.tier0.proofs.ChunkRefused as chunk
-use Rattle.tier0.proofs.Rows.{length-put}
-use Rattle.tier0.proofs.Promises.{below-rows}
+use Rattle.tier0.proofs.Rows.{length-put, before-first, before-later}
+use Rattle.tier0.proofs.Promises.{row-at, below-rows}
 
 -- ---- an accepted answer is the rule's
 
@@ -167,6 +170,18 @@ dims-of-row : (f : Format) (s : Checks) (z : Slow) (p prev a : List Float) (m : 
 unfolding projection project
 dims-of-row f s z p prev a m e = rw e
 
+-- ---- a row that goes out is moved by the leash
+
+-- the moves are those of the leash that the zones and SPEED make together
+moves-by-leash : (f : Format) (s : Checks) (p aux : List Float) (isFirst : Bool) (prev a : List Float) → moves f s (slowZone f s p aux .value) p isFirst prev a ≡ movedRow f s p aux isFirst prev a
+unfolding moves leashed
+moves-by-leash f s p aux isFirst prev a = refl
+
+-- of the row before it the first dim numbers are read
+moves-same : (f : Format) (s : Checks) (z : Slow) (p : List Float) (isFirst : Bool) (q r a : List Float) → ((j : ℕ) → j < s .dim → at q j ≡ at r j) → moves f s z p isFirst q a ≡ moves f s z p isFirst r a
+unfolding moves leashed
+moves-same f s z p isFirst q r a same = rw (pulled-same f (leash (arms s SPEED) (s .«step_max») z) q r (s .dim) (boxed f s a .value) same)
+
 -- ---- check_chunk
 
 module _ (f : Format) (c : FuseConfig) (t : Tables) (p aux rows : List Float) (k : Header) (l : List Float) (trips dims : ℕ) (speed : Float) (walls : WallMasks) (e : chunkAnswer f c t p aux rows k (length l) ≡ Passed trips dims speed walls) where
@@ -216,6 +231,27 @@ module _ (f : Format) (c : FuseConfig) (t : Tables) (p aux rows : List Float) (k
       ∙ over-at (at (chunkRuling f c p aux rows (k .horizon) .value .after .rows)) l (k .horizon * s .dim) (i * s .dim + j) within (lt-of-lt-of-le within chunk-room)
       ∙ ap (λ (x : List Float). at x (i * s .dim + j)) (chunk-rows m)
       ∙ written-at f s (zoneNow f c p aux rows) p rows (beforeFirst f c p aux rows) (replicate 512 +0) (k .horizon) i j a b chunk-small
+
+  -- the row before it is held by the output, too
+  last-held : c .clamp ≡ Project → (i : ℕ) → i < k .horizon → (j : ℕ) → j < s .dim
+      → at (runRows f s (zoneNow f c p aux rows) p rows (beforeFirst f c p aux rows) (replicate 512 +0) i .value .last) j ≡ at (rowBefore (beforeFirst f c p aux rows) (chunkOut f c t p aux rows k l) (s .dim) i) j
+  unfolding runRows
+  last-held m zero a j b = ap (λ (x : List Float). at x j) (before-first (beforeFirst f c p aux rows) (chunkOut f c t p aux rows k l) (s .dim) 0 refl)
+  last-held m (suc i) a j b =
+      let held = rawRow (chunkOut f c t p aux rows k l) (s .dim) in
+      sym (row-at (chunkOut f c t p aux rows k l) (s .dim) i chunk-narrow j b ∙ chunk-written m i j (omega arith) b)
+      ∙ ap (λ (x : List Float). at x j) (before-later (beforeFirst f c p aux rows) (chunkOut f c t p aux rows k l) (s .dim) (suc i) (λ e. omega arith) {r = held i} (ap held (omega arith)))
+
+  -- and from it the row is moved by the leash
+  pub chunk-moved : c .clamp ≡ Project → (i j : ℕ) → i < k .horizon → j < s .dim
+      → at (chunkOut f c t p aux rows k l) (i * s .dim + j) ≡ at (movedRow f s p aux (eqb i 0) (rowBefore (beforeFirst f c p aux rows) (chunkOut f c t p aux rows k l) (s .dim) i) (rawRow rows (s .dim) i) .value) j
+  unfolding runRows nextRow
+  chunk-moved m i j a b =
+      let before = rowBefore (beforeFirst f c p aux rows) (chunkOut f c t p aux rows k l) (s .dim) i in
+      let here = rawRow rows (s .dim) i in
+      let last = runRows f s (zoneNow f c p aux rows) p rows (beforeFirst f c p aux rows) (replicate 512 +0) i .value .last in
+      chunk-written m i j a b
+      ∙ ap (λ (x : Checked (List Float)). at (x .value) j) (moves-same f s (zoneNow f c p aux rows) p (eqb i 0) last before here (last-held m i a) ∙ moves-by-leash f s p aux (eqb i 0) before here)
 
   chunk-masks-on : c .clamp ≡ Project → arms s WORKSPACE ≡ true → walls ≡ anyMasks (wallsOf (s .walls)) (rawRow rows (s .dim)) (k .horizon) w
   unfolding rowsMasks checksOf
@@ -286,6 +322,9 @@ module _ (f : Format) (c : FuseConfig) (t : Tables) (p aux prev a l : List Float
       ap (λ (x : List Float). at x j) action-out
       ∙ over-at (at (actionRuling f c p aux prev a .value .after .rows)) l (s′ .dim) j b (lt-of-lt-of-le b action-room)
       ∙ ap (λ (x : List Float). at x j) (action-row m)
+
+  pub action-moved : c .clamp ≡ Project → (j : ℕ) → j < s′ .dim → at (actionOut f c t p aux prev a l) j ≡ at (movedRow f s′ p aux true prev row .value) j
+  action-moved m j b = action-written m j b ∙ ap (λ (x : Checked (List Float)). at (x .value) j) (moves-by-leash f s′ p aux true prev row)
 
   action-masks-on : c .clamp ≡ Project → arms s′ WORKSPACE ≡ true → walls ≡ wallMasks (wallsOf (s′ .walls)) a w′
   unfolding rowMasks checksOf

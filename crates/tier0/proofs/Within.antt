@@ -24,6 +24,7 @@ use Rattle.tier0.specs.Refusals.{answerAt}
 use Rattle.tier0.specs.Of.{checksOf, actionRuling, actionRefusal, actionAnswer, chunkRuling, chunkRefusal, chunkAnswer}
 use Rattle.tier0.specs.Promises.{tripsIn, raised, chunkTrips, actionTrips, beforeFirst, zoneNow, ChunkInBox, ChunkSlowEnough, ChunkSlowInZone, ChunkBendsLittle, ChunkJoltsLittle, ChunkInReach, ChunkWithin, zoneHere, actionStep, ActionInBox, ActionSlowEnough, ActionSlowInZone, ActionInReach, ActionWithin}
 use Rattle.tier0.proofs.Promises.{chunk-raised, action-raised}
+use Rattle.tier0.proofs.Leash.{one-of}
 
 -- ---- comparisons of which none holds
 
@@ -85,7 +86,8 @@ module _ (f : Format) (c : FuseConfig) (t : Tables) (p aux rows : List Float) (k
   not-fast w = where-so (arms s SPEED) _ (λ a. not-longer (s .«step_max») w)
 
   not-close : ChunkSlowInZone f c p aux rows h → (zoneNow f c p aux rows .inside && someLonger f (beforeFirst f c p aux rows) rows (s .dim) (zoneNow f c p aux rows .step) h) ≡ false
-  not-close w = where-so (zoneNow f c p aux rows .inside) _ (λ a. not-longer (zoneNow f c p aux rows .step) (w a))
+  unfolding checksOf
+  not-close w = where-so (zoneNow f c p aux rows .inside) _ (λ a. let one = one-of f s p aux a in not-longer (zoneNow f c p aux rows .step) (λ i l. rw (one .such) (w (one .index) (one .within) (one .holds) i l)))
 
   not-bent : ChunkBendsLittle f c p aux rows h → tooLarge f s Accel (beforeFirst f c p aux rows) rows h .value ≡ false
   unfolding largeAt exceeds
@@ -143,7 +145,8 @@ module _ (f : Format) (c : FuseConfig) (t : Tables) (p aux prev a : List Float) 
   action-not-fast w = where-so (arms (checksOf f c) SPEED) _ (λ e. w)
 
   action-not-close : ActionSlowInZone f c p aux prev a → (zoneHere f c p aux prev a .inside && lt (zoneHere f c p aux prev a .step) (actionStep f c p aux prev a)) ≡ false
-  action-not-close w = where-so (zoneHere f c p aux prev a .inside) _ w
+  unfolding checksOf
+  action-not-close w = where-so (zoneHere f c p aux prev a .inside) _ (λ i. let one = one-of f (checksOf f c) p aux i in rw (one .such) (w (one .index) (one .within) (one .holds)))
 
   pub action-workspace-touched : ActionInBox f c p aux prev a → raised WORKSPACE trips-of ≡ false
   action-workspace-touched w = action-from-rule WORKSPACE refl (action-raised f (checksOf f c) p aux prev a .workspace ∙ in-box f (checksOf f c) a w)

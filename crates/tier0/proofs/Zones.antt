@@ -1,32 +1,40 @@
--- What the slow zone does to the entries' answers: without a contact, or where a zone that is not seen counts as none, they are those with CONTACT unarmed; where it counts
--- as slow they are those of an arm that is seen inside it; and elsewhere the choice changes nothing.
+-- What the slow zones do to the entries' answers: without one, or where those that are not seen count as none, they are those with CONTACT unarmed; where they count
+-- as slow they are those of an arm that is seen inside them; elsewhere the choice changes nothing, and what stands past the count never does.
 use Prim.Native.Nat.{ℕ, _-_, _/_, _%_, _<_}
 use mathlib.Core.Path.{_≡_, refl, sym, ap, _∙_}
 use mathlib.Core.Bool.{Bool, true, false, and-true, and-false}
-use mathlib.Core.List.{List}
+use mathlib.Core.Logic.{⊎-elim}
+use mathlib.Core.List.{List, [], _∷_}
 use native.Mathlib.Omega.{arith}
 use borrow.Author.Tests.{eqb-true, le-leb, lt-leb, lt-ltb, le-ltb}
 use lib.Dec.{eqb, leb, ltb}
 use lib.ListN.{length}
-use lib.Ieee.{Float, Format}
+use lib.Ieee.{Float, Format, mul}
 use Rattle.bits.specs.Choice.{if_then_else_}
 use Rattle.checked.specs.Each.{at}
+use Rattle.checked.specs.Finite.{finite}
+use Rattle.checked.proofs.Each.{_&&≡_}
 use Rattle.checked.specs.Checked.{Checked, pure}
 use Rattle.conformal.specs.Rule.{Tables}
-use Rattle.envelope.specs.Promises.{absentBy}
+use Rattle.fmath.proofs.Lengths.{dist-same}
+use Rattle.envelope.specs.Slots.{counted, zoneAt}
+use Rattle.envelope.specs.Promises.{absentBy, zonedBy, SameZones}
+use Rattle.envelope.specs.declared.Zones.{Zones}
 use Rattle.envelope.specs.declared.AbsentCamera.{AbsentCamera}
 use Rattle.envelope.specs.declared.AbsentCamera.the-variants as absent
 use Rattle.envelope.specs.declared.Contact.{Contact}
 use Rattle.envelope.specs.declared.Contact.the-variants.{None, Zone}
 use Rattle.envelope.specs.declared.FuseConfig.{FuseConfig}
 use Rattle.tier0.specs.declared.Checks.{Checks}
-use Rattle.tier0.specs.Rule.{WORKSPACE, SPEED, ACCEL, JERK, REACH, CONTACT, arms, weight, boxDims, Slow, clear, seen, insideSeen, insideZone, zoneStep, zoneIn, slowZone}
+use Rattle.tier0.specs.Rule.{WORKSPACE, SPEED, ACCEL, JERK, REACH, CONTACT, arms, weight, boxDims, Slow, clear, seen, insideSeen, insideZone, zoneStep, zoneIn, slowest, slowZone}
 use Rattle.tier0.specs.Of.{checksOf}
-use Rattle.tier0.specs.Promises.{raised, withoutContact, contactUnarmed, zoneIfSeen, NoZoneAsRust, ZoneUnseen, UnseenIsInside, SeenExactly, SameChecks, AsUnarmed, ZoneSeen, SeenInside, StandsAlike, Promised}
-use Rattle.tier0.proofs.Promises.{chunk-raised, action-raised, walls-touched, no-contact, outside-radius, no-zone-no-leash, unarmed-action, unarmed-chunk}
-use Rattle.tier0.proofs.Walled.{chunk-walls, action-walls}
+use Rattle.tier0.specs.Promises.{raised, withoutContact, contactUnarmed, NoZones, zoneIfSeen, NoZoneAsRust, UnseenIsInside, UnseenAsEmpty, SeenExactly, SameChecks, AsUnarmed, ZonesSeen, ZonesUnseen, SeenInside, SeenAlike, Stands, ZonesStand, StandsAlike, Promised}
+use Rattle.tier0.proofs.Slowest.{slowest-alike}
+use Rattle.tier0.proofs.Promises.{chunk-raised, action-raised, walls-touched, by-place, empty-place, none-clear, no-contact, outside-radius, one-zone, zone-told, each-asked, no-zone-no-leash, unarmed-action, unarmed-chunk}
+use Rattle.tier0.proofs.Walled.{chunk-walls, action-walls, chunk-moved, action-moved}
 use Rattle.tier0.proofs.Within.{chunk-workspace-touched, chunk-speed-touched, chunk-contact-touched, chunk-accel-touched, chunk-jerk-touched, chunk-reach-touched, chunk-touched, action-workspace-touched, action-speed-touched, action-contact-touched, action-reach-touched, action-touched}
 use Rattle.tier0.proofs.Alike.{ArmedAlike, armed-as-it-is, same-checks}
+use Rattle.tier0.proofs.Leash.{chunk-contact, action-contact, chunk-leash, action-leash, chunk-more-zones, action-more-zones}
 
 -- ---- a zone that is seen
 
@@ -39,32 +47,85 @@ module _ (p aux : List Float) (i j : ℕ) where
     second-channel-missing = λ second. rw (le-ltb j (length aux) second, and-false (ltb i (length aux)), and-false (leb 2 (length p)));
   }
 
--- ---- a zone that is not seen, by the choice
+-- ---- one zone, by how it is seen and by the choice
+
+module _ (f : Format) (dt : Float) (choice : AbsentCamera) (z : Contact) (radius speed : Float) (i j : ℕ) (is : z ≡ Zone i j radius speed) where
+  unseen-slow : (p aux : List Float) → choice ≡ absent.Slow → seen p aux i j ≡ false → zoneIn f dt choice z p aux ≡ zoneStep f dt speed
+  unfolding zoneIn insideZone
+  unseen-slow p aux new away = rw (is, away, new)
+
+  unseen-none : (p aux : List Float) → choice ≡ absent.NoZone → seen p aux i j ≡ false → zoneIn f dt choice z p aux ≡ pure clear
+  unfolding zoneIn insideZone
+  unseen-none p aux old away = rw (is, away, old)
+
+  seen-within : (p aux : List Float) → SeenInside f radius i j p aux → zoneIn f dt choice z p aux ≡ zoneStep f dt speed
+  unfolding zoneIn insideZone insideSeen
+  seen-within p aux inside = rw (is, inside .is-seen, inside .within, inside .distance-finite)
+
+  seen-either : (p aux : List Float) (other : AbsentCamera) → seen p aux i j ≡ true → zoneIn f dt other z p aux ≡ zoneIn f dt choice z p aux
+  unfolding zoneIn insideZone
+  seen-either p aux other here = rw (is, here)
+
+  module _ (p aux q cam : List Float) where
+    seen-alike : SeenAlike i j p aux q cam → zoneIn f dt choice z q cam ≡ zoneIn f dt choice z p aux
+    unfolding zoneIn insideZone insideSeen
+    seen-alike alike =
+        let centre : List Float = at aux i ∷ at aux j ∷ [] in
+        rw (is, alike .here, alike .there, alike .same-first, alike .same-second, dist-same f q centre p centre 2 (alike .same-place) (λ k l. refl))
+
+    unseen-both : seen p aux i j ≡ false → seen q cam i j ≡ false → zoneIn f dt choice z q cam ≡ zoneIn f dt choice z p aux
+    unfolding zoneIn insideZone
+    unseen-both here there = rw (is, here, there)
+
+    -- under Slow a zone that stands so in two calls says the same
+    stands-alike : choice ≡ absent.Slow → Stands f radius i j p aux q cam → zoneIn f dt choice z q cam ≡ zoneIn f dt choice z p aux
+    stands-alike new = ⊎-elim (λ x. seen-within q cam (x .1) ∙ sym (unseen-slow p aux new (x .0))) (⊎-elim (λ x. unseen-both (x .0) (x .1)) seen-alike)
+
+-- where a zone that is not seen is none, its rule reads no choice
+if-seen : (f : Format) (dt : Float) (choice : AbsentCamera) (z : Contact) (p aux : List Float) → choice ≡ absent.NoZone → zoneIn f dt choice z p aux ≡ zoneIfSeen f dt z p aux
+unfolding zoneIn insideZone insideSeen zoneIfSeen
+if-seen f dt choice None p aux old = refl
+if-seen f dt choice (Zone i j radius speed) p aux old = by-sight (seen p aux i j) refl
+  where
+    by-sight : (b : Bool) → seen p aux i j ≡ b → zoneIn f dt choice (Zone i j radius speed) p aux ≡ zoneIfSeen f dt (Zone i j radius speed) p aux
+    by-sight true e = rw (e, and-true)
+    by-sight false e = rw (e, old)
 
 no-zone-as-rust : NoZoneAsRust
-unfolding slowZone zoneIn insideZone insideSeen zoneIfSeen
-no-zone-as-rust f s p aux old = go (s .contact)
-  where
-    by-sight : (b : Bool) (radius speed : Float) (i j : ℕ) → seen p aux i j ≡ b → zoneIn f (s .dt) (s .«absent_camera») (Zone radius speed i j) p aux ≡ zoneIfSeen f (s .dt) (Zone radius speed i j) p aux
-    by-sight true radius speed i j e = rw (e, and-true)
-    by-sight false radius speed i j e = rw (e, old)
-
-    go : (z : Contact) → (if arms s CONTACT then zoneIn f (s .dt) (s .«absent_camera») z p aux else pure clear) ≡ (if arms s CONTACT then zoneIfSeen f (s .dt) z p aux else pure clear)
-    go None = refl
-    go (Zone radius speed i j) = ap (λ (x : Checked Slow). if arms s CONTACT then x else pure clear) (by-sight (seen p aux i j) radius speed i j refl)
+no-zone-as-rust f s p aux one old =
+    one-zone f s p aux one
+    ∙ ap (λ (x : Checked Slow). if arms s CONTACT then x else pure clear) (if-seen f (s .dt) (s .«absent_camera») (zoneAt (s .zones) 0) p aux old)
 
 pub unseen-is-inside : UnseenIsInside
-unfolding slowZone zoneIn insideZone arms
-unseen-is-inside f s p aux radius speed i j new at-zone = rw (at-zone .contact-armed, at-zone .configured, at-zone .unseen, new)
+unfolding arms zoneStep
+unseen-is-inside f s k p aux radius speed i j new at-zone =
+    let here = unseen-slow f (s .dt) (s .«absent_camera») (zoneAt (s .zones) k) radius speed i j (at-zone .configured) p aux new (at-zone .unseen) in
+    record {
+      counts-as-inside = at-zone .contact-armed &&≡ ap (λ (x : Checked Slow). x .value .inside) here;
+      its-step = ap (λ (x : Checked Slow). x .value .step) here;
+      step-alone = ap (λ (x : Checked Slow). x .sound) here ∙ and-true (finite (mul f speed (s .dt)));
+    }
 
-unseen-is-none : (f : Format) (s : Checks) (p aux : List Float) (radius speed : Float) (i j : ℕ) → s .«absent_camera» ≡ absent.NoZone → ZoneUnseen (s .armed) (s .contact) p aux radius speed i j → slowZone f s p aux ≡ pure clear
-unfolding slowZone zoneIn insideZone arms
-unseen-is-none f s p aux radius speed i j old at-zone = rw (at-zone .contact-armed, at-zone .configured, at-zone .unseen, old)
+-- ---- all zones
 
--- an arm that is seen inside
-seen-is-inside : (f : Format) (s : Checks) (p aux : List Float) (radius speed : Float) (i j : ℕ) → raised CONTACT (s .armed) ≡ true → s .contact ≡ Zone radius speed i j → SeenInside f radius i j p aux → slowZone f s p aux ≡ zoneStep f (s .dt) speed
-unfolding slowZone zoneIn insideZone insideSeen arms
-seen-is-inside f s p aux radius speed i j armed is inside = rw (armed, is, inside .is-seen, inside .within, inside .distance-finite)
+-- two calls of which each zone that counts says the same
+pub zones-same : (f : Format) (s d : Checks) (p aux q cam : List Float) → arms d CONTACT ≡ arms s CONTACT → counted (d .zones) ≡ counted (s .zones)
+    → (arms s CONTACT ≡ true → (k : ℕ) → k < counted (s .zones) → zoneIn f (d .dt) (d .«absent_camera») (zoneAt (d .zones) k) q cam ≡ zoneIn f (s .dt) (s .«absent_camera») (zoneAt (s .zones) k) p aux)
+    → slowZone f d q cam ≡ slowZone f s p aux
+unfolding slowZone
+zones-same f s d p aux q cam armed count each = rw (armed, count) (go (arms s CONTACT) refl)
+  where
+    go : (b : Bool) → arms s CONTACT ≡ b → (if b then slowest f (d .dt) (d .«absent_camera») (zoneAt (d .zones)) q cam (counted (s .zones)) else pure clear) ≡ (if b then slowest f (s .dt) (s .«absent_camera») (zoneAt (s .zones)) p aux (counted (s .zones)) else pure clear)
+    go true e = slowest-alike f (s .dt) (d .dt) (s .«absent_camera») (d .«absent_camera») (zoneAt (s .zones)) (zoneAt (d .zones)) p aux q cam (counted (s .zones)) (each e)
+    go false e = refl
+
+unseen-as-empty : UnseenAsEmpty
+unseen-as-empty f dt p aux z w each =
+    slowest-alike f dt dt absent.NoZone absent.NoZone (zoneAt z) (zoneAt w) p aux p aux (counted z)
+    (λ k l. ⊎-elim (λ e. ap (λ (x : Contact). zoneIn f dt absent.NoZone x p aux) e) (λ x. ap (λ (y : Contact). zoneIn f dt absent.NoZone y p aux) (x .0) ∙ empty-place f dt absent.NoZone p aux None refl ∙ sym (says-nothing (zoneAt z k) (x .1))) (each k l))
+  where
+    says-nothing : (x : Contact) → ((radius speed : Float) (i j : ℕ) → x ≡ Zone i j radius speed → seen p aux i j ≡ false) → zoneIn f dt absent.NoZone x p aux ≡ pure clear
+    says-nothing x away = by-place (λ (y : Contact). zoneIn f dt absent.NoZone y p aux ≡ pure clear) x (empty-place f dt absent.NoZone p aux None refl) (λ radius speed i j e. unseen-none f dt absent.NoZone (Zone i j radius speed) radius speed i j refl p aux refl (away radius speed i j e))
 
 -- ---- with CONTACT unarmed
 
@@ -91,56 +152,83 @@ no-contact-bit a = go (raised CONTACT a) refl
     go true e = let is = eqb-true (a / 32 % 2) 1 e in let none : (a - 32) / 32 % 2 ≡ 0 = omega arith in rw none
     go false e = let z : a - 0 ≡ a = omega arith in rw z e
 
+-- the zones as they are
+as-they-are : (z : Zones) → SameZones z z
+as-they-are z = record { same-count = refl; same-places = λ k l. refl }
+
 module _ (f : Format) (t : Tables) (c : FuseConfig) (p aux : List Float) where
   unarmed-is-none : slowZone f (checksOf f (contactUnarmed c)) p aux ≡ pure clear
   unfolding slowZone checksOf arms
   unarmed-is-none = rw (no-contact-bit (c .armed))
 
   as-unarmed : slowZone f (checksOf f c) p aux ≡ pure clear → AsUnarmed f t c p aux
-  as-unarmed none = same-checks f t c (withoutContact (c .armed)) (c .«absent_camera») (but-contact (c .armed)) p aux p aux (λ j l. refl) refl refl (unarmed-is-none ∙ sym none)
+  as-unarmed none =
+      same-checks f t c (withoutContact (c .armed)) (c .zones) (c .«absent_camera») (but-contact (c .armed)) (as-they-are (c .zones)) p aux p aux (λ j l. refl) refl refl (unarmed-is-none ∙ sym none)
 
-pub no-contact-as-unarmed : (f : Format) (t : Tables) (c : FuseConfig) (choice : AbsentCamera) (p aux : List Float) → c .contact ≡ None → AsUnarmed f t (absentBy c choice) p aux
+pub no-contact-as-unarmed : (f : Format) (t : Tables) (c : FuseConfig) (choice : AbsentCamera) (p aux : List Float) → NoZones (c .zones) → AsUnarmed f t (absentBy c choice) p aux
 unfolding checksOf
 no-contact-as-unarmed f t c choice p aux none = as-unarmed f t (absentBy c choice) p aux (no-contact f (checksOf f (absentBy c choice)) p aux none)
 
--- ---- where a zone is not seen
+-- ---- where zones are not seen
 
-module _ (f : Format) (t : Tables) (c : FuseConfig) (p aux : List Float) (radius speed : Float) (i j : ℕ) (at-zone : ZoneUnseen (c .armed) (c .contact) p aux radius speed i j) where
-  pub unseen-as-unarmed : c .«absent_camera» ≡ absent.NoZone → AsUnarmed f t c p aux
+module _ (f : Format) (t : Tables) (c : FuseConfig) (p aux : List Float) (old : c .«absent_camera» ≡ absent.NoZone) (away : ZonesUnseen c p aux) where
+  none-seen : slowZone f (checksOf f c) p aux ≡ pure clear
+  unfolding checksOf arms
+  none-seen =
+      none-clear f (checksOf f c) p aux
+      (λ armed k l. by-place (λ (z : Contact). zoneIn f (c .limits .dt) (c .«absent_camera») z p aux ≡ pure clear) (zoneAt (c .zones) k)
+      (empty-place f (c .limits .dt) (c .«absent_camera») p aux None refl)
+      (λ radius speed i j e. unseen-none f (c .limits .dt) (c .«absent_camera») (Zone i j radius speed) radius speed i j refl p aux old (away armed k l radius speed i j e)))
+
+  pub unseen-as-unarmed : AsUnarmed f t c p aux
+  unseen-as-unarmed = as-unarmed f t c p aux none-seen
+
+module _ (f : Format) (t : Tables) (c : FuseConfig) (p aux q cam : List Float) (new : c .«absent_camera» ≡ absent.Slow) (each : ZonesStand f c p aux q cam) (stands : StandsAlike c p aux q cam) where
+  inside-alike : slowZone f (checksOf f c) q cam ≡ slowZone f (checksOf f c) p aux
+  unfolding checksOf arms
+  inside-alike =
+      zones-same f (checksOf f c) (checksOf f c) p aux q cam refl refl
+      (λ armed k l. by-place (λ (z : Contact). zoneIn f (c .limits .dt) (c .«absent_camera») z q cam ≡ zoneIn f (c .limits .dt) (c .«absent_camera») z p aux) (zoneAt (c .zones) k)
+      (empty-place f (c .limits .dt) (c .«absent_camera») q cam None refl ∙ sym (empty-place f (c .limits .dt) (c .«absent_camera») p aux None refl))
+      (λ radius speed i j e. stands-alike f (c .limits .dt) (c .«absent_camera») (Zone i j radius speed) radius speed i j refl p aux q cam new (each armed k l radius speed i j e)))
+
+  near : (j : ℕ) → j < boxDims (checksOf f c) → at q j ≡ at p j
   unfolding checksOf
-  unseen-as-unarmed old = as-unarmed f t c p aux (unseen-is-none f (checksOf f c) p aux radius speed i j old at-zone)
+  near = stands .same-axes
 
-  module _ (q cam : List Float) (new : c .«absent_camera» ≡ absent.Slow) (inside : SeenInside f radius i j q cam) (stands : StandsAlike c p aux q cam) where
-    inside-alike : slowZone f (checksOf f c) q cam ≡ slowZone f (checksOf f c) p aux
-    unfolding checksOf
-    inside-alike =
-        seen-is-inside f (checksOf f c) q cam radius speed i j (at-zone .contact-armed) (at-zone .configured) inside
-        ∙ sym (unseen-is-inside f (checksOf f c) p aux radius speed i j new at-zone)
+  neither-short : ltb (length q) (c .«pos_dim») ≡ ltb (length p) (c .«pos_dim»)
+  neither-short = le-ltb _ _ (stands .as-long) ∙ sym (le-ltb _ _ (stands .long-enough))
 
-    near : (j : ℕ) → j < boxDims (checksOf f c) → at q j ≡ at p j
-    unfolding checksOf
-    near = stands .same-axes
+  pub unseen-as-inside : SameChecks f t c q cam c p aux
+  unseen-as-inside =
+      same-checks f t c (c .armed) (c .zones) (c .«absent_camera») (armed-as-it-is (c .armed)) (as-they-are (c .zones)) p aux q cam near neither-short (stands .finite-alike) inside-alike
 
-    neither-short : ltb (length q) (c .«pos_dim») ≡ ltb (length p) (c .«pos_dim»)
-    neither-short = le-ltb _ _ (stands .as-long) ∙ sym (le-ltb _ _ (stands .long-enough))
+-- ---- where all are seen
 
-    pub unseen-as-inside : SameChecks f t c q cam c p aux
-    unseen-as-inside = same-checks f t c (c .armed) (c .«absent_camera») (armed-as-it-is (c .armed)) p aux q cam near neither-short (stands .finite-alike) inside-alike
-
--- ---- elsewhere
-
-module _ (f : Format) (t : Tables) (c : FuseConfig) (choice : AbsentCamera) (p aux : List Float) (shown : ZoneSeen c p aux) where
+module _ (f : Format) (t : Tables) (c : FuseConfig) (choice : AbsentCamera) (p aux : List Float) (shown : ZonesSeen c p aux) where
   either-choice : slowZone f (checksOf f (absentBy c choice)) p aux ≡ slowZone f (checksOf f c) p aux
-  unfolding slowZone checksOf arms zoneIn insideZone
-  either-choice = go (raised CONTACT (c .armed)) refl (c .contact) refl
-    where
-      go : (b : Bool) → raised CONTACT (c .armed) ≡ b → (z : Contact) → c .contact ≡ z → (if b then zoneIn f (c .limits .dt) choice z p aux else pure clear) ≡ (if b then zoneIn f (c .limits .dt) (c .«absent_camera») z p aux else pure clear)
-      go false e z h = refl
-      go true e None h = refl
-      go true e (Zone radius speed i j) h = rw (shown e radius speed i j h)
+  unfolding checksOf arms
+  either-choice =
+      zones-same f (checksOf f c) (checksOf f (absentBy c choice)) p aux p aux refl refl
+      (λ armed k l. by-place (λ (z : Contact). zoneIn f (c .limits .dt) choice z p aux ≡ zoneIn f (c .limits .dt) (c .«absent_camera») z p aux) (zoneAt (c .zones) k)
+      (empty-place f (c .limits .dt) choice p aux None refl ∙ sym (empty-place f (c .limits .dt) (c .«absent_camera») p aux None refl))
+      (λ radius speed i j e. seen-either f (c .limits .dt) (c .«absent_camera») (Zone i j radius speed) radius speed i j refl p aux choice (shown armed k l radius speed i j e)))
 
   pub choice-only-where-unseen : SameChecks f t (absentBy c choice) p aux c p aux
-  choice-only-where-unseen = same-checks f t c (c .armed) choice (armed-as-it-is (c .armed)) p aux p aux (λ j l. refl) refl refl either-choice
+  choice-only-where-unseen = same-checks f t c (c .armed) (c .zones) choice (armed-as-it-is (c .armed)) (as-they-are (c .zones)) p aux p aux (λ j l. refl) refl refl either-choice
+
+-- ---- past the count
+
+module _ (f : Format) (t : Tables) (c : FuseConfig) (w : Zones) (p aux : List Float) (same : SameZones (c .zones) w) where
+  same-counted : counted w ≡ counted (c .zones)
+  same-counted = rw (same .same-count)
+
+  either-list : slowZone f (checksOf f (zonedBy c w)) p aux ≡ slowZone f (checksOf f c) p aux
+  unfolding checksOf arms
+  either-list = zones-same f (checksOf f c) (checksOf f (zonedBy c w)) p aux p aux refl same-counted (λ armed k l. ap (λ (z : Contact). zoneIn f (c .limits .dt) (c .«absent_camera») z p aux) (same .same-places k l))
+
+  unread-zones : SameChecks f t (zonedBy c w) p aux c p aux
+  unread-zones = same-checks f t c (c .armed) w (c .«absent_camera») (armed-as-it-is (c .armed)) same p aux p aux (λ j l. refl) refl refl either-list
 
 -- ---- all that is promised of the two entries
 
@@ -164,18 +252,31 @@ promised = record {
   };
   chunk-walls = chunk-walls;
   action-walls = action-walls;
+  chunk-contact = chunk-contact;
+  action-contact = action-contact;
+  chunk-leash = chunk-leash;
+  action-leash = action-leash;
+  chunk-moved = chunk-moved;
+  action-moved = action-moved;
+  chunk-more-zones = chunk-more-zones;
+  action-more-zones = action-more-zones;
+  unread-zones = unread-zones;
   no-contact-as-unarmed = no-contact-as-unarmed;
-  unseen-as-unarmed = λ f t c p aux radius speed i j old at-zone. unseen-as-unarmed f t c p aux radius speed i j at-zone old;
-  unseen-as-inside = λ f t c p aux q cam radius speed i j new at-zone. unseen-as-inside f t c p aux radius speed i j at-zone q cam new;
+  unseen-as-unarmed = unseen-as-unarmed;
+  unseen-as-inside = unseen-as-inside;
   choice-only-where-unseen = choice-only-where-unseen;
   chunk-raised = chunk-raised;
   action-raised = action-raised;
   walls-touched = walls-touched;
   no-contact = no-contact;
   outside-radius = outside-radius;
+  one-zone = one-zone;
+  each-asked = each-asked;
+  zone-told = zone-told;
   seen-exactly = seen-by-lengths;
   no-zone-as-rust = no-zone-as-rust;
   unseen-is-inside = unseen-is-inside;
+  unseen-as-empty = unseen-as-empty;
   no-zone-no-leash = no-zone-no-leash;
   unarmed-action = unarmed-action;
   unarmed-chunk = unarmed-chunk;

@@ -1,6 +1,6 @@
 -- The rules at the declared structs.
 use Prim.Native.Nat.{ℕ, _*_}
-use mathlib.Core.Bool.{not}
+use mathlib.Core.Bool.{not, _&&_}
 use mathlib.Core.List.{List, [], _∷_, _++_}
 use lib.Dec.{eqb}
 use lib.ListN.{length, replicate}
@@ -25,7 +25,7 @@ use Rattle.tier0.specs.declared.JudgedAction.{JudgedAction}
 use Rattle.tier0.specs.declared.Stride.{Stride}
 use Rattle.tier0.specs.declared.MovedRows.{MovedRows}
 use Rattle.tier0.specs.declared.JudgedChunk.{JudgedChunk}
-use Rattle.tier0.specs.Rule.{Slow, Projected, Judgement, checkAction}
+use Rattle.tier0.specs.Rule.{Slow, slower, Projected, Judgement, checkAction}
 use Rattle.tier0.specs.Chunk.{Run, peakStep, someLonger, someOutOfBox, checkChunk}
 use Rattle.tier0.specs.Refusals.{tooShort, chunkTooShort, answerAt, outAt}
 
@@ -35,7 +35,7 @@ checksFrom c d = record {
   dim = c .dim;
   «pos_dim» = c .«pos_dim»;
   armed = c .armed;
-  contact = c .contact;
+  zones = c .zones;
   «absent_camera» = c .«absent_camera»;
   clamp = c .clamp;
   dt = c .limits .dt;
@@ -60,6 +60,10 @@ slowOf z = record { inside = z .inside; step = z .step }
 abbrev pub zoneFrom : Checked Slow → SlowZone
 zoneFrom x = record { inside = x .value .inside; step = x .value .step; sound = x .sound }
 
+-- two findings together
+abbrev pub slowerOf : SlowZone → SlowZone → SlowZone
+slowerOf a b = record { inside = slower (slowOf a) (slowOf b) .inside; step = slower (slowOf a) (slowOf b) .step; sound = a .sound && b .sound }
+
 abbrev pub clampedFrom : Checked Projected → Clamped
 clampedFrom x = record { at = x .value .rows; mask = x .value .mask; sound = x .sound }
 
@@ -73,7 +77,7 @@ judgedActionFrom x = record {
   sound = x .sound;
 }
 
--- the steps of h rows: the greatest, and whether one is too long, too long for the zone, or out of the box
+-- the steps of h rows: the greatest, and whether one is too long, too long for the zones, or out of the box
 abbrev pub stepsFrom : Format → Checks → Float → List Float → List Float → ℕ → Stride
 stepsFrom f s slow q rows h = record {
   peak = peakStep f q rows (s .dim) h .value;

@@ -2,19 +2,21 @@
 -- projected row that passes its check again is not promised.
 use Prim.Native.Nat.{ℕ, _+_, _-_, _*_, _/_, _%_, _≤_, _<_, min}
 use mathlib.Core.Path.{_≡_}
-use mathlib.Core.Bool.{Bool, true, false, _&&_, _||_}
+use mathlib.Core.Bool.{Bool, true, false, not, _&&_, _||_}
+use mathlib.Core.Logic.{_⊎_}
 use mathlib.Core.List.{List, [], _∷_}
 use lib.Dec.{eqb}
 use lib.ListN.{length, replicate}
 use lib.Ieee.{Float, Format, mul, lt, le, eq}
 use Rattle.bits.specs.Bits.{bit}
 use Rattle.bits.specs.Choice.{if_then_else_}
-use Rattle.checked.specs.Each.{at, over}
+use Rattle.checked.specs.Each.{at, all, some, over, Among}
 use Rattle.checked.specs.Row.{padded}
 use Rattle.checked.specs.Finite.{+0, finite}
 use Rattle.checked.specs.Checked.{Checked, _>>=_, each, pure}
 use Rattle.fmath.specs.Answer.{someNotFinite}
 use Rattle.fmath.specs.Norm.{norm, dist}
+use Rattle.pull.specs.Rule.{pulled}
 use Rattle.workspace.specs.Of.{wallsOf}
 use Rattle.workspace.specs.declared.WallMasks.{WallMasks}
 use Rattle.workspace.specs.Rule.{Walls, beyond, raisedAt, loweredAt, unmoved}
@@ -23,16 +25,18 @@ use Rattle.chunk.specs.declared.Header.{Header}
 use Rattle.conformal.specs.Rule.{Tables}
 use Rattle.envelope.specs.declared.ClampMode.the-variants.{Off, Project}
 use Rattle.envelope.specs.declared.Contact.the-variants.{None, Zone}
-use Rattle.envelope.specs.Promises.{armedBy, absentBy, Agree}
+use Rattle.envelope.specs.Slots.{counted, zoneAt}
+use Rattle.envelope.specs.Promises.{armedBy, absentBy, zonedBy, Agree, SameZones}
 use Rattle.envelope.specs.declared.AbsentCamera.{AbsentCamera}
 use Rattle.envelope.specs.declared.AbsentCamera.the-variants as absent
 use Rattle.envelope.specs.declared.Contact.{Contact}
+use Rattle.envelope.specs.declared.Zones.{Zones}
 use Rattle.envelope.specs.declared.FuseConfig.{FuseConfig}
 use Rattle.tier0.specs.declared.Tier0Out.{Tier0Out}
 use Rattle.tier0.specs.declared.Tier0Out.the-variants.{Passed, Refused}
 use Rattle.tier0.specs.declared.Checks.{Checks}
 use Rattle.tier0.specs.declared.Difference.the-variants.{Accel, Jerk}
-use Rattle.tier0.specs.Rule.{WORKSPACE, SPEED, ACCEL, JERK, REACH, CONTACT, weight, arms, boxDims, Slow, clear, seen, zoneStep, slowZone, outOfBox, outOfReach, leash, boxed, checkAction}
+use Rattle.tier0.specs.Rule.{WORKSPACE, SPEED, ACCEL, JERK, REACH, CONTACT, weight, arms, boxDims, Slow, clear, seen, insideUnseen, zoneStep, zoneIn, slowest, slowZone, outOfBox, outOfReach, leash, boxed, reached, checkAction}
 use Rattle.tier0.specs.Chunk.{rawRow, startRow, rowBefore, stepTo, bends, jolts, someLonger, someOutOfBox, tooLarge, checkChunk}
 use Rattle.tier0.specs.Of.{checksOf, actionAnswer, actionOut, chunkAnswer, chunkOut}
 
@@ -41,9 +45,36 @@ abbrev pub tripsIn : Tier0Out → ℕ
 tripsIn (Passed trips clamped peak walls) = trips
 tripsIn (Refused r) = 0
 
+-- nothing is refused
+abbrev pub accepts : Tier0Out → Bool
+accepts (Passed trips clamped peak walls) = true
+accepts (Refused r) = false
+
 -- a bit of the trips is raised
 abbrev pub raised : ℕ → ℕ → Bool
 raised w t = eqb (t / w % 2) 1
+
+-- ---- the zones one by one
+
+module _ (f : Format) (s : Checks) (p aux : List Float) where
+  -- what the zone at place k of the list says
+  abbrev pub zoneFound : ℕ → Slow
+  zoneFound k = zoneIn f (s .dt) (s .«absent_camera») (zoneAt (s .zones) k) p aux .value
+
+  -- each number that is computed for it is finite
+  abbrev pub zoneFinite : ℕ → Bool
+  zoneFinite k = zoneIn f (s .dt) (s .«absent_camera») (zoneAt (s .zones) k) p aux .sound
+
+  -- the arm is inside it, where CONTACT is armed
+  abbrev pub insideAt : ℕ → Bool
+  insideAt k = arms s CONTACT && zoneFound k .inside
+
+  -- whether rows that are projected have a leash, and the leash
+  abbrev pub leashArmed : Bool
+  leashArmed = arms s SPEED || slowZone f s p aux .value .inside
+
+  abbrev pub leashNow : Float
+  leashNow = leash (arms s SPEED) (s .«step_max») (slowZone f s p aux .value)
 
 -- ---- no limit is exceeded: each number that is compared with one stays below it, or touches it
 
@@ -59,7 +90,7 @@ module _ (f : Format) (c : FuseConfig) (p aux rows : List Float) where
   abbrev pub beforeFirst : List Float
   beforeFirst = startRow checked p rows
 
-  -- the slow zone as the position and the camera have it
+  -- what the slow zones say together
   abbrev pub zoneNow : Slow
   zoneNow = slowZone f checked p aux .value
 
@@ -80,7 +111,7 @@ module _ (f : Format) (c : FuseConfig) (p aux rows : List Float) where
   ChunkSlowEnough h = (i : ℕ) → i < h → lt (checked .«step_max») (stepAt i) ≡ false
 
   abbrev pub ChunkSlowInZone : ℕ → Type 0
-  ChunkSlowInZone h = zoneNow .inside ≡ true → (i : ℕ) → i < h → lt (zoneNow .step) (stepAt i) ≡ false
+  ChunkSlowInZone h = (k : ℕ) → k < counted (c .zones) → insideAt f checked p aux k ≡ true → (i : ℕ) → i < h → lt (zoneFound f checked p aux k .step) (stepAt i) ≡ false
 
   abbrev pub ChunkBendsLittle : ℕ → Type 0
   ChunkBendsLittle h = (i : ℕ) → i < h - 1 → lt (checked .«a_max») (bendAt i) ≡ false
@@ -118,7 +149,7 @@ module _ (f : Format) (c : FuseConfig) (p aux prev a : List Float) where
   ActionSlowEnough = lt (checks .«step_max») actionStep ≡ false
 
   abbrev pub ActionSlowInZone : Type 0
-  ActionSlowInZone = zoneHere .inside ≡ true → lt (zoneHere .step) actionStep ≡ false
+  ActionSlowInZone = (k : ℕ) → k < counted (c .zones) → insideAt f checks p aux k ≡ true → lt (zoneFound f checks p aux k .step) actionStep ≡ false
 
   abbrev pub ActionInReach : Type 0
   ActionInReach = lt (checks .«reach_max») (dist f a p (boxDims checks) .value) ≡ false
@@ -170,13 +201,70 @@ pub record WallsTouched (w : Walls) (a : List Float) (j : ℕ) : Type 0 where
   pub low : lt (at (w .hi) j) (at (w .lo) j) ≡ false → at a j ≡ at (w .lo) j → beyond w a j ≡ false
   pub high : lt (at (w .hi) j) (at (w .lo) j) ≡ false → at a j ≡ at (w .hi) j → beyond w a j ≡ false
 
--- with no contact configured there is no slow zone, whatever the camera says
-abbrev pub NoContact : Type 0
-NoContact = (f : Format) (s : Checks) (p aux : List Float) → s .contact ≡ None → slowZone f s p aux ≡ pure clear
+-- ---- the slow zones
 
--- nor is there one outside the radius of the configured one, where that is seen
+-- of each zone that counts, P holds, with its radius, speed and channels; a place that holds none is no zone
+abbrev pub EachZone : Zones → (Float → Float → ℕ → ℕ → Type 0) → Type 0
+EachZone z P = (k : ℕ) → k < counted z → (radius speed : Float) (i j : ℕ) → zoneAt z k ≡ Zone i j radius speed → P radius speed i j
+
+-- no place that counts holds a zone: none counts, or those that do are empty
+abbrev pub NoZones : Zones → Type 0
+NoZones z = (k : ℕ) → k < counted z → zoneAt z k ≡ None
+
+-- then there is no slow zone, whatever the camera says
+abbrev pub NoContact : Type 0
+NoContact = (f : Format) (s : Checks) (p aux : List Float) → NoZones (s .zones) → slowZone f s p aux ≡ pure clear
+
+-- the arm is seen outside a zone: the distance exceeds the radius
+pub record SeenOutside (f : Format) (radius : Float) (i j : ℕ) (p aux : List Float) : Type 0 where
+  pub in-sight : seen p aux i j ≡ true
+  pub beyond-radius : le (dist f p (at aux i ∷ at aux j ∷ []) 2 .value) radius ≡ false
+
+-- nor is there one where the arm is seen outside each
 abbrev pub OutsideRadius : Type 0
-OutsideRadius = (f : Format) (s : Checks) (p aux : List Float) (radius speed : Float) (i j : ℕ) → s .contact ≡ Zone radius speed i j → seen p aux i j ≡ true → le (dist f p (at aux i ∷ at aux j ∷ []) 2 .value) radius ≡ false → slowZone f s p aux .value ≡ clear
+OutsideRadius = (f : Format) (s : Checks) (p aux : List Float) → EachZone (s .zones) (λ radius speed i j. SeenOutside f radius i j p aux) → slowZone f s p aux .value ≡ clear
+
+-- one zone is the rule of a single contact
+abbrev pub OneZone : Type 0
+OneZone = (f : Format) (s : Checks) (p aux : List Float) → s .zones .count ≡ 1 → slowZone f s p aux ≡ (if arms s CONTACT then zoneIn f (s .dt) (s .«absent_camera») (zoneAt (s .zones) 0) p aux else pure clear)
+
+-- each zone is asked by its own channels: by the distance where it is seen, by the choice where it is not. Inside, its step is its speed x dt
+pub record ZoneTold (f : Format) (s : Checks) (p aux : List Float) (k : ℕ) : Type 0 where
+  pub empty-place : zoneAt (s .zones) k ≡ None → zoneFound f s p aux k ≡ clear
+  pub seen-by-distance : (radius speed : Float) (i j : ℕ) → zoneAt (s .zones) k ≡ Zone i j radius speed → seen p aux i j ≡ true → zoneFound f s p aux k .inside ≡ le (dist f p (at aux i ∷ at aux j ∷ []) 2 .value) radius
+  pub unseen-by-choice : (radius speed : Float) (i j : ℕ) → zoneAt (s .zones) k ≡ Zone i j radius speed → seen p aux i j ≡ false → zoneFound f s p aux k .inside ≡ insideUnseen (s .«absent_camera»)
+  pub step-inside : (radius speed : Float) (i j : ℕ) → zoneAt (s .zones) k ≡ Zone i j radius speed → zoneFound f s p aux k .inside ≡ true → zoneFound f s p aux k .step ≡ mul f speed (s .dt)
+  -- finite have to be its distance where it is seen, and its step where the arm is inside
+  pub empty-computes-nothing : zoneAt (s .zones) k ≡ None → zoneFinite f s p aux k ≡ true
+  pub seen-computes : (radius speed : Float) (i j : ℕ) → zoneAt (s .zones) k ≡ Zone i j radius speed → seen p aux i j ≡ true → zoneFinite f s p aux k ≡ (dist f p (at aux i ∷ at aux j ∷ []) 2 .sound && (not (zoneFound f s p aux k .inside) || finite (mul f speed (s .dt))))
+  pub unseen-computes : (radius speed : Float) (i j : ℕ) → zoneAt (s .zones) k ≡ Zone i j radius speed → seen p aux i j ≡ false → zoneFinite f s p aux k ≡ (not (zoneFound f s p aux k .inside) || finite (mul f speed (s .dt)))
+
+-- where CONTACT is armed, 13 comes from each zone that counts, and from no other: none is skipped
+abbrev pub EachAsked : Type 0
+EachAsked = (f : Format) (s : Checks) (p aux : List Float) → slowZone f s p aux .sound ≡ (not (arms s CONTACT) || all (zoneFinite f s p aux) (counted (s .zones)))
+
+-- the leash is armed by SPEED and by each zone that the arm is inside; it is at most each of their steps, and it is one of them
+pub record LeashTold (f : Format) (s : Checks) (p aux : List Float) : Type 0 where
+  pub armed-exactly : leashArmed f s p aux ≡ (arms s SPEED || some (insideAt f s p aux) (counted (s .zones)))
+  pub at-most-speed : arms s SPEED ≡ true → le (leashNow f s p aux) (s .«step_max») ≡ true
+  pub at-most-zone : (k : ℕ) → k < counted (s .zones) → insideAt f s p aux k ≡ true → le (leashNow f s p aux) (zoneFound f s p aux k .step) ≡ true
+  pub is-armed-step : leashArmed f s p aux ≡ true → ((arms s SPEED ≡ true) × (leashNow f s p aux ≡ s .«step_max»)) ⊎ Among (insideAt f s p aux) (counted (s .zones)) (λ (k : ℕ). leashNow f s p aux ≡ zoneFound f s p aux k .step)
+
+-- a row as projection moves it: into the box, by that leash towards the row before it, and, the first one, by the reach towards the position
+abbrev pub movedRow : Format → Checks → (p aux : List Float) → Bool → (prev a : List Float) → Checked (List Float)
+movedRow f s p aux isFirst prev a = do
+  b ← boxed f s a
+  l ← if leashArmed f s p aux then pulled f (leashNow f s p aux) prev (s .dim) b else pure b
+  if isFirst then reached f s p l else pure l
+
+-- a list has every zone of another, at whatever places: the other with one more zone, or several, is such a list
+abbrev pub HasZonesOf : Zones → Zones → Type 0
+HasZonesOf w z = EachZone z (λ radius speed i j. Among (λ (m : ℕ). true) (counted w) (λ (m : ℕ). zoneAt w m ≡ Zone i j radius speed))
+
+-- where d has every zone of s, and s has a leash, so has d, and it is not longer
+pub record LeashNotLonger (f : Format) (s d : Checks) (p aux : List Float) : Type 0 where
+  pub still-armed : leashArmed f s p aux ≡ true → leashArmed f d p aux ≡ true
+  pub not-longer : leashArmed f s p aux ≡ true → le (leashNow f d p aux) (leashNow f s p aux) ≡ true
 
 -- ---- a zone that is not seen
 
@@ -190,26 +278,43 @@ pub record SeenExactly (p aux : List Float) (i j : ℕ) : Type 0 where
 -- the zone where one that is not seen is none, which is the Rust's rule: no choice is read
 unfoldable pub zoneIfSeen : Format → Float → Contact → List Float → List Float → Checked Slow
 zoneIfSeen f dt None p aux = pure clear
-zoneIfSeen f dt (Zone radius speed i j) p aux =
+zoneIfSeen f dt (Zone i j radius speed) p aux =
     if seen p aux i j then (do d ← dist f p (at aux i ∷ at aux j ∷ []) 2; if le d radius then zoneStep f dt speed else pure clear) else pure clear
 
--- under NoZone that is the rule
+-- under NoZone that is the rule of one zone
 abbrev pub NoZoneAsRust : Type 0
-NoZoneAsRust = (f : Format) (s : Checks) (p aux : List Float) → s .«absent_camera» ≡ absent.NoZone → slowZone f s p aux ≡ (if arms s CONTACT then zoneIfSeen f (s .dt) (s .contact) p aux else pure clear)
+NoZoneAsRust = (f : Format) (s : Checks) (p aux : List Float) → s .zones .count ≡ 1 → s .«absent_camera» ≡ absent.NoZone → slowZone f s p aux ≡ (if arms s CONTACT then zoneIfSeen f (s .dt) (zoneAt (s .zones) 0) p aux else pure clear)
 
--- a zone that is configured and armed, and not seen
-pub record ZoneUnseen (armed : ℕ) (contact : Contact) (p aux : List Float) (radius speed : Float) (i j : ℕ) : Type 0 where
+-- a zone at place k that counts, where CONTACT is armed, and is not seen
+pub record ZoneUnseen (armed : ℕ) (z : Zones) (k : ℕ) (p aux : List Float) (radius speed : Float) (i j : ℕ) : Type 0 where
   pub contact-armed : raised CONTACT armed ≡ true
-  pub configured : contact ≡ Zone radius speed i j
+  pub counts : k < counted z
+  pub configured : zoneAt z k ≡ Zone i j radius speed
   pub unseen : seen p aux i j ≡ false
 
--- under Slow the arm is inside it: its step is computed, no distance is
-abbrev pub UnseenIsInside : Type 0
-UnseenIsInside = (f : Format) (s : Checks) (p aux : List Float) (radius speed : Float) (i j : ℕ) → s .«absent_camera» ≡ absent.Slow → ZoneUnseen (s .armed) (s .contact) p aux radius speed i j → slowZone f s p aux ≡ zoneStep f (s .dt) speed
+-- under Slow the arm is inside it, its step is speed x dt, and no distance is computed
+pub record InsideUnseen (f : Format) (s : Checks) (k : ℕ) (p aux : List Float) (speed : Float) : Type 0 where
+  pub counts-as-inside : insideAt f s p aux k ≡ true
+  pub its-step : zoneFound f s p aux k .step ≡ mul f speed (s .dt)
+  pub step-alone : zoneFinite f s p aux k ≡ finite (mul f speed (s .dt))
 
--- without a zone no slow step enters the leash
+abbrev pub UnseenIsInside : Type 0
+UnseenIsInside = (f : Format) (s : Checks) (k : ℕ) (p aux : List Float) (radius speed : Float) (i j : ℕ) → s .«absent_camera» ≡ absent.Slow → ZoneUnseen (s .armed) (s .zones) k p aux radius speed i j → InsideUnseen f s k p aux speed
+
+-- under NoZone a place whose zone is not seen may as well be empty: w has none there, and elsewhere what z has
+abbrev pub EmptyWhereUnseen : (p aux : List Float) → Zones → Zones → Type 0
+EmptyWhereUnseen p aux z w = (k : ℕ) → k < counted z → (zoneAt w k ≡ zoneAt z k) ⊎ ((zoneAt w k ≡ None) × ((radius speed : Float) (i j : ℕ) → zoneAt z k ≡ Zone i j radius speed → seen p aux i j ≡ false))
+
+abbrev pub UnseenAsEmpty : Type 0
+UnseenAsEmpty = (f : Format) (dt : Float) (p aux : List Float) (z w : Zones) → EmptyWhereUnseen p aux z w → slowest f dt absent.NoZone (zoneAt w) p aux (counted z) ≡ slowest f dt absent.NoZone (zoneAt z) p aux (counted z)
+
+-- without a zone SPEED alone arms the leash, and it is the step of SPEED
+pub record SpeedAlone (f : Format) (s : Checks) (p aux : List Float) : Type 0 where
+  pub armed-by-speed : leashArmed f s p aux ≡ arms s SPEED
+  pub the-longest-step : arms s SPEED ≡ true → leashNow f s p aux ≡ s .«step_max»
+
 abbrev pub NoZoneNoLeash : Type 0
-NoZoneNoLeash = (speed : Bool) (most : Float) → leash speed most clear ≡ (if speed then most else clear .step)
+NoZoneNoLeash = (f : Format) (s : Checks) (p aux : List Float) → NoZones (s .zones) → SpeedAlone f s p aux
 
 -- with nothing armed an action comes out as it went in, and clamped_dims is 0
 abbrev pub UnarmedAction : Type 0
@@ -287,15 +392,35 @@ pub record SameChecks (f : Format) (t : Tables) (d : FuseConfig) (q cam : List F
 abbrev pub AsUnarmed : Format → Tables → FuseConfig → (p aux : List Float) → Type 0
 AsUnarmed f t c p aux = SameChecks f t (contactUnarmed c) p aux c p aux
 
--- where CONTACT is armed, a zone that is configured is seen
-abbrev pub ZoneSeen : FuseConfig → (p aux : List Float) → Type 0
-ZoneSeen c p aux = raised CONTACT (c .armed) ≡ true → (radius speed : Float) (i j : ℕ) → c .contact ≡ Zone radius speed i j → seen p aux i j ≡ true
+-- where CONTACT is armed, each zone that counts is seen
+abbrev pub ZonesSeen : FuseConfig → (p aux : List Float) → Type 0
+ZonesSeen c p aux = raised CONTACT (c .armed) ≡ true → EachZone (c .zones) (λ radius speed i j. seen p aux i j ≡ true)
+
+-- or none is
+abbrev pub ZonesUnseen : FuseConfig → (p aux : List Float) → Type 0
+ZonesUnseen c p aux = raised CONTACT (c .armed) ≡ true → EachZone (c .zones) (λ radius speed i j. seen p aux i j ≡ false)
 
 -- the arm is seen inside a zone: the distance is finite, and at most the radius
 pub record SeenInside (f : Format) (radius : Float) (i j : ℕ) (p aux : List Float) : Type 0 where
   pub is-seen : seen p aux i j ≡ true
   pub distance-finite : dist f p (at aux i ∷ at aux j ∷ []) 2 .sound ≡ true
   pub within : le (dist f p (at aux i ∷ at aux j ∷ []) 2 .value) radius ≡ true
+
+-- a zone is seen in two calls from the same place, and round the same centre
+pub record SeenAlike (i j : ℕ) (p aux q cam : List Float) : Type 0 where
+  pub here : seen p aux i j ≡ true
+  pub there : seen q cam i j ≡ true
+  pub same-place : Agree 2 q p
+  pub same-first : at cam i ≡ at aux i
+  pub same-second : at cam j ≡ at aux j
+
+-- how a zone stands in two calls: not seen at p and the arm seen inside it at q, not seen in either, or seen alike
+abbrev pub Stands : Format → Float → (i j : ℕ) → (p aux q cam : List Float) → Type 0
+Stands f radius i j p aux q cam = ((seen p aux i j ≡ false) × SeenInside f radius i j q cam) ⊎ (((seen p aux i j ≡ false) × (seen q cam i j ≡ false)) ⊎ SeenAlike i j p aux q cam)
+
+-- where CONTACT is armed, so stands each zone that counts
+abbrev pub ZonesStand : Format → FuseConfig → (p aux q cam : List Float) → Type 0
+ZonesStand f c p aux q cam = raised CONTACT (c .armed) ≡ true → EachZone (c .zones) (λ radius speed i j. Stands f radius i j p aux q cam)
 
 -- two positions with the same coordinates on the shared axes, both long enough, and beside each a message; numbers that are not finite stand beside both or neither
 pub record StandsAlike (c : FuseConfig) (p aux q cam : List Float) : Type 0 where
@@ -313,26 +438,60 @@ pub record Promised : Type 0 where
   pub action-walls :
       (f : Format) (c : FuseConfig) (t : Tables) (p aux prev a l : List Float) (trips dims : ℕ) (speed : Float) (walls : WallMasks)
       → actionAnswer f c t p aux prev a (length l) ≡ Passed trips dims speed walls → ActionWalls f c t p aux prev a l dims walls
-  -- without a contact, under either choice, the checks answer and write what they do with CONTACT unarmed
-  pub no-contact-as-unarmed : (f : Format) (t : Tables) (c : FuseConfig) (choice : AbsentCamera) (p aux : List Float) → c .contact ≡ None → AsUnarmed f t (absentBy c choice) p aux
-  -- and so they do, under NoZone, where a zone is not seen
+  -- CONTACT is raised exactly when it is armed and some step exceeds the step of some zone that the arm is inside
+  pub chunk-contact :
+      (f : Format) (c : FuseConfig) (t : Tables) (p aux rows : List Float) (k : Header) (room trips dims : ℕ) (speed : Float) (walls : WallMasks)
+      → chunkAnswer f c t p aux rows k room ≡ Passed trips dims speed walls
+      → raised CONTACT trips ≡ some (λ (z : ℕ). insideAt f (checksOf f c) p aux z && someLonger f (beforeFirst f c p aux rows) rows (c .dim) (zoneFound f (checksOf f c) p aux z .step) (k .horizon)) (counted (c .zones))
+  pub action-contact :
+      (f : Format) (c : FuseConfig) (t : Tables) (p aux prev a : List Float) (room trips dims : ℕ) (speed : Float) (walls : WallMasks)
+      → actionAnswer f c t p aux prev a room ≡ Passed trips dims speed walls
+      → raised CONTACT trips ≡ some (λ (z : ℕ). insideAt f (checksOf f c) p aux z && lt (zoneFound f (checksOf f c) p aux z .step) (dist f a prev (c .dim) .value)) (counted (c .zones))
+  -- where a leash is armed it is the least of the armed steps, and one of them
+  pub chunk-leash : (f : Format) (c : FuseConfig) (t : Tables) (p aux rows : List Float) (k : Header) (room : ℕ) → accepts (chunkAnswer f c t p aux rows k room) ≡ true → LeashTold f (checksOf f c) p aux
+  pub action-leash : (f : Format) (c : FuseConfig) (t : Tables) (p aux prev a : List Float) (room : ℕ) → accepts (actionAnswer f c t p aux prev a room) ≡ true → LeashTold f (checksOf f c) p aux
+  -- under Project each row goes out as that leash moves it, from the row that went out before it, the first from what stands before row 0
+  pub chunk-moved :
+      (f : Format) (c : FuseConfig) (t : Tables) (p aux rows : List Float) (k : Header) (l : List Float) (trips dims : ℕ) (speed : Float) (walls : WallMasks)
+      → chunkAnswer f c t p aux rows k (length l) ≡ Passed trips dims speed walls → c .clamp ≡ Project → (i j : ℕ) → i < k .horizon → j < checksOf f c .dim
+      → at (chunkOut f c t p aux rows k l) (i * checksOf f c .dim + j) ≡ at (movedRow f (checksOf f c) p aux (eqb i 0) (rowBefore (beforeFirst f c p aux rows) (chunkOut f c t p aux rows k l) (checksOf f c .dim) i) (rawRow rows (checksOf f c .dim) i) .value) j
+  pub action-moved :
+      (f : Format) (c : FuseConfig) (t : Tables) (p aux prev a l : List Float) (trips dims : ℕ) (speed : Float) (walls : WallMasks)
+      → actionAnswer f c t p aux prev a (length l) ≡ Passed trips dims speed walls → c .clamp ≡ Project → (j : ℕ) → j < checksOf f c .dim
+      → at (actionOut f c t p aux prev a l) j ≡ at (movedRow f (checksOf f c) p aux true prev (padded a (checksOf f c .dim)) .value) j
+  -- and with more zones it is not longer
+  pub chunk-more-zones :
+      (f : Format) (c : FuseConfig) (t : Tables) (w : Zones) (p aux : List Float) → HasZonesOf w (c .zones) → (rows : List Float) (k : Header) (room : ℕ)
+      → accepts (chunkAnswer f c t p aux rows k room) ≡ true → accepts (chunkAnswer f (zonedBy c w) t p aux rows k room) ≡ true → LeashNotLonger f (checksOf f c) (checksOf f (zonedBy c w)) p aux
+  pub action-more-zones :
+      (f : Format) (c : FuseConfig) (t : Tables) (w : Zones) (p aux : List Float) → HasZonesOf w (c .zones) → (prev a : List Float) (room : ℕ)
+      → accepts (actionAnswer f c t p aux prev a room) ≡ true → accepts (actionAnswer f (zonedBy c w) t p aux prev a room) ≡ true → LeashNotLonger f (checksOf f c) (checksOf f (zonedBy c w)) p aux
+  -- what stands past the count of zones is not read
+  pub unread-zones : (f : Format) (t : Tables) (c : FuseConfig) (w : Zones) (p aux : List Float) → SameZones (c .zones) w → SameChecks f t (zonedBy c w) p aux c p aux
+  -- without a zone, under either choice, the checks answer and write what they do with CONTACT unarmed
+  pub no-contact-as-unarmed : (f : Format) (t : Tables) (c : FuseConfig) (choice : AbsentCamera) (p aux : List Float) → NoZones (c .zones) → AsUnarmed f t (absentBy c choice) p aux
+  -- and so they do, under NoZone, where no zone is seen
   pub unseen-as-unarmed :
-      (f : Format) (t : Tables) (c : FuseConfig) (p aux : List Float) (radius speed : Float) (i j : ℕ)
-      → c .«absent_camera» ≡ absent.NoZone → ZoneUnseen (c .armed) (c .contact) p aux radius speed i j → AsUnarmed f t c p aux
-  -- under Slow they answer and write there what they do for an arm that is seen inside the zone
+      (f : Format) (t : Tables) (c : FuseConfig) (p aux : List Float)
+      → c .«absent_camera» ≡ absent.NoZone → ZonesUnseen c p aux → AsUnarmed f t c p aux
+  -- under Slow they answer and write, where a zone is not seen, what they do for an arm that is seen inside it and stands to the others alike
   pub unseen-as-inside :
-      (f : Format) (t : Tables) (c : FuseConfig) (p aux q cam : List Float) (radius speed : Float) (i j : ℕ)
-      → c .«absent_camera» ≡ absent.Slow → ZoneUnseen (c .armed) (c .contact) p aux radius speed i j → SeenInside f radius i j q cam → StandsAlike c p aux q cam → SameChecks f t c q cam c p aux
-  -- elsewhere the choice changes nothing
-  pub choice-only-where-unseen : (f : Format) (t : Tables) (c : FuseConfig) (choice : AbsentCamera) (p aux : List Float) → ZoneSeen c p aux → SameChecks f t (absentBy c choice) p aux c p aux
+      (f : Format) (t : Tables) (c : FuseConfig) (p aux q cam : List Float)
+      → c .«absent_camera» ≡ absent.Slow → ZonesStand f c p aux q cam → StandsAlike c p aux q cam → SameChecks f t c q cam c p aux
+  -- where all are seen the choice changes nothing
+  pub choice-only-where-unseen : (f : Format) (t : Tables) (c : FuseConfig) (choice : AbsentCamera) (p aux : List Float) → ZonesSeen c p aux → SameChecks f t (absentBy c choice) p aux c p aux
   pub chunk-raised : (f : Format) (s : Checks) (p aux rows l : List Float) (h : ℕ) → ChunkRaised f s p aux rows l h
   pub action-raised : (f : Format) (s : Checks) (p aux prev a : List Float) → ActionRaised f s p aux prev a
   pub walls-touched : (w : Walls) (a : List Float) (j : ℕ) → WallsTouched w a j
   pub no-contact : NoContact
   pub outside-radius : OutsideRadius
+  pub one-zone : OneZone
+  pub each-asked : EachAsked
+  pub zone-told : (f : Format) (s : Checks) (p aux : List Float) (k : ℕ) → ZoneTold f s p aux k
   pub seen-exactly : (p aux : List Float) (i j : ℕ) → SeenExactly p aux i j
   pub no-zone-as-rust : NoZoneAsRust
   pub unseen-is-inside : UnseenIsInside
+  pub unseen-as-empty : UnseenAsEmpty
   pub no-zone-no-leash : NoZoneNoLeash
   pub unarmed-action : UnarmedAction
   pub unarmed-chunk : UnarmedChunk

@@ -1,5 +1,5 @@
 -- The rules of the checks for one row (R5), over the format. Whatever is computed is checked.
-use Prim.Native.Nat.{ℕ, _+_, _/_, _%_, min}
+use Prim.Native.Nat.{ℕ, zero, suc, _+_, _/_, _%_, min}
 use mathlib.Core.Bool.{Bool, true, false, _&&_, _||_}
 use mathlib.Core.List.{List, [], _∷_}
 use lib.Dec.{ltb, leb, eqb}
@@ -21,6 +21,7 @@ use Rattle.envelope.specs.declared.ClampMode.{ClampMode}
 use Rattle.envelope.specs.declared.ClampMode.the-variants.{Off, Project}
 use Rattle.envelope.specs.declared.AbsentCamera.{AbsentCamera}
 use Rattle.envelope.specs.declared.AbsentCamera.the-variants as absent
+use Rattle.envelope.specs.Slots.{counted, zoneAt}
 use Rattle.envelope.specs.declared.Contact.{Contact}
 use Rattle.envelope.specs.declared.Contact.the-variants.{None, Zone}
 use Rattle.tier0.specs.declared.Checks.{Checks}
@@ -51,9 +52,9 @@ arms s w = eqb (s .armed / w % 2) 1
 abbrev pub boxDims : Checks → ℕ
 boxDims s = min (s .dim) (s .«pos_dim»)
 
--- ---- the slow zone
+-- ---- the slow zones
 
--- whether the position is inside it, and the step that it then allows
+-- whether the position is inside a zone, or one of some, and the step that is then allowed, the least of theirs
 pub record Slow : Type 0 where
   pub inside : Bool
   pub step : Float
@@ -87,16 +88,28 @@ zoneStep f dt speed = do
   step ← times f speed dt
   pure (record { inside = true; step = step })
 
--- the zone of a configuration, which may have none; its step is computed only inside
+-- one zone of a configuration; its place may hold none. Its step is computed only inside
 unfoldable pub zoneIn : Format → Float → AbsentCamera → Contact → List Float → List Float → Checked Slow
 zoneIn f dt choice None p aux = pure clear
-zoneIn f dt choice (Zone radius speed i j) p aux = do
+zoneIn f dt choice (Zone i j radius speed) p aux = do
   inside ← insideZone f choice radius i j p aux
   if inside then zoneStep f dt speed else pure clear
 
--- the armed contact step
+-- two findings together: of the zones that the arm is inside, the lesser step
+abbrev pub slower : Slow → Slow → Slow
+slower a b = if a .inside then (if b .inside then record { inside = true; step = lesser (a .step) (b .step) } else a) else b
+
+-- the zones at places 0, .., n - 1; each is asked, whatever those before it say
+unfoldable pub slowest : Format → Float → AbsentCamera → (ℕ → Contact) → List Float → List Float → ℕ → Checked Slow
+slowest f dt choice zone p aux zero = pure clear
+slowest f dt choice zone p aux (suc n) = do
+  a ← slowest f dt choice zone p aux n
+  b ← zoneIn f dt choice (zone n) p aux
+  pure (slower a b)
+
+-- the zones that count, where CONTACT is armed
 unfoldable pub slowZone : Format → Checks → List Float → List Float → Checked Slow
-slowZone f s p aux = if arms s CONTACT then zoneIn f (s .dt) (s .«absent_camera») (s .contact) p aux else pure clear
+slowZone f s p aux = if arms s CONTACT then slowest f (s .dt) (s .«absent_camera») (zoneAt (s .zones)) p aux (counted (s .zones)) else pure clear
 
 -- ---- trips: strictly exceeded, on the row as it came
 
@@ -187,5 +200,5 @@ checkAction f s p aux prev a = do
   far ← outOfReach f s p a
   after ← projection f s (s .clamp) z p prev (padded a (s .dim))
   let fast = arms s SPEED && lt (s .«step_max») n
-  let close = z .inside && lt (z .step) n
+  let close = z .inside && lt (z .step) n  -- the least step is exceeded where some zone's is
   pure (record { trips = tripBits out fast false false far close; peak = v; after = after; walls = rowMasks s a })

@@ -1,8 +1,9 @@
--- What is not promised of projection, which walls moved rows, and what a zone counts as that is not seen, by computation.
+-- What is not promised of projection, which walls moved rows, what a zone counts as that is not seen, and what several zones say, by computation.
 use Prim.Native.Nat.{ℕ, zero, suc, _+_, _<_}
 use mathlib.Core.Path.{_≡_, refl}
 use native.Mathlib.Omega.{arith}
 use mathlib.Core.Bool.{true, false}
+use mathlib.Core.Logic.{inl, inr}
 use mathlib.Core.List.{List, [], _∷_}
 use lib.IntN.{pos, negsuc}
 use lib.ListN.{replicate}
@@ -11,6 +12,7 @@ use Rattle.root.specs.Root.{rootOf, number, rootExponent, half, nearRoot, floor
 use Rattle.checked.specs.Constants.{1!, 2! }
 use Rattle.checked.specs.Each.{at, over, all, some}
 use Rattle.checked.specs.Finite.{finite, allFinite, +0}
+use Rattle.checked.specs.Least.{lesser}
 use Rattle.checked.specs.Row.{padded}
 use Rattle.checked.specs.Checked.{Checked, pure, sumFrom, each}
 use Rattle.fmath.specs.Norm.{squaredGap, dist}
@@ -22,22 +24,28 @@ use Rattle.envelope.specs.declared.ClampMode.{ClampMode}
 use Rattle.envelope.specs.declared.ClampMode.the-variants.{Off, Project}
 use Rattle.envelope.specs.declared.AbsentCamera.{AbsentCamera}
 use Rattle.envelope.specs.declared.AbsentCamera.the-variants as absent
+use Rattle.envelope.specs.Slots.{zoneAt}
+use Rattle.envelope.specs.declared.Zones.{Zones}
 use Rattle.envelope.specs.declared.Contact.{Contact}
 use Rattle.envelope.specs.declared.Contact.the-variants.{None, Zone}
 use Rattle.pull.specs.Rule.{toward, shortened, pulled}
 use Rattle.envelope.specs.declared.FuseConfig.{FuseConfig}
 use Rattle.tier0.specs.declared.Checks.{Checks}
-use Rattle.tier0.specs.Rule.{WORKSPACE, SPEED, CONTACT, arms, Slow, clear, insideSeen, insideZone, zoneStep, zoneIn, slowZone, outOfBox, outOfReach, tripBits, boxed, leashed, reached, moves, project, projection, boxesRows, rowMasks, Judgement, checkAction}
+use Rattle.tier0.specs.Rule.{WORKSPACE, SPEED, CONTACT, arms, Slow, clear, insideSeen, insideZone, zoneStep, zoneIn, slowest, slowZone, outOfBox, outOfReach, tripBits, boxed, leashed, reached, moves, project, projection, boxesRows, rowMasks, Judgement, checkAction}
 use Rattle.tier0.specs.Chunk.{rowsMasks}
-use Rattle.tier0.specs.Promises.{SeenInside, StandsAlike}
+use Rattle.tier0.specs.Promises.{leashNow, SeenInside, Stands, ZonesStand, StandsAlike}
+
+-- so many zones of two places; the further places hold none
+abbrev list : ℕ → Contact → Contact → Zones
+list count one other = record { count = count; list = record { contact = one } ∷ record { contact = other } ∷ record { contact = None } ∷ record { contact = None } ∷ [] }
 
 -- a position of one coordinate or more, and rows of dim
-abbrev checkingZone : Contact → AbsentCamera → Float → ℕ → ClampMode → ℕ → Float → Workspace → Checks
-checkingZone zone choice dt dim mode armed step walls = record {
+abbrev checkingZones : Zones → AbsentCamera → Float → ℕ → ClampMode → ℕ → Float → Workspace → Checks
+checkingZones zones choice dt dim mode armed step walls = record {
   dim = dim;
   «pos_dim» = 1;
   armed = armed;
-  contact = zone;
+  zones = zones;
   «absent_camera» = choice;
   clamp = mode;
   dt = dt;
@@ -53,7 +61,7 @@ checkingZone zone choice dt dim mode armed step walls = record {
 
 -- no zone, and a control period of 1
 abbrev checking : ℕ → ClampMode → ℕ → Float → Workspace → Checks
-checking = checkingZone None absent.Slow 1!
+checking = checkingZones (list 0 None None) absent.Slow 1!
 
 -- SPEED alone armed, step 1.5
 abbrev line : Checks
@@ -129,7 +137,7 @@ taken-back-walls = refl
 
 -- a zone of radius 1, whose centre is on channels 2 and 0; the control period is 2
 abbrev zonedAt : Float → AbsentCamera → ℕ → Checks
-zonedAt speed choice armed = checkingZone (Zone 1! speed 2 0) choice 2! 1 Off armed 1! (record { lo = []; hi = [] })
+zonedAt speed choice armed = checkingZones (list 1 (Zone 2 0 1! speed) None) choice 2! 1 Off armed 1! (record { lo = []; hi = [] })
 
 -- its speed is 1.5, so that the step is 3
 abbrev zoned : AbsentCamera → ℕ → Checks
@@ -143,30 +151,30 @@ abbrev corner : List Float
 corner = 5! ∷ 5! ∷ []
 
 pub far-from-it : slowZone binary64 (zoned absent.Slow CONTACT) corner (+0 ∷ +0 ∷ +0 ∷ []) ≡ pure clear
-unfolding slowZone arms zoneIn insideZone insideSeen dist sumFrom squaredGap add sub mul rootOf number rootExponent half nearRoot floorRoot scaled le finite
+unfolding slowZone slowest arms zoneIn insideZone insideSeen dist sumFrom squaredGap add sub mul rootOf number rootExponent half nearRoot floorRoot scaled le finite
 far-from-it = refl
 
 pub first-channel-missing : slowZone binary64 (zoned absent.Slow CONTACT) corner (+0 ∷ +0 ∷ []) ≡ at-zone-speed
-unfolding slowZone arms zoneIn insideZone zoneStep mul finite
+unfolding slowZone slowest arms zoneIn insideZone zoneStep mul finite
 first-channel-missing = refl
 
 -- on channels 0 and 2, the same message lacks the second
-pub second-channel-missing : zoneIn binary64 2! absent.Slow (Zone 1! (fin false 3 (negsuc 0)) 0 2) corner (+0 ∷ +0 ∷ []) ≡ at-zone-speed
+pub second-channel-missing : zoneIn binary64 2! absent.Slow (Zone 0 2 1! (fin false 3 (negsuc 0))) corner (+0 ∷ +0 ∷ []) ≡ at-zone-speed
 unfolding zoneIn insideZone zoneStep mul finite
 second-channel-missing = refl
 
 pub no-message : slowZone binary64 (zoned absent.Slow CONTACT) corner [] ≡ at-zone-speed
-unfolding slowZone arms zoneIn insideZone zoneStep mul finite
+unfolding slowZone slowest arms zoneIn insideZone zoneStep mul finite
 no-message = refl
 
 -- a position of one coordinate, whatever the camera sends
 pub one-coordinate : slowZone binary64 (zoned absent.Slow CONTACT) (5! ∷ []) (+0 ∷ +0 ∷ +0 ∷ []) ≡ at-zone-speed
-unfolding slowZone arms zoneIn insideZone zoneStep mul finite
+unfolding slowZone slowest arms zoneIn insideZone zoneStep mul finite
 one-coordinate = refl
 
 -- with the other choice, with CONTACT unarmed and without a zone there is none
 pub none-by-choice : slowZone binary64 (zoned absent.NoZone CONTACT) corner [] ≡ pure clear
-unfolding slowZone arms zoneIn insideZone
+unfolding slowZone slowest arms zoneIn insideZone
 none-by-choice = refl
 
 pub none-where-unarmed : slowZone binary64 (zoned absent.Slow SPEED) corner [] ≡ pure clear
@@ -174,26 +182,91 @@ unfolding slowZone arms
 none-where-unarmed = refl
 
 pub none-configured : slowZone binary64 (checking 1 Off CONTACT 1! (record { lo = []; hi = [] })) corner [] ≡ pure clear
-unfolding slowZone arms zoneIn
+unfolding slowZone slowest arms zoneIn
 none-configured = refl
 
 -- a distance that would overflow is not computed: the arm at 2^600
 pub distance-not-computed : slowZone binary64 (zoned absent.Slow CONTACT) (fin false 1 (pos 600) ∷ +0 ∷ []) (+0 ∷ +0 ∷ []) ≡ at-zone-speed
-unfolding slowZone arms zoneIn insideZone zoneStep mul finite
+unfolding slowZone slowest arms zoneIn insideZone zoneStep mul finite
 distance-not-computed = refl
 
 pub distance-computed : slowZone binary64 (zoned absent.Slow CONTACT) (fin false 1 (pos 600) ∷ +0 ∷ []) (+0 ∷ +0 ∷ +0 ∷ []) .sound ≡ false
-unfolding slowZone arms zoneIn insideZone insideSeen dist sumFrom squaredGap add sub mul rootOf number rootExponent half nearRoot floorRoot scaled le finite
+unfolding slowZone slowest arms zoneIn insideZone insideSeen dist sumFrom squaredGap add sub mul rootOf number rootExponent half nearRoot floorRoot scaled le finite
 distance-computed = refl
 
 -- the step is computed, and is 13 where it is not finite: speed 2^1023; with the other choice it is not
 pub step-computed : slowZone binary64 (zonedAt (fin false 1 (pos 1023)) absent.Slow CONTACT) corner [] .sound ≡ false
-unfolding slowZone arms zoneIn insideZone zoneStep mul finite
+unfolding slowZone slowest arms zoneIn insideZone zoneStep mul finite
 step-computed = refl
 
 pub step-not-computed : slowZone binary64 (zonedAt (fin false 1 (pos 1023)) absent.NoZone CONTACT) corner [] ≡ pure clear
-unfolding slowZone arms zoneIn insideZone
+unfolding slowZone slowest arms zoneIn insideZone
 step-not-computed = refl
+
+-- ---- several zones
+
+-- two zones on channels of four, with the control period 2: one of radius 1 and speed 1.5 round (x, y), one of radius 2 and speed 0.5 round (z, w), where the message is x, y, z, w
+abbrev both : ℕ → Checks
+both count = checkingZones (list count (Zone 0 1 1! (fin false 3 (negsuc 0))) (Zone 2 3 2! (fin false 1 (negsuc 0)))) absent.Slow 2! 1 Off (CONTACT + SPEED) 2! (record { lo = []; hi = [] })
+
+abbrev at-step : Float → Checked Slow
+at-step x = pure (record { inside = true; step = x })
+
+-- inside both, the least of 3 and 1 holds, in either order
+pub inside-both : slowZone binary64 (both 2) corner (5! ∷ 5! ∷ 5! ∷ 5! ∷ []) ≡ at-step 1!
+unfolding slowZone slowest arms zoneIn insideZone insideSeen zoneStep dist sumFrom squaredGap add sub mul rootOf number rootExponent half nearRoot floorRoot scaled le lt lesser finite
+inside-both = refl
+
+pub inside-both-swapped : slowZone binary64 (checkingZones (list 2 (Zone 2 3 2! (fin false 1 (negsuc 0))) (Zone 0 1 1! (fin false 3 (negsuc 0)))) absent.Slow 2! 1 Off CONTACT 1! (record { lo = []; hi = [] })) corner (5! ∷ 5! ∷ 5! ∷ 5! ∷ []) ≡ at-step 1!
+unfolding slowZone slowest arms zoneIn insideZone insideSeen zoneStep dist sumFrom squaredGap add sub mul rootOf number rootExponent half nearRoot floorRoot scaled le lt lesser finite
+inside-both-swapped = refl
+
+-- inside the first alone, and inside the second alone
+pub inside-first : slowZone binary64 (both 2) corner (5! ∷ 5! ∷ +0 ∷ +0 ∷ []) ≡ at-zone-speed
+unfolding slowZone slowest arms zoneIn insideZone insideSeen zoneStep dist sumFrom squaredGap add sub mul rootOf number rootExponent half nearRoot floorRoot scaled le finite
+inside-first = refl
+
+pub inside-second : slowZone binary64 (both 2) corner (+0 ∷ +0 ∷ 5! ∷ 5! ∷ []) ≡ at-step 1!
+unfolding slowZone slowest arms zoneIn insideZone insideSeen zoneStep dist sumFrom squaredGap add sub mul rootOf number rootExponent half nearRoot floorRoot scaled le finite
+inside-second = refl
+
+-- the second is past the count
+pub second-not-read : slowZone binary64 (both 1) corner (+0 ∷ +0 ∷ 5! ∷ 5! ∷ []) ≡ pure clear
+unfolding slowZone slowest arms zoneIn insideZone insideSeen zoneStep dist sumFrom squaredGap add sub mul rootOf number rootExponent half nearRoot floorRoot scaled le finite
+second-not-read = refl
+
+-- a message of two numbers shows the first, from afar, and not the second: the arm counts as inside that
+pub second-not-seen : slowZone binary64 (both 2) corner (+0 ∷ +0 ∷ []) ≡ at-step 1!
+unfolding slowZone slowest arms zoneIn insideZone insideSeen zoneStep dist sumFrom squaredGap add sub mul rootOf number rootExponent half nearRoot floorRoot scaled le finite
+second-not-seen = refl
+
+-- the first decides nothing for the second: its distance is computed, and overflows with the centre at 2^600
+pub each-distance-computed : slowZone binary64 (both 2) corner (5! ∷ 5! ∷ fin false 1 (pos 600) ∷ +0 ∷ []) .sound ≡ false
+unfolding slowZone slowest arms zoneIn insideZone insideSeen zoneStep dist sumFrom squaredGap add sub mul rootOf number rootExponent half nearRoot floorRoot scaled le finite
+each-distance-computed = refl
+
+-- nor for its step: speed 2^1023
+pub each-step-computed : slowZone binary64 (checkingZones (list 2 (Zone 0 1 1! (fin false 3 (negsuc 0))) (Zone 2 3 2! (fin false 1 (pos 1023)))) absent.Slow 2! 1 Off CONTACT 1! (record { lo = []; hi = [] })) corner (5! ∷ 5! ∷ 5! ∷ 5! ∷ []) .sound ≡ false
+unfolding slowZone slowest arms zoneIn insideZone insideSeen zoneStep dist sumFrom squaredGap add sub mul rootOf number rootExponent half nearRoot floorRoot scaled le lt lesser finite
+each-step-computed = refl
+
+-- a place that counts and holds none is no zone
+pub empty-place-first : slowZone binary64 (checkingZones (list 2 None (Zone 2 3 2! (fin false 1 (negsuc 0)))) absent.Slow 2! 1 Off CONTACT 1! (record { lo = []; hi = [] })) corner [] ≡ at-step 1!
+unfolding slowZone slowest arms zoneIn insideZone zoneStep mul lesser finite
+empty-place-first = refl
+
+pub empty-place-last : slowZone binary64 (checkingZones (list 4 (Zone 2 3 2! (fin false 1 (negsuc 0))) None) absent.Slow 2! 1 Off CONTACT 1! (record { lo = []; hi = [] })) corner [] ≡ at-step 1!
+unfolding slowZone slowest arms zoneIn insideZone zoneStep mul lesser finite
+empty-place-last = refl
+
+-- the leash, with SPEED armed at a step of 2: that step inside the first zone, whose step is 3, and 1 inside both
+pub leash-inside-first : leashNow binary64 (both 2) corner (5! ∷ 5! ∷ +0 ∷ +0 ∷ []) ≡ 2!
+unfolding slowZone slowest arms zoneIn insideZone insideSeen zoneStep dist sumFrom squaredGap add sub mul rootOf number rootExponent half nearRoot floorRoot scaled le lt lesser finite
+leash-inside-first = refl
+
+pub leash-inside-both : leashNow binary64 (both 2) corner (5! ∷ 5! ∷ 5! ∷ 5! ∷ []) ≡ 1!
+unfolding slowZone slowest arms zoneIn insideZone insideSeen zoneStep dist sumFrom squaredGap add sub mul rootOf number rootExponent half nearRoot floorRoot scaled le lt lesser finite
+leash-inside-both = refl
 
 -- what `unseen-as-inside` compares with is to be had, also for a position of one coordinate: the same with a second one, and a message that has the arm for the centre
 pub an-arm-inside : SeenInside binary64 1! 2 0 corner (5! ∷ +0 ∷ 5! ∷ [])
@@ -207,3 +280,25 @@ stands-beside-it c one = rw one (record { long-enough = omega arith; as-long = o
     first : (j : ℕ) → j < 1 → at corner j ≡ at (5! ∷ []) j
     first zero b = refl
     first (suc j) b = absurd (omega arith)
+
+-- nor do other zones stand in the way: from a message of two numbers, which shows the first of two zones and not the second, to one of four that shows the first alike and the arm inside the second
+abbrev shown : List Float
+shown = +0 ∷ +0 ∷ []
+
+abbrev both-shown : List Float
+both-shown = +0 ∷ +0 ∷ 5! ∷ 5! ∷ []
+
+abbrev standing : Contact → Type 0
+standing None = true ≡ true
+standing (Zone i j radius speed) = Stands binary64 radius i j corner shown corner both-shown
+
+each-stands : (k : ℕ) → k < 2 → standing (zoneAt (both 2 .zones) k)
+unfolding dist sumFrom squaredGap add sub mul rootOf number rootExponent half nearRoot floorRoot scaled le finite
+each-stands zero b = inr (inr (record { here = refl; there = refl; same-place = λ j w. refl; same-first = refl; same-second = refl }))
+each-stands (suc zero) b = inl (refl, record { is-seen = refl; distance-finite = refl; within = refl })
+each-stands (suc (suc k)) b = absurd (omega arith)
+
+pub both-stand : (c : FuseConfig) → c .zones ≡ both 2 .zones → ZonesStand binary64 c corner shown corner both-shown
+both-stand c is armed k l radius speed i j e =
+    let placed : zoneAt (both 2 .zones) k ≡ Zone i j radius speed = rw is at e in
+    rw placed at (each-stands k (rw is at l))

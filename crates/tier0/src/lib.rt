@@ -27,10 +27,10 @@ use checked::Test;
 use chunk::Header;
 use envelope::AbsentCamera;
 use envelope::ClampMode;
-use envelope::Contact;
 use envelope::Derived;
 use envelope::FuseConfig;
 use envelope::TripMask;
+use envelope::Zones;
 use refusal::Refusal;
 use workspace::WallMasks;
 use workspace::Workspace;
@@ -58,7 +58,7 @@ pub struct Checks {
     pub dim: usize,
     pub pos_dim: usize,
     pub armed: u32,
-    pub contact: Contact,
+    pub zones: Zones,
     pub absent_camera: AbsentCamera,
     pub clamp: ClampMode,
     pub dt: f64,
@@ -72,7 +72,7 @@ pub struct Checks {
     pub walls: Workspace,
 }
 
-// Whether the position is inside the slow zone, and the step that it then allows. In each struct below, `sound` says that
+// Whether the position is inside a slow zone, or one of some, and the least step that is then allowed. In each struct below, `sound` says that
 // each number computed on the way is finite.
 pub struct SlowZone {
     pub inside: bool,
@@ -132,7 +132,7 @@ fn checks_of(c: FuseConfig, d: Derived) -> Checks
     ensures { λ r. ⌜ r ≡ checksFrom c d ⌝ }
 {
     let l = c.limits;
-    let contact = c.contact;
+    let zones = c.zones;
     let absent_camera = c.absent_camera;
     let clamp = c.clamp;
     let lo = d.box_lo;
@@ -141,7 +141,7 @@ fn checks_of(c: FuseConfig, d: Derived) -> Checks
         dim: c.dim,
         pos_dim: c.pos_dim,
         armed: c.armed,
-        contact,
+        zones,
         absent_camera,
         clamp,
         dt: l.dt,

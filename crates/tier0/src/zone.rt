@@ -1,12 +1,13 @@
-// The slow zone.
+// The slow zones.
 ghost use mathlib.Core.Path.{_≡_};
 ghost use Prim.Native.Nat.{_<_};
 ghost use lib.ListN.{length};
 ghost use lib.Ieee.{binary64};
 ghost use Rattle.checked.specs.Checked.{pure};
 ghost use Rattle.checked.specs.Of.{testFrom};
-ghost use Rattle.tier0.specs.Rule.{clear, insideSeen, insideUnseen, insideZone, zoneIn, slowZone};
-ghost use Rattle.tier0.specs.Of.{zoneFrom};
+ghost use Rattle.tier0.specs.Rule.{clear, insideSeen, insideUnseen, insideZone, zoneIn, slowest, slowZone};
+ghost use Rattle.envelope.specs.Slots.{counted, zoneAt};
+ghost use Rattle.tier0.specs.Of.{zoneFrom, slowerOf};
 use crate::Checks;
 use crate::SlowZone;
 use crate::measure::armed;
@@ -14,6 +15,7 @@ use checked::Test;
 use envelope::AbsentCamera;
 use envelope::Contact;
 use envelope::TripMask;
+use envelope::Zones;
 
 fn no_zone() -> SlowZone
     ensures { λ r. ⌜ r ≡ zoneFrom (pure clear) ⌝ }
@@ -67,7 +69,7 @@ fn inside_zone(
     Test { holds, sound: true }
 }
 
-// The configured zone; its step is computed only inside.
+// One zone; its step is computed only inside.
 fn zone_in(
     dt: f64,
     absent_camera: AbsentCamera,
@@ -80,10 +82,10 @@ fn zone_in(
     match contact {
         Contact::None => no_zone(),
         Contact::Zone {
-            radius,
-            v_max,
             a0,
             a1,
+            radius,
+            v_max,
         } => {
             let t = inside_zone(absent_camera, radius, a0 as usize, a1 as usize, pos, aux);
             if t.holds {
@@ -105,14 +107,57 @@ fn zone_in(
     }
 }
 
-// The slow zone, where CONTACT is armed.
+// Two findings together: of the zones that the arm is inside, the lesser step.
+fn slower(a: SlowZone, b: SlowZone) -> SlowZone
+    ensures { λ r. ⌜ r ≡ slowerOf a b ⌝ }
+{
+    let sound = a.sound & b.sound;
+    if !a.inside {
+        return SlowZone {
+            inside: b.inside,
+            step: b.step,
+            sound,
+        };
+    }
+    let step = if b.inside {
+        fmath::min(a.step, b.step)
+    } else {
+        a.step
+    };
+    SlowZone {
+        inside: true,
+        step,
+        sound,
+    }
+}
+
+// The zones that count, each of them asked.
+fn slowest(dt: f64, absent_camera: AbsentCamera, zones: Zones, pos: &[f64], aux: &[f64]) -> SlowZone
+    ensures { λ r. ⌜ r ≡ zoneFrom (slowest binary64 dt «absent_camera» (zoneAt zones) (now (pos .entry)) (now (aux .entry)) (counted zones)) ⌝ }
+{
+    let list = zones.list;
+    let n = envelope::counted(zones);
+    let mut found = no_zone();
+    let mut k = 0usize;
+    while k < n {
+        let slot = list[k];
+        let contact = slot.contact;
+        let z = zone_in(dt, absent_camera, contact, pos, aux);
+        let next = slower(found, z);
+        found = next;
+        k += 1;
+    }
+    found
+}
+
+// The slow zones, where CONTACT is armed.
 pub(crate) fn slow_zone(s: Checks, pos: &[f64], aux: &[f64]) -> SlowZone
     ensures { λ r. ⌜ r ≡ zoneFrom (slowZone binary64 s (now (pos .entry)) (now (aux .entry))) ⌝ }
 {
     if !armed(s, TripMask::CONTACT) {
         return no_zone();
     }
-    let contact = s.contact;
+    let zones = s.zones;
     let absent_camera = s.absent_camera;
-    zone_in(s.dt, absent_camera, contact, pos, aux)
+    slowest(s.dt, absent_camera, zones, pos, aux)
 }

@@ -15,8 +15,8 @@ numbers-ok-requires c κs = search needs
 steps-ok-requires : tie.Need-steps-ok-requires
 steps-ok-requires c κs = search needs
 
-channels-ok-requires : tie.Need-channels-ok-requires
-channels-ok-requires c κs = search needs
+zones-fit-requires : tie.Need-zones-fit-requires
+zones-fit-requires c κs = search needs
 
 features-ok-requires : tie.Need-features-ok-requires
 features-ok-requires c κs = search needs
@@ -40,7 +40,7 @@ returns : tie.Need-returns
 returns c =
     let n = c .before .before .before .before .before in
     let s = n .before .before .before .before in
-    rw (c .when5 .ensures, c .before .when4 .ensures, c .before .before .when3 .ensures, c .before .before .before .when2 .ensures, c .before .before .before .before .when .ensures, s .sizes-ok .ensures, n .before .before .before .numbers-ok .ensures, n .before .before .steps-ok .ensures, n .before .channels-ok .ensures, n .features-ok .ensures, s .before .derive .ensures)
+    rw (c .when5 .ensures, c .before .when4 .ensures, c .before .before .when3 .ensures, c .before .before .before .when2 .ensures, c .before .before .before .before .when .ensures, s .sizes-ok .ensures, n .before .before .before .numbers-ok .ensures, n .before .before .steps-ok .ensures, n .before .zones-fit .ensures, n .features-ok .ensures, s .before .derive .ensures)
 
 pub compile-spec : {M : Type 1} → statement M
 compile-spec =
@@ -50,7 +50,7 @@ compile-spec =
     sizes-ok-requires
     numbers-ok-requires
     steps-ok-requires
-    channels-ok-requires
+    zones-fit-requires
     features-ok-requires
     when-requires
     when-requires-2

@@ -12,8 +12,8 @@ limits-ok-requires c κs = search needs
 brake-ok-requires : tie.Need-brake-ok-requires
 brake-ok-requires c κs = search needs
 
-zone-ok-requires : tie.Need-zone-ok-requires
-zone-ok-requires c κs = search needs
+zones-ok-requires : tie.Need-zones-ok-requires
+zones-ok-requires c κs = search needs
 
 norm-ok-requires : tie.Need-norm-ok-requires
 norm-ok-requires c κs = search needs
@@ -32,7 +32,7 @@ unfolding numbersFrom every
 returns c =
     let n = c .before .before .before in
     let l = n .before .before .before in
-    (l .limits-ok .ensures) &&≡ (n .before .before .brake-ok .ensures) &&≡ (n .before .zone-ok .ensures) &&≡ (n .norm-ok .ensures)
+    (l .limits-ok .ensures) &&≡ (n .before .before .brake-ok .ensures) &&≡ (n .before .zones-ok .ensures) &&≡ (n .norm-ok .ensures)
     &&≡ (c .before .before .box-ok .ensures)
     &&≡ (c .before .derived-ok .ensures)
     &&≡ (c .calibration-ok .ensures)
@@ -43,7 +43,7 @@ numbers-ok-spec =
     (tie.spec
     limits-ok-requires
     brake-ok-requires
-    zone-ok-requires
+    zones-ok-requires
     norm-ok-requires
     box-ok-requires
     derived-ok-requires

@@ -10,7 +10,7 @@ sizes-ok-requires c κs = search needs
 
 returns : tie.Need-returns
 unfolding sizesOk every
-returns c = rw (c .before .before .before .before .before .sizes-ok .ensures)
+returns c = rw (c .before .before .before .before .before .before .sizes-ok .ensures)
 
 pub sizes-ok-spec : {M : Type 1} → statement M
 sizes-ok-spec = tie.close (tie.spec sizes-ok-requires returns)

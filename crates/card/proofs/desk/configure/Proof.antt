@@ -13,6 +13,9 @@ norm-requires c κs = search needs
 walls-requires : tie.Need-walls-requires
 walls-requires c κs = search needs
 
+no-zones-requires : tie.Need-no-zones-requires
+no-zones-requires c κs = search needs
+
 brake-requires : tie.Need-brake-requires
 brake-requires c κs = search needs
 
@@ -21,7 +24,7 @@ calibration-requires c κs = search needs
 
 returns : tie.Need-returns
 unfolding configOf
-returns c = rw (c .calibration .ensures, c .before .brake .ensures, c .before .before .walls .ensures, c .before .before .before .norm .ensures, c .before .before .before .before .limits .ensures)
+returns c = rw (c .calibration .ensures, c .before .brake .ensures, c .before .before .no-zones .ensures, c .before .before .before .walls .ensures, c .before .before .before .before .norm .ensures, c .before .before .before .before .before .limits .ensures)
 
 pub configure-spec : {M : Type 1} → statement M
 configure-spec =
@@ -30,6 +33,7 @@ configure-spec =
     limits-requires
     norm-requires
     walls-requires
+    no-zones-requires
     brake-requires
     calibration-requires
     returns)

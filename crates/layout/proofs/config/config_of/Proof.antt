@@ -20,8 +20,8 @@ norm-of-requires c κs = search needs
 walls-of-requires : tie.Need-walls-of-requires
 walls-of-requires c κs = search needs
 
-zone-of-requires : tie.Need-zone-of-requires
-zone-of-requires c κs = search needs
+zones-of-requires : tie.Need-zones-of-requires
+zones-of-requires c κs = search needs
 
 brake-of-requires : tie.Need-brake-of-requires
 brake-of-requires c κs = search needs
@@ -72,7 +72,7 @@ returns c =
     let b = l .before .before .before .before .before in
     let k = b .before .before .before .before .before in
     let s = k .before .before .args in
-    whole-config (now (s .n)) (now (s .c)) (k .kind-of .ensures) (b .before .before .before .before .limits-of .ensures) (b .before .before .before .norm-of .ensures) (b .before .before .walls-of .ensures) (b .before .zone-of .ensures) (b .brake-of .ensures) (l .before .before .before .clamp-of .ensures) (l .before .to-u32 .ensures) (l .calibration-of .ensures) (a .before .before .to-u322 .ensures) (a .absent-camera-of .ensures)
+    whole-config (now (s .n)) (now (s .c)) (k .kind-of .ensures) (b .before .before .before .before .limits-of .ensures) (b .before .before .before .norm-of .ensures) (b .before .before .walls-of .ensures) (b .before .zones-of .ensures) (b .brake-of .ensures) (l .before .before .before .clamp-of .ensures) (l .before .to-u32 .ensures) (l .calibration-of .ensures) (a .before .before .to-u322 .ensures) (a .absent-camera-of .ensures)
 
 pub config-of-spec : {M : Type 1} → statement M
 config-of-spec =
@@ -83,7 +83,7 @@ config-of-spec =
     limits-of-requires
     norm-of-requires
     walls-of-requires
-    zone-of-requires
+    zones-of-requires
     brake-of-requires
     element-copy-out-clamp-of
     clamp-of-requires

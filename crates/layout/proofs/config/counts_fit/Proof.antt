@@ -11,8 +11,8 @@ codes-fit-requires c κs = search needs
 fields-fit-requires : tie.Need-fields-fit-requires
 fields-fit-requires c κs = search needs
 
-zone-fits-requires : tie.Need-zone-fits-requires
-zone-fits-requires c κs = search needs
+zones-held-requires : tie.Need-zones-held-requires
+zones-held-requires c κs = search needs
 
 element-copy-out-result : tie.Need-element-copy-out-result
 element-copy-out-result c = search needs
@@ -20,12 +20,9 @@ element-copy-out-result c = search needs
 element-copy-out-result-2 : tie.Need-element-copy-out-result-2
 element-copy-out-result-2 c = search needs
 
-element-copy-out-result-3 : tie.Need-element-copy-out-result-3
-element-copy-out-result-3 c = search needs
-
 returns : tie.Need-returns
 unfolding countsFit every every-from
-returns c = rw (c .before .before .before .zone-fits .ensures, c .before .before .before .before .fields-fit .ensures, c .before .before .before .before .before .codes-fit .ensures)
+returns c = rw (c .before .before .zones-held .ensures, c .before .before .before .fields-fit .ensures, c .before .before .before .before .codes-fit .ensures)
 
 pub counts-fit-spec : {M : Type 1} → statement M
 counts-fit-spec =
@@ -33,8 +30,7 @@ counts-fit-spec =
     (tie.spec
     codes-fit-requires
     fields-fit-requires
-    zone-fits-requires
+    zones-held-requires
     element-copy-out-result
     element-copy-out-result-2
-    element-copy-out-result-3
     returns)

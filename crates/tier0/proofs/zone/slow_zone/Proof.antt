@@ -15,12 +15,12 @@ no-zone-requires c κs = search needs
 returns : tie.Need-returns
 returns c = slow-off binary64 _ _ _ (c .before .before .armed .ensures) (not-true _ (c .before .if1 .taken)) (c .no-zone .ensures)
 
-zone-in-requires : tie.Need-zone-in-requires
-zone-in-requires c κs = search needs
+slowest-requires : tie.Need-slowest-requires
+slowest-requires c κs = search needs
 
 returns-2 : tie.Need-returns-2
-returns-2 c = slow-on binary64 _ _ _ (c .before .before .armed .ensures) (not-false _ (c .before .if1 .left)) (c .zone-in .ensures)
+returns-2 c = slow-on binary64 _ _ _ (c .before .before .before .armed .ensures) (not-false _ (c .before .before .if1 .left)) (c .slowest .ensures)
 
 pub slow-zone-spec : {M : Type 1} → statement M
 slow-zone-spec =
-    tie.close (tie.spec armed-requires no-zone-requires returns zone-in-requires returns-2)
+    tie.close (tie.spec armed-requires no-zone-requires returns slowest-requires returns-2)
