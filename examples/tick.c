@@ -9,6 +9,9 @@
 #define AXES 3
 #define ROWS 4
 
+/* the camera tells where two trays stand on the table, two numbers each */
+#define CHANNELS 4
+
 /* the window holds 3 ticks, and 2 hits stop the arm */
 #define PUSHES 3
 #define STOPS 2
@@ -22,14 +25,14 @@ struct guard {
     double slacks[64];
 };
 
-/* what was measured and what was planned at tick t, numbered from 1; this arm has no camera, and no slow zone */
+/* what was measured, what the camera sent and what was planned at tick t, numbered from 1 */
 struct measured {
     uint32_t t;
-    double pos[AXES], vel[AXES];
+    double pos[AXES], vel[AXES], aux[CHANNELS];
     struct lictor_chunk planned;
 };
 
-/* Sets the arm's limits, brake and calibration, and judges them. Gives the number of a refusal. */
+/* Sets the arm's limits, brake, calibration and a slow zone round each tray, and judges them. Gives the number of a refusal. */
 static uint64_t configure(struct guard *g) {
     struct lictor_numbers *n = &g->config.numbers;
     struct lictor_counts *c = &g->config.counts;
@@ -41,6 +44,9 @@ static uint64_t configure(struct guard *g) {
     c->dim = c->pos_dim = AXES, c->clamp = LICTOR_CLAMP_PROJECT, c->armed = LICTOR_TRIP_ALL;
     c->substeps = 2, c->commit = 1, c->brake_steps = 4, c->react_ticks = 1;
     c->calibrated = 1, c->mask = c->terms[0] = 1u << LICTOR_REACH, c->n_terms = 1, c->horizon_ticks = 200;
+    /* the second tray's zone is the slower one: steps of 0.25 and of 0.125 */
+    c->contact = 2, c->aux_count = CHANNELS, c->contact_a0 = 0, c->contact_a1 = 1, c->contact1_a0 = 2, c->contact1_a1 = 3;
+    n->contact_radius = n->contact1_radius = 0.25, n->contact_v_max = 0.5, n->contact1_v_max = 0.25;
     lictor_tier1_new(LICTOR_TIER1_PARTS(&g->state));
     return lictor_guard_derive(&g->config, &derived);
 }
@@ -80,9 +86,10 @@ static uint64_t tick(struct guard *g, const struct measured *m, const char **dee
     double inside[ROWS * AXES], speed;
     uint64_t place, number;
     if ((number = score(g, m))) return number;
-    if ((number = lictor_guard_check_chunk(&g->config, m->pos, AXES, NULL, 0, &m->planned, inside, ROWS * AXES, &found, &speed)))
+    if ((number = lictor_guard_check_chunk(&g->config, m->pos, AXES, m->aux, CHANNELS, &m->planned, inside, ROWS * AXES, &found, &speed)))
         return number;
     log_walls(m->t, "chunk", found.low_dims, found.high_dims);
+    if (found.trips & LICTOR_TRIP_CONTACT) printf("tick %u: chunk, too fast beside a tray\n", (unsigned)m->t);
     projected.rows = inside;
     if ((number = lictor_guard_brake_feasible(&g->config, m->pos, AXES, m->vel, AXES, &projected, 0, g->slacks, 64, &forecast,
                                               &distances, &place)))
@@ -104,12 +111,14 @@ static uint64_t refused(const char *what, uint64_t number) {
 
 int main(void) {
     static struct guard g;
-    /* each tick's position and speed along the first axis, and the rows of its chunk: where they start there, and their steps there and up */
+    /* each tick's position and speed along the first axis; the rows of its chunk: where they start there, and their steps there and up; how far to
+       the side the trays stand: in tick 8 the arm is inside both zones, and its step of 0.1875 is too long for the second */
     const struct {
-        double pos, vel, first, step, up;
+        double pos, vel, first, step, up, side;
     } ticks[] = {
-        {0.0, 0.0, 0.125, 0.125, 0.0}, {0.125, 0.25, 0.25, 0.5, 0.0}, {0.125, 8.0, 0.25, 0.125, 0.0}, {0.25, 0.0, 0.75, 0.0, 0.0},
-        {0.25, 0.0, 0.75, 0.0, 0.0},   {0.25, 0.0, 0.25, 0.0, 0.5},  {-1.25, 0.0, -1.0, 0.0, 0.0},   {NAN, 0.0, 0.25, 0.0, 0.0},
+        {0.0, 0.0, 0.125, 0.125, 0.0, 0.5}, {0.125, 0.25, 0.25, 0.5, 0.0, 0.5}, {0.125, 8.0, 0.25, 0.125, 0.0, 0.5},
+        {0.25, 0.0, 0.75, 0.0, 0.0, 0.5},   {0.25, 0.0, 0.75, 0.0, 0.0, 0.5},   {0.25, 0.0, 0.25, 0.0, 0.5, 0.5},
+        {-1.25, 0.0, -1.0, 0.0, 0.0, 0.5},  {0.0, 0.0, 0.1875, 0.0, 0.0, 0.125}, {NAN, 0.0, 0.25, 0.0, 0.0, 0.5},
     };
     double last[AXES] = {0.0};
     if (!lictor_environment_ok()) {
@@ -119,7 +128,8 @@ int main(void) {
     if (refused("the configuration", configure(&g))) return 1;
     for (uint32_t t = 1; t <= sizeof ticks / sizeof *ticks; t++) {
         double rows[ROWS * AXES] = {0.0}, row[AXES];
-        struct measured m = {t, {ticks[t - 1].pos}, {ticks[t - 1].vel}, {rows, ROWS * AXES, t, t, ROWS, AXES, 1}};
+        const double side = ticks[t - 1].side;
+        struct measured m = {t, {ticks[t - 1].pos}, {ticks[t - 1].vel}, {0.125, side, -0.125, side}, {rows, ROWS * AXES, t, t, ROWS, AXES, 1}};
         const char *deed = "";
         for (int i = 0; i < ROWS; i++)
             rows[AXES * i] = ticks[t - 1].first + ticks[t - 1].step * i, rows[AXES * i + 2] = ticks[t - 1].up * i;

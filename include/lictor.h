@@ -36,10 +36,10 @@
 /* ---- the version of this file, and so of the archive that it was installed with */
 
 #define LICTOR_VERSION_MAJOR 0
-#define LICTOR_VERSION_MINOR 5
+#define LICTOR_VERSION_MINOR 6
 #define LICTOR_VERSION_PATCH 0
-#define LICTOR_VERSION "0.5.0"
-/* for comparisons: LICTOR_VERSION_NUMBER >= 500 is 0.5.0 or later */
+#define LICTOR_VERSION "0.6.0"
+/* for comparisons: LICTOR_VERSION_NUMBER >= 600 is 0.6.0 or later */
 #define LICTOR_VERSION_NUMBER (LICTOR_VERSION_MAJOR * 10000 + LICTOR_VERSION_MINOR * 100 + LICTOR_VERSION_PATCH)
 
 /* ---- what a compiler is told: a result that is dropped and a null pointer are mistakes */
@@ -69,20 +69,21 @@ extern "C" {
 
    Counts are passed in words of 64 bits, and each is held in a field whose width is given beside it. One that its field cannot hold is
    refused as the table has it (65536 substeps with LICTOR_STEPS, a trail's head of 256 with LICTOR_SIZE), and with LICTOR_MISFIT
-   where the table has nothing against it. What is not there is not judged: a term past n_terms, the channels without a contact, the
-   calibration's counts without a calibration, and what the header of a buffer that holds no chunk says of one. (What is there and not
-   read is judged, as react_ticks is for the second-order brake.) The width of an argument that is passed by itself is its C type; C
-   cuts what is wider before the call. */
+   where the table has nothing against it; a zone's two channels are judged by themselves in this, so that a pair that its fields cannot
+   hold, with nothing against it alone, is LICTOR_MISFIT also where another zone has the same pair. What is not there is not judged: a term
+   past n_terms, the numbers and channels of a zone past the count, the calibration's counts without a calibration, and what the header of
+   a buffer that holds no chunk says of one. (What is there and not read is judged, as react_ticks is for the second-order brake.) The
+   width of an argument that is passed by itself is its C type; C cuts what is wider before the call. */
 
 enum lictor_refusal {
     LICTOR_ACCEPTED = 0,
-    /* dim, pos_dim, term count, feature bit, window length, trail head or trail count is out of size */
+    /* dim, pos_dim, zone count, term count, feature bit, window length, trail head or trail count is out of size */
     LICTOR_SIZE = 1,
     /* a configuration number, or one derived from it, isn't finite or is out of its range */
     LICTOR_NUMBER = 2,
     /* substeps, commit, braking steps or horizon ticks are out of range */
     LICTOR_STEPS = 3,
-    /* the contact's two channels are equal, or one is at or above aux_count */
+    /* a zone's two channels are equal, one is at or above aux_count, or two zones name the same pair in the same order */
     LICTOR_CHANNELS = 4,
     /* a calibration's mask or one of its counted terms has the bit of LICTOR_STALL, which is not computed */
     LICTOR_WITHDRAWN = 17,
@@ -111,10 +112,10 @@ LICTOR_MUST_USE
 static inline const char *lictor_refusal_text(uint64_t number) {
     switch (number) {
     case LICTOR_ACCEPTED: return "accepted";
-    case LICTOR_SIZE: return "a dimension, term count, feature bit, window length or trail index is out of size";
+    case LICTOR_SIZE: return "a dimension, zone count, term count, feature bit, window length or trail index is out of size";
     case LICTOR_NUMBER: return "a configuration number is not finite or out of its range";
     case LICTOR_STEPS: return "a count of steps or ticks is out of range";
-    case LICTOR_CHANNELS: return "the contact's channels are equal or past the declared ones";
+    case LICTOR_CHANNELS: return "a zone's channels are equal, past the declared ones or another's pair";
     case LICTOR_WITHDRAWN: return "the calibration's mask or a counted term names Stall, which is not computed";
     case LICTOR_EMPTY: return "the chunk is empty";
     case LICTOR_TOO_LONG: return "the chunk has too many rows";
@@ -265,15 +266,22 @@ uint64_t lictor_trail_len(const double numbers[256], const struct lictor_trail_m
 LICTOR_MUST_USE LICTOR_NOT_NULL
 uint64_t lictor_trail_is_empty(const double numbers[256], const struct lictor_trail_marks *marks, uint64_t *empty);
 
-/* ---- the configuration: 44 numbers, 27 counts and codes, and the calibration's two tables */
+/* ---- the configuration: 50 numbers, 33 counts and codes, and the calibration's two tables */
+
+/* How many slow zones one arm may have. The first one is contact_radius, contact_v_max, contact_a0 and contact_a1; the fields of the others,
+   contact1, contact2 and contact3, stand at the ends of the two structs. A zone past the count is not read. */
+#define LICTOR_MAX_ZONES 4
 
 struct lictor_numbers {
     double dt, v_max, a_max, j_max, reach_max, margin; /*  0.. 5 */
     double brake_k_p, brake_k_v, brake_dt;             /*  6.. 8 */
-    double contact_radius, contact_v_max;              /*  9..10 */
+    double contact_radius, contact_v_max;              /*  9..10: how far the first slow zone reaches, and the speed inside it */
     double norm_center[8], norm_scale[8];              /* 11..26 */
     double box_lo[8], box_hi[8];                       /* 27..42 */
     double tau;                                        /* 43     */
+    double contact1_radius, contact1_v_max;            /* 44..45: likewise of the second zone, read where contact is 2 or more */
+    double contact2_radius, contact2_v_max;            /* 46..47: of the third */
+    double contact3_radius, contact3_v_max;            /* 48..49: of the fourth */
 };
 
 struct lictor_counts {
@@ -281,8 +289,9 @@ struct lictor_counts {
     uint64_t kind;                            /*  2: a code, LICTOR_EE_POSITION .. LICTOR_OTHER */
     uint64_t clamp;                           /*  3: a code, LICTOR_CLAMP_OFF or LICTOR_CLAMP_PROJECT */
     uint64_t brake;                           /*  4: a code, LICTOR_PD_SECOND_ORDER .. LICTOR_ZERO_VELOCITY_HOLD */
-    uint64_t contact;                         /*  5: a flag, 1 where there is a slow zone */
-    uint64_t contact_a0, contact_a1;          /*  6.. 7: its channels, 8 bits; past them LICTOR_CHANNELS where that applies */
+    uint64_t contact;                         /*  5: how many slow zones there are, 8 bits; LICTOR_SIZE past LICTOR_MAX_ZONES */
+    uint64_t contact_a0, contact_a1;          /*  6.. 7: the first zone's channels, 8 bits; past them LICTOR_CHANNELS where that applies to
+                                                    the pair by itself */
     uint64_t substeps, commit, brake_steps;   /*  8..10: 16 bits; LICTOR_STEPS past them */
     uint64_t react_ticks;                     /* 11: 16 bits */
     uint64_t terms[8];                        /* 12..19: feature bits, 32 bits; LICTOR_SIZE past them */
@@ -293,6 +302,9 @@ struct lictor_counts {
     uint64_t mask, n_terms;                   /* 23..24: feature bits, 32 bits, and a count, 8 bits; LICTOR_SIZE past them */
     uint64_t horizon_ticks;                   /* 25: 32 bits */
     uint64_t absent_camera;                   /* 26: a code, LICTOR_ABSENT_CAMERA_SLOW or LICTOR_ABSENT_CAMERA_NO_ZONE */
+    uint64_t contact1_a0, contact1_a1;        /* 27..28: the second zone's channels, likewise; read where contact is 2 or more */
+    uint64_t contact2_a0, contact2_a1;        /* 29..30: the third's */
+    uint64_t contact3_a0, contact3_a1;        /* 31..32: the fourth's */
 };
 
 /* codes of kind */
@@ -313,9 +325,9 @@ struct lictor_counts {
 #define LICTOR_JERK_LIMITED 3
 #define LICTOR_ZERO_VELOCITY_HOLD 4
 
-/* codes of absent_camera: what holds where a slow zone is configured and LICTOR_TRIP_CONTACT armed, and the camera's message is too short
-   for either channel or the position has fewer than two coordinates. All zeros has the first: the arm counts as inside the zone. With the
-   second there is no zone then, as an arm without a camera may ask for. A configuration without a zone has none under either. */
+/* codes of absent_camera: what holds of each slow zone where LICTOR_TRIP_CONTACT is armed, and the camera's message is too short for either
+   channel of that zone or the position has fewer than two coordinates. All zeros has the first: the arm counts as inside the zone. With the
+   second there is no such zone then, as an arm without a camera may ask for. A configuration without a zone has none under either. */
 #define LICTOR_ABSENT_CAMERA_SLOW 0
 #define LICTOR_ABSENT_CAMERA_NO_ZONE 1
 
@@ -344,9 +356,11 @@ uint64_t lictor_derive(const struct lictor_numbers *numbers, const struct lictor
 
 /* ---- the checks: limits held against planned rows, which are projected inside them
 
-   A limit trips where a row as it came strictly exceeds it. Under LICTOR_CLAMP_PROJECT the output is the rows moved inside
-   the armed limits, each by the box, the leash to the projected row before it and, the first row, the reach; under
-   LICTOR_CLAMP_OFF it is the rows as they came. */
+   A limit trips where a row as it came strictly exceeds it; LICTOR_TRIP_CONTACT where a step exceeds that of any slow zone that the arm is
+   inside. Under LICTOR_CLAMP_PROJECT the output is the rows moved inside the armed limits, each by the box, the leash to the projected row
+   before it and, the first row, the reach; under LICTOR_CLAMP_OFF it is the rows as they came. The leash's length is the least of v_max x dt,
+   where LICTOR_TRIP_SPEED is armed, and, where LICTOR_TRIP_CONTACT is, of the steps of the zones that the arm is inside; where there is
+   neither there is no leash. */
 
 /* Bit j of the last three is coordinate j, counted from 0. low_dims and high_dims tell of the box alone, row by row as it came: an axis may
    have both, neither the leash nor the reach sets one, and one stays where they bring the coordinate back, which clamped_dims then may
@@ -359,11 +373,12 @@ struct lictor_check_marks {
     uint64_t high_dims;    /* a bit for each axis that the box lowered to its high wall in any row, as the row came */
 };
 
-/* Checks a chunk from a position; aux is what the camera saw. Where it lacks a channel of the slow zone, or the position has fewer than two
-   coordinates, absent_camera says whether the arm counts as inside the zone or there is none; no distance is computed then. So lend what the
-   camera sent in this tick, and nothing where it sent nothing: an older message, or zeros in its place, is a camera that sees. Writes the
-   first horizon x dim numbers of out, the marks, and the greatest speed. LICTOR_MISFIT, LICTOR_SIZE to
-   LICTOR_COMPUTED. */
+/* Checks a chunk from a position; aux is what the camera saw. Where it lacks a channel of a slow zone, or the position has fewer than two
+   coordinates, absent_camera says whether the arm counts as inside that zone or there is no such zone; its distance is not computed then. So
+   lend what the camera sent in this tick, and nothing where it sent nothing: an older message, or zeros in its place, is a camera that sees.
+   Where LICTOR_TRIP_CONTACT is armed, the distance of every counted zone that is seen is computed, and the step of every one that the arm
+   is inside: LICTOR_COMPUTED comes from any of them. Writes the first horizon x dim numbers of out, the marks, and the greatest speed.
+   LICTOR_MISFIT, LICTOR_SIZE to LICTOR_COMPUTED. */
 LICTOR_MUST_USE LICTOR_NOT_NULL
 uint64_t lictor_check_chunk(const struct lictor_numbers *numbers, const struct lictor_counts *counts,
                             const double center[192], const double scale[192], const double *position,
@@ -535,7 +550,7 @@ uint64_t lictor_hold_action(const struct lictor_numbers *numbers, const struct l
 
    Where the entry is handed several arrays that belong together, its guard form is handed the struct that has them, so that no array of
    another configuration comes in between. A null pointer with a count of 0 is a slice of no numbers, as of a camera that is silent (an arm
-   that has a zone and no camera on purpose sets LICTOR_ABSENT_CAMERA_NO_ZONE); with any other count it is refused with LICTOR_MISFIT. A
+   that has zones and no camera on purpose sets LICTOR_ABSENT_CAMERA_NO_ZONE); with any other count it is refused with LICTOR_MISFIT. A
    pointer that has no count is not null. */
 
 /* A configuration with its calibration. Start from all zeros, then set what the arm has. lictor_guard_derive judges it; so does every call. */
@@ -729,8 +744,8 @@ static inline uint64_t lictor_guard_hold_action(const struct lictor_config *conf
 #endif
 LICTOR_ASSERT(lictor_chunk_header, 6);
 LICTOR_ASSERT(lictor_trail_marks, 2);
-LICTOR_ASSERT(lictor_numbers, 44);
-LICTOR_ASSERT(lictor_counts, 27);
+LICTOR_ASSERT(lictor_numbers, 50);
+LICTOR_ASSERT(lictor_counts, 33);
 LICTOR_ASSERT(lictor_derived, 29);
 LICTOR_ASSERT(lictor_check_marks, 4);
 LICTOR_ASSERT(lictor_held_marks, 2);
@@ -740,7 +755,7 @@ LICTOR_ASSERT(lictor_forecast_distances, 2);
 LICTOR_ASSERT(lictor_wall_marks, 2);
 LICTOR_ASSERT(lictor_scores, 25);
 LICTOR_ASSERT(lictor_marks, 2);
-LICTOR_ASSERT(lictor_config, 44 + 27 + 192 + 192);
+LICTOR_ASSERT(lictor_config, 50 + 33 + 192 + 192);
 #undef LICTOR_ASSERT
 
 #ifdef __cplusplus

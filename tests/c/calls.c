@@ -139,7 +139,7 @@ static int shown(uint64_t at, uint64_t value) {
     return 0;
 }
 
-/* the place of a count among the configuration's 27 */
+/* the place of a count among the configuration's 33 */
 #define AT(count) (offsetof(struct lictor_counts, count) / sizeof(uint64_t))
 
 /* Both sides of the edge of each count that the table or its field bounds. */
@@ -159,7 +159,8 @@ static void widths(void) {
         {AT(kind), 4, 0}, {AT(kind), 5, 255}, {AT(kind), bits, 255},
         {AT(clamp), 1, 0}, {AT(clamp), 2, 255}, {AT(clamp), bits, 255},
         {AT(brake), 4, 0}, {AT(brake), 5, 255}, {AT(brake), bits, 255},
-        {AT(contact), 0, 0}, {AT(contact), 1, 0}, {AT(contact), 2, 255}, {AT(contact), bits + 1, 255},
+        {AT(contact), 0, 0}, {AT(contact), 1, 0}, {AT(contact), 5, 1}, {AT(contact), 255, 1}, {AT(contact), 256, 1},
+        {AT(contact), 257, 1}, {AT(contact), bits, 1}, {AT(contact), bits + 1, 1}, {AT(contact), most, 1},
         {AT(contact_a0), 1, 4}, {AT(contact_a0), 2, 4}, {AT(contact_a0), 255, 4}, {AT(contact_a0), 256, 4},
         {AT(contact_a0), most, 4},
         {AT(contact_a1), 0, 4}, {AT(contact_a1), 2, 4}, {AT(contact_a1), 255, 4}, {AT(contact_a1), 256, 4},
@@ -191,7 +192,7 @@ static void widths(void) {
     };
     const struct {
         uint64_t a0, a1, aux, due;
-    } zones[] = {
+    } pairs[] = {
         {254, 255, 256, 0}, {255, 254, 255, 4}, {255, 255, 256, 4}, {256, 0, 257, 255}, {0, 256, 257, 255}, {256, 0, 256, 4},
         {0, 256, 256, 4}, {256, 256, 300, 4}, {256, 257, 300, 255}, {299, 0, 300, 255}, {300, 0, 300, 4}, {0, 300, 300, 4},
         {256, 300, 300, 4}, {most, most, most, 4}, {most, 0, most, 4}, {most - 1, 0, most, 255}, {bits, 0, bits + 1, 255},
@@ -205,7 +206,7 @@ static void widths(void) {
     for (size_t i = 0; i < sizeof cases / sizeof *cases; i++) {
         c = good, ((uint64_t *)&c)[cases[i].at] = cases[i].value;
         EXPECT(lictor_derive(&n, &c, center, scale, &d) == cases[i].due || shown(cases[i].at, cases[i].value));
-        /* without a calibration nothing of it is judged, and without a contact no channel */
+        /* without a calibration nothing of it is judged, and without a zone no channel */
         if ((cases[i].at >= AT(terms) && cases[i].at < AT(armed)) || (cases[i].at > AT(calibrated) && cases[i].at < AT(absent_camera))) {
             c.calibrated = 0;
             DUE(0);
@@ -228,9 +229,9 @@ static void widths(void) {
         DUE(cases[i].due == 255 || cases[i].due == 1 ? cases[i].due : 2);
         n.dt = 1.0;
     }
-    for (size_t i = 0; i < sizeof zones / sizeof *zones; i++) {
-        c = good, c.contact_a0 = zones[i].a0, c.contact_a1 = zones[i].a1, c.aux_count = zones[i].aux;
-        EXPECT(lictor_derive(&n, &c, center, scale, &d) == zones[i].due || shown(zones[i].a0, zones[i].a1));
+    for (size_t i = 0; i < sizeof pairs / sizeof *pairs; i++) {
+        c = good, c.contact_a0 = pairs[i].a0, c.contact_a1 = pairs[i].a1, c.aux_count = pairs[i].aux;
+        EXPECT(lictor_derive(&n, &c, center, scale, &d) == pairs[i].due || shown(pairs[i].a0, pairs[i].a1));
     }
     c = good, c.n_terms = 2, c.terms[1] = bits;
     DUE(1);
@@ -248,6 +249,160 @@ static void widths(void) {
     c = good, c.kind = 5, c.dim = 0;
     DUE(255);
 #undef DUE
+}
+
+/* the place of a number among the configuration's 50 */
+#define NUMBER(number) (offsetof(struct lictor_numbers, number) / sizeof(double))
+
+/* where each zone's radius and first channel stand; its speed and its second channel are next to them */
+static const size_t radius_at[LICTOR_MAX_ZONES] = {NUMBER(contact_radius), NUMBER(contact1_radius), NUMBER(contact2_radius), NUMBER(contact3_radius)};
+static const size_t channel_at[LICTOR_MAX_ZONES] = {AT(contact_a0), AT(contact1_a0), AT(contact2_a0), AT(contact3_a0)};
+
+/* Sets a zone's numbers and channels. */
+static void zone(struct lictor_numbers *n, struct lictor_counts *c, size_t i, double radius, double v_max, uint64_t a0, uint64_t a1) {
+    ((double *)n)[radius_at[i]] = radius, ((double *)n)[radius_at[i] + 1] = v_max;
+    ((uint64_t *)c)[channel_at[i]] = a0, ((uint64_t *)c)[channel_at[i] + 1] = a1;
+}
+
+/* One axis, and four zones of radius and speed 1, each on two channels of its own, of eight; so many of them are counted. */
+static void four_zones(struct lictor_numbers *n, struct lictor_counts *c, uint64_t count) {
+    const struct lictor_numbers no_numbers = {0};
+    const struct lictor_counts no_counts = {0};
+    *n = no_numbers, *c = no_counts;
+    n->dt = n->v_max = n->a_max = n->j_max = n->reach_max = n->brake_k_v = n->brake_dt = n->norm_scale[0] = n->norm_scale[1] = 1.0;
+    c->dim = c->pos_dim = c->substeps = 1, c->aux_count = 8, c->contact = count;
+    for (size_t i = 0; i < LICTOR_MAX_ZONES; i++) zone(n, c, i, 1.0, 1.0, 2 * i, 2 * i + 1);
+}
+
+/* The count of zones, each number and each channel of each, and each pair twice, on both sides of their edges, counted and not, armed or not. */
+static void zones(void) {
+    const double never = NAN, always = INFINITY;
+    const uint64_t most = UINT64_MAX, bits = UINT64_C(1) << 32, counts[] = {0, 1, 2, 3, 4, 5, 255, 256, 257, bits, bits + 1, most};
+    const struct {
+        double radius, v_max;
+        uint64_t due;
+    } numbers[] = {
+        {1.0, 1.0, 0}, {0.0, 1.0, 0}, {-0.0, 1.0, 0}, {-1.0, 1.0, 2}, {never, 1.0, 2}, {always, 1.0, 2},
+        {1.0, 0x1p-1074, 0}, {1.0, 0.0, 2}, {1.0, -1.0, 2}, {1.0, never, 2}, {1.0, always, 2},
+    };
+    /* a pair that a zone is given, and the declared channels */
+    const struct {
+        uint64_t a0, a1, aux, due;
+    } pairs[] = {
+        {8, 9, 10, 0}, {9, 8, 10, 0}, {8, 8, 10, 4}, {8, 9, 9, 4}, {9, 8, 9, 4}, {8, 10, 10, 4}, {10, 8, 10, 4}, {254, 255, 256, 0},
+        {255, 256, 257, 255}, {256, 255, 257, 255}, {8, 300, 301, 255}, {300, 8, 301, 255}, {300, 300, 301, 4}, {8, 300, 300, 4},
+        {300, 8, 300, 4}, {bits, 8, most, 255}, {8, bits + 1, most, 255}, {most, 8, most, 4}, {most, most, most, 4},
+    };
+    struct lictor_numbers n;
+    struct lictor_counts c;
+    struct lictor_derived d;
+#define DUE(due) EXPECT(lictor_derive(&n, &c, center, scale, &d) == (due) || shown(c.contact, zones_of))
+    for (size_t k = 0; k < 2 * sizeof counts / sizeof *counts; k++) {
+        const uint64_t count = counts[k / 2], held = count < 4 ? count : 4, past = count > 4 ? LICTOR_SIZE : 0;
+        const uint64_t armed = k % 2 ? LICTOR_TRIP_CONTACT : 0;
+        uint64_t zones_of = 0;
+        four_zones(&n, &c, count), c.armed = armed;
+        DUE(past);
+        for (size_t i = 0; i < 4; i++) {
+            const int counted = i < held;
+            zones_of = i;
+            for (size_t j = 0; j < sizeof numbers / sizeof *numbers; j++) {
+                four_zones(&n, &c, count), c.armed = armed;
+                zone(&n, &c, i, numbers[j].radius, numbers[j].v_max, 2 * i, 2 * i + 1);
+                DUE(counted && !past ? numbers[j].due : past);
+            }
+            /* 255 comes before 1, also of a zone that is held where too many are counted */
+            for (size_t j = 0; j < sizeof pairs / sizeof *pairs; j++) {
+                four_zones(&n, &c, count), c.armed = armed, c.aux_count = pairs[j].aux;
+                zone(&n, &c, i, 1.0, 1.0, pairs[j].a0, pairs[j].a1);
+                DUE(counted && (pairs[j].due == LICTOR_MISFIT || !past) ? pairs[j].due : past);
+            }
+            /* the same pair as another's, swapped, and where no field holds it */
+            for (size_t j = 0; j < i; j++) {
+                four_zones(&n, &c, count), c.armed = armed;
+                zone(&n, &c, i, 2.0, 3.0, 2 * j, 2 * j + 1);
+                DUE(counted && !past ? LICTOR_CHANNELS : past);
+                zone(&n, &c, i, 2.0, 3.0, 2 * j + 1, 2 * j);
+                DUE(past);
+                c.aux_count = 301;
+                zone(&n, &c, i, 1.0, 1.0, 256, 300), zone(&n, &c, j, 1.0, 1.0, 256, 300);
+                DUE(j < held ? LICTOR_MISFIT : past);
+            }
+        }
+        /* past the count nothing is judged */
+        four_zones(&n, &c, count), c.armed = armed;
+        for (size_t i = held; i < 4; i++) zone(&n, &c, i, never, -1.0, 300, 300);
+        DUE(past);
+        for (size_t i = held; i < 4; i++) zone(&n, &c, i, -1.0, always, most, most - 1);
+        DUE(past);
+        for (size_t i = held; i < 4; i++) zone(&n, &c, i, 1.0, 1.0, 0, 1);
+        DUE(past);
+    }
+#undef DUE
+}
+
+/* Two axes and four zones: by every set of them that the arm is inside a step of 9 is held to the least of what they allow, in three orders of
+   their steps and with every count; what stands past the count would stop the arm. */
+static void several_zones(void) {
+    const double orders[3][4] = {{1.0, 2.0, 3.0, 4.0}, {4.0, 3.0, 2.0, 1.0}, {2.0, 4.0, 1.0, 3.0}}, origin[2] = {0.0, 0.0}, row[2] = {9.0, 0.0};
+    struct lictor_numbers n;
+    struct lictor_counts c;
+    struct lictor_check_marks m;
+    double out[2], aux[8], speed;
+#define CHUNK(count) lictor_check_chunk(&n, &c, center, scale, origin, 2, aux, count, row, 2, 1, 2, 1, out, 2, &m, &speed)
+#define ACTION(count) lictor_check_action(&n, &c, center, scale, origin, 2, aux, count, origin, 2, row, 2, out, 2, &m, &speed)
+#define HELD(call, step)                                                                                                  \
+    EXPECT((call) == LICTOR_ACCEPTED && m.trips == ((step) < 9.0 ? LICTOR_TRIP_CONTACT : 0) && out[0] <= (step) && \
+           (step) - out[0] < 1e-9)
+    for (unsigned setting = 0; setting < 3 * 5 * 16; setting++) {
+        const double *steps = orders[setting % 3];
+        const unsigned count = setting / 3 % 5, inside = setting / 15;
+        double least = 9.0, unseen = 9.0;
+        four_zones(&n, &c, count);
+        c.dim = c.pos_dim = 2, c.clamp = LICTOR_CLAMP_PROJECT, c.armed = LICTOR_TRIP_CONTACT;
+        for (unsigned i = 0; i < 4; i++) {
+            zone(&n, &c, i, i < count ? 1.0 : 99.0, i < count ? steps[i] : 0.5, 2 * i, 2 * i + 1);
+            aux[2 * i] = aux[2 * i + 1] = inside >> i & 1 ? 0.5 : 5.0;
+            if (i < count && inside >> i & 1 && steps[i] < least) least = steps[i];
+            if (i < count && (i >= 2 || inside >> i & 1) && steps[i] < unseen) unseen = steps[i];
+        }
+        HELD(CHUNK(8), least);
+        HELD(ACTION(8), least);
+        /* a message that ends before the third zone's second channel: the third and the fourth are not seen */
+        HELD(CHUNK(5), unseen);
+        HELD(ACTION(5), unseen);
+        c.armed = 0;
+        HELD(CHUNK(8), 9.0);
+        HELD(ACTION(5), 9.0);
+    }
+    /* what is not finite of any counted zone, a distance that is seen or a step inside it, whatever the others decide */
+    for (unsigned i = 0; i < 4; i++) {
+        for (uint64_t count = 0; count <= 4; count++) {
+            const uint64_t due = i < count ? LICTOR_COMPUTED : LICTOR_ACCEPTED;
+            four_zones(&n, &c, count);
+            c.dim = c.pos_dim = 2, c.armed = LICTOR_TRIP_CONTACT;
+            for (int j = 0; j < 8; j++) aux[j] = 0.5;
+            aux[2 * i] = 0x1p600;
+            EXPECT(CHUNK(8) == due && ACTION(8) == due);
+            aux[2 * i] = 0.5, n.dt = 2.0;
+            zone(&n, &c, i, 1.0, 0x1.fffffffffffffp1023, 2 * i, 2 * i + 1);
+            EXPECT(CHUNK(8) == due && ACTION(8) == due && CHUNK(2 * i) == due);
+            aux[2 * i] = 5.0;
+            EXPECT(CHUNK(8) == LICTOR_ACCEPTED && ACTION(8) == LICTOR_ACCEPTED);
+            c.absent_camera = LICTOR_ABSENT_CAMERA_NO_ZONE;
+            EXPECT(CHUNK(2 * i) == LICTOR_ACCEPTED && ACTION(2 * i) == LICTOR_ACCEPTED);
+        }
+    }
+    /* a swapped pair is another zone, with another centre */
+    four_zones(&n, &c, 2);
+    c.dim = c.pos_dim = 2, c.clamp = LICTOR_CLAMP_PROJECT, c.armed = LICTOR_TRIP_CONTACT, aux[0] = 0.0, aux[1] = 3.0;
+    zone(&n, &c, 0, 1.0, 2.0, 0, 1), zone(&n, &c, 1, 1.0, 1.0, 1, 0);
+    HELD(CHUNK(2), 9.0);
+    aux[1] = 0.0;
+    HELD(CHUNK(2), 1.0);
+#undef CHUNK
+#undef ACTION
+#undef HELD
 }
 
 /* the place of a count in a header */
@@ -424,16 +579,25 @@ static void cameras(void) {
 #undef PASSED
 }
 
-/* The code's edges at every entry that takes a configuration: a refused call writes nothing. */
+/* The edges of the choice's code and of the count of zones, and a fourth zone that is refused, at every entry that takes a configuration: a
+   refused call writes nothing. */
 static void codes(void) {
     static struct lictor_tier1 t;
-    const uint64_t most = UINT64_MAX, bits = UINT64_C(1) << 32, values[7] = {0, 1, 2, 3, bits, bits + 1, most};
+    const uint64_t most = UINT64_MAX, bits = UINT64_C(1) << 32;
     const double origin[1] = {0.0};
-    struct lictor_numbers n = {0};
-    n.dt = n.v_max = n.a_max = n.j_max = n.reach_max = n.brake_k_v = n.brake_dt = n.norm_scale[0] = 1.0;
-    for (int i = 0; i < 7; i++) {
-        struct lictor_counts c = {.dim = 1, .pos_dim = 1, .substeps = 1, .commit = 1, .absent_camera = values[i]};
-        const uint64_t due = values[i] > 1 ? LICTOR_MISFIT : LICTOR_ACCEPTED;
+    const struct {
+        uint64_t at, value, due;
+    } cases[] = {
+        {AT(absent_camera), 0, 0}, {AT(absent_camera), 1, 0}, {AT(absent_camera), 2, 255}, {AT(absent_camera), 3, 255},
+        {AT(absent_camera), bits, 255}, {AT(absent_camera), bits + 1, 255}, {AT(absent_camera), most, 255},
+        {AT(contact), 0, 0}, {AT(contact), 1, 0}, {AT(contact), 2, 0}, {AT(contact), 3, 0}, {AT(contact), 4, 0}, {AT(contact), 5, 1},
+        {AT(contact), 256, 1}, {AT(contact), bits + 1, 1}, {AT(contact), most, 1},
+        {AT(contact3_a0), 7, 4}, {AT(contact3_a1), 8, 4}, {AT(contact3_a1), 300, 4},
+    };
+    struct lictor_numbers n;
+    struct lictor_counts c;
+    for (size_t i = 0; i < sizeof cases / sizeof *cases; i++) {
+        const uint64_t due = cases[i].due;
         struct lictor_derived d = {.inv_dt = 7.0};
         struct lictor_check_marks m = {7, 7, 7, 7};
         struct lictor_scores s = {{7.0}, {0.0}, 0.0};
@@ -443,8 +607,10 @@ static void codes(void) {
         struct lictor_wall_marks w = {7, 7};
         double out[1] = {7.0}, slacks[1] = {7.0}, speed = 7.0;
         uint64_t place = 7;
+        four_zones(&n, &c, 4);
+        c.commit = 1, ((uint64_t *)&c)[cases[i].at] = cases[i].value;
         lictor_tier1_new(LICTOR_TIER1_PARTS(&t));
-#define CODE(call) EXPECT((call) == due || shown(AT(absent_camera), values[i]))
+#define CODE(call) EXPECT((call) == due || shown(cases[i].at, cases[i].value))
         CODE(lictor_derive(&n, &c, center, scale, &d));
         EXPECT((d.inv_dt == 7.0) == (due != 0));
         CODE(lictor_check_chunk(&n, &c, center, scale, origin, 1, LICTOR_NONE, 0, origin, 1, 1, 1, 1, out, 1, &m, &speed));
@@ -455,7 +621,7 @@ static void codes(void) {
         CODE(lictor_features(&n, &c, center, scale, LICTOR_TIER1_PARTS(&t), origin, 1, origin, 0, 1, 3, 0, 1, 1, 1, origin, 1, &s, &marks));
         EXPECT((s.f[0] == 7.0) == (due != 0) && t.header.filled == (due == 0));
         CODE(lictor_brake_feasible(&n, &c, center, scale, origin, 1, origin, 1, origin, 1, 1, 1, 1, 0, slacks, 1, &f, &r, &place));
-        EXPECT((f.count == 7) == (due != 0) && (slacks[0] == 7.0) == (due != 0) && place == 7);
+        EXPECT((f.count == 7) == (due != 0) && (slacks[0] == 7.0) == (due != 0) && place == (due == 0 || due == LICTOR_MISFIT ? 7 : 0));
         out[0] = 7.0;
         CODE(lictor_brake_action(&n, &c, center, scale, origin, 1, origin, 1, out, 1, &w));
         EXPECT((w.low_dims == 7) == (due != 0) && (out[0] == 7.0) == (due != 0));
@@ -609,10 +775,12 @@ int main(void) {
     trails();
     configuration();
     widths();
+    zones();
     held_widths();
     checks();
     walls();
     cameras();
+    several_zones();
     codes();
     features();
     brakes();

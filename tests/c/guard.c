@@ -29,19 +29,22 @@ static void draw(double *numbers, size_t count) {
 
 #define AXES 3
 #define ROWS 5
+#define CHANNELS 4
 
-/* An arm of three axes that is accepted. */
+/* An arm of three axes that is accepted, with four zones of which none is counted. */
 static struct lictor_config arm(void) {
     struct lictor_config c;
     memset(&c, 0, sizeof c);
     c.numbers.dt = 0.5, c.numbers.v_max = c.numbers.a_max = c.numbers.j_max = c.numbers.reach_max = 1.0;
     c.numbers.brake_k_p = 2.0, c.numbers.brake_k_v = 1.0, c.numbers.brake_dt = 0.25, c.numbers.tau = 0.5;
-    c.numbers.contact_radius = 1.0, c.numbers.contact_v_max = 0.5;
+    c.numbers.contact_radius = c.numbers.contact1_radius = c.numbers.contact2_radius = c.numbers.contact3_radius = 1.0;
+    c.numbers.contact_v_max = 0.5, c.numbers.contact1_v_max = 0.75, c.numbers.contact2_v_max = 1.0, c.numbers.contact3_v_max = 0.125;
     for (int i = 0; i < 8; i++) c.numbers.norm_scale[i] = 1.0, c.numbers.box_lo[i] = -2.0, c.numbers.box_hi[i] = 2.0;
     for (int i = 0; i < 192; i++) c.center[i] = 0.01 * i, c.scale[i] = 1.0 + i;
     c.counts.dim = c.counts.pos_dim = AXES, c.counts.armed = LICTOR_TRIP_ALL, c.counts.clamp = LICTOR_CLAMP_PROJECT;
     c.counts.substeps = 2, c.counts.commit = 3, c.counts.brake_steps = 2, c.counts.react_ticks = 1;
-    c.counts.aux_count = 2, c.counts.contact_a1 = 1;
+    c.counts.aux_count = CHANNELS, c.counts.contact_a1 = 1, c.counts.contact1_a0 = 2, c.counts.contact1_a1 = 3;
+    c.counts.contact2_a0 = 1, c.counts.contact2_a1 = 0, c.counts.contact3_a0 = 3, c.counts.contact3_a1 = 1;
     c.counts.calibrated = 1, c.counts.mask = 0xf7f, c.counts.n_terms = 2, c.counts.terms[0] = 3, c.counts.terms[1] = 60;
     c.counts.horizon_ticks = 200;
     return c;
@@ -49,7 +52,7 @@ static struct lictor_config arm(void) {
 
 /* What the calls below read and write. */
 struct tick {
-    double pos[AXES], vel[AXES], aux[2], ext[4], rows[ROWS * AXES], previous[AXES];
+    double pos[AXES], vel[AXES], aux[CHANNELS], ext[4], rows[ROWS * AXES], previous[AXES];
     double out[ROWS * AXES], row[AXES], slacks[64], speed;
     struct lictor_tier1 state;
     struct lictor_scores scores;
@@ -64,11 +67,13 @@ struct tick {
 
 static const uint32_t terms[8] = {3, 60};
 
-#define SAME(number_a, number_b)                                                   \
-    do {                                                                           \
-        const uint64_t number_of_a = (number_a), number_of_b = (number_b);         \
-        EXPECT(number_of_a == number_of_b && memcmp(&a, &b, sizeof a) == 0);       \
-        refusals += number_of_a != 0;                                              \
+/* Both calls answer and write the same; the number is kept in answer. */
+#define SAME(number_a, number_b)                                              \
+    do {                                                                      \
+        answer = (number_a);                                                  \
+        const uint64_t number_of_b = (number_b);                              \
+        EXPECT(answer == number_of_b && memcmp(&a, &b, sizeof a) == 0);       \
+        refusals += answer != LICTOR_ACCEPTED;                                \
     } while (0)
 
 /* Each guard form answers and writes as its entry does. */
@@ -76,14 +81,14 @@ static void forms(void) {
     static struct tick a, b;
     int refusals = 0;
     const struct lictor_wall_marks none = {0, 0};
-    uint64_t stopped = 0;
+    uint64_t answer, stopped = 0, slowed[LICTOR_MAX_ZONES + 1] = {0};
     lictor_tier1_new(LICTOR_TIER1_PARTS(&a.state));
     for (uint32_t t = 0; t < 2000; t++) {
         struct lictor_config c = arm();
         struct lictor_chunk chunk = {a.rows, ROWS * AXES, t + 7, t, ROWS, AXES, 2};
-        const size_t from = below(4), i = below(7), pos = AXES - (below(30) == 0), aux = below(3), ext = below(5);
-        draw(a.pos, AXES), draw(a.vel, AXES), draw(a.aux, 2), draw(a.ext, 4), draw(a.rows, ROWS * AXES), draw(a.previous, AXES);
-        c.counts.brake = below(5), c.counts.kind = below(5), c.counts.contact = below(2), c.counts.clamp = below(2);
+        const size_t from = below(4), i = below(7), pos = AXES - (below(30) == 0), aux = below(CHANNELS + 1), ext = below(5);
+        draw(a.pos, AXES), draw(a.vel, AXES), draw(a.aux, CHANNELS), draw(a.ext, 4), draw(a.rows, ROWS * AXES), draw(a.previous, AXES);
+        c.counts.brake = below(5), c.counts.kind = below(5), c.counts.contact = below(5), c.counts.clamp = below(2);
         c.counts.absent_camera = below(2);
         c.numbers.margin = below(2) ? 1.5 : 0.0;
         if (below(30) == 0) chunk.exec_steps = 9;
@@ -91,6 +96,9 @@ static void forms(void) {
         if (below(30) == 0) c.numbers.margin = -1.0;
         if (below(30) == 0) c.counts.kind = 5;
         if (below(30) == 0) c.counts.absent_camera = 2;
+        if (below(30) == 0) c.counts.contact = 5 + below(300);
+        if (below(30) == 0) c.numbers.contact3_v_max = NAN;
+        if (below(30) == 0) c.counts.contact2_a0 = 0, c.counts.contact2_a1 = 1;
         if (below(30) == 0) c.scale[100] = 0.0;
         if (below(30) == 0) c.counts.mask |= 1 << LICTOR_STALL;
         b = a;
@@ -110,6 +118,9 @@ static void forms(void) {
         SAME(lictor_check_chunk(PARTS, a.pos, pos, a.aux, aux, a.rows, ROWS * AXES, ROWS, AXES, chunk.exec_steps, a.out, ROWS * AXES,
                                 &a.found, &a.speed),
              lictor_guard_check_chunk(&c, a.pos, pos, a.aux, aux, &chunk, b.out, ROWS * AXES, &b.found, &b.speed));
+        /* a refused call leaves the marks of the one before */
+        if (answer == LICTOR_ACCEPTED && c.counts.contact <= LICTOR_MAX_ZONES)
+            slowed[c.counts.contact] += (a.found.trips & LICTOR_TRIP_CONTACT) != 0;
         SAME(lictor_check_action(PARTS, a.pos, pos, a.aux, aux, a.previous, AXES, a.rows, AXES, a.row, AXES, &a.found, &a.speed),
              lictor_guard_check_action(&c, a.pos, pos, a.aux, aux, a.previous, AXES, a.rows, AXES, b.row, AXES, &b.found, &b.speed));
         SAME(lictor_brake_feasible(PARTS, a.pos, pos, a.vel, AXES, a.rows, ROWS * AXES, ROWS, AXES, chunk.exec_steps, from, a.slacks,
@@ -127,8 +138,11 @@ static void forms(void) {
 #undef PARTS
 #undef GATE
     }
-    /* the draws reach refused calls too, and not those alone; a brake is stopped at each wall */
+    /* the draws reach refused calls too, and not those alone; a brake is stopped at each wall; each count of zones slows a chunk,
+       and without a zone none is slowed */
     EXPECT(refusals > 500 && refusals < 12000 && stopped == (1 << 2 * AXES) - 1);
+    EXPECT(slowed[0] == 0);
+    for (int i = 1; i <= LICTOR_MAX_ZONES; i++) EXPECT(slowed[i] > 50);
 }
 
 /* No numbers are a null pointer with a count of 0; with any other count nothing is written, and LICTOR_MISFIT given. */
@@ -280,6 +294,61 @@ static void cameras(void) {
     }
 }
 
+/* By every guard form that takes a configuration: a count on both sides of its edge and wider than its field, a fourth zone's numbers and
+   channels, a pair twice and swapped, and what stands past the count. */
+static void zones(void) {
+    static struct tick a;
+    const struct lictor_chunk chunk = {a.rows, ROWS * AXES, 0, 0, ROWS, AXES, 2};
+    const uint64_t wide = (UINT64_C(1) << 32) + 1;
+    struct lictor_config c;
+    lictor_tier1_new(LICTOR_TIER1_PARTS(&a.state));
+#define DUE(due)                                                                                                                            \
+    do {                                                                                                                                    \
+        EXPECT(lictor_guard_derive(&c, &a.derived) == (due));                                                                              \
+        EXPECT(lictor_guard_check_chunk(&c, a.pos, AXES, a.aux, CHANNELS, &chunk, a.out, ROWS * AXES, &a.found, &a.speed) == (due));       \
+        EXPECT(lictor_guard_check_action(&c, a.pos, AXES, NULL, 0, a.previous, AXES, a.rows, AXES, a.row, AXES, &a.found, &a.speed) ==     \
+               (due));                                                                                                                     \
+        EXPECT(lictor_guard_features(&c, &a.state, a.pos, AXES, NULL, 0, &chunk, &a.scores, &a.marks) == (due));                           \
+        EXPECT(lictor_guard_brake_feasible(&c, a.pos, AXES, a.vel, AXES, &chunk, 0, a.slacks, 64, &a.forecast, &a.distances, &a.place) ==  \
+               (due));                                                                                                                     \
+        EXPECT(lictor_guard_brake_action(&c, a.pos, AXES, a.vel, AXES, a.row, AXES, &a.walls) == (due));                                   \
+        EXPECT(lictor_guard_hold_action(&c, a.pos, AXES, a.row, AXES, &a.walls) == (due));                                                 \
+    } while (0)
+    for (uint64_t count = 0; count < 7; count++) {
+        c = arm(), c.counts.contact = count;
+        DUE(count > LICTOR_MAX_ZONES ? LICTOR_SIZE : LICTOR_ACCEPTED);
+        c.numbers.contact3_v_max = -1.0;
+        DUE(count > LICTOR_MAX_ZONES ? LICTOR_SIZE : count == 4 ? LICTOR_NUMBER : LICTOR_ACCEPTED);
+        c = arm(), c.counts.contact = count, c.numbers.contact3_radius = NAN, c.counts.contact3_a0 = 300;
+        DUE(count > LICTOR_MAX_ZONES ? LICTOR_SIZE : count == 4 ? LICTOR_NUMBER : LICTOR_ACCEPTED);
+        c = arm(), c.counts.contact = count, c.counts.contact3_a0 = CHANNELS;
+        DUE(count > LICTOR_MAX_ZONES ? LICTOR_SIZE : count == 4 ? LICTOR_CHANNELS : LICTOR_ACCEPTED);
+        c.counts.aux_count = 301, c.counts.contact3_a0 = 300;
+        DUE(count >= 4 ? LICTOR_MISFIT : LICTOR_ACCEPTED);
+        /* the third has the first's channels the other way round, and then as they are */
+        c = arm(), c.counts.contact = count, c.counts.contact2_a0 = 0, c.counts.contact2_a1 = 1;
+        DUE(count > LICTOR_MAX_ZONES ? LICTOR_SIZE : count > 2 ? LICTOR_CHANNELS : LICTOR_ACCEPTED);
+    }
+    c = arm(), c.counts.contact = 256;
+    DUE(LICTOR_SIZE);
+    c.counts.contact = wide;
+    DUE(LICTOR_SIZE);
+    c.counts.contact = UINT64_MAX;
+    DUE(LICTOR_SIZE);
+#undef DUE
+    /* a step of 0.1875 along one axis, from inside the second zone, which allows it, and the fourth, which does not */
+    c = arm(), c.counts.armed = LICTOR_TRIP_CONTACT;
+    for (int i = 0; i < AXES; i++) a.pos[i] = a.previous[i] = 0.0;
+    for (int i = 0; i < AXES; i++) a.rows[i] = i ? 0.0 : 0.1875;
+    for (uint64_t count = 0; count <= LICTOR_MAX_ZONES; count++) {
+        /* channel 0 is far away: it is the first zone's and the third's */
+        a.aux[0] = 9.0, a.aux[1] = 0.0, a.aux[2] = a.aux[3] = 0.0, c.counts.contact = count;
+        EXPECT(lictor_guard_check_action(&c, a.pos, AXES, a.aux, CHANNELS, a.previous, AXES, a.rows, AXES, a.row, AXES, &a.found, &a.speed) ==
+               LICTOR_ACCEPTED);
+        EXPECT(a.found.trips == (count == 4 ? LICTOR_TRIP_CONTACT : 0) && (a.row[0] < 0.0625) == (count == 4));
+    }
+}
+
 /* Each number has a text of its own, and the version's parts agree. */
 static void words(void) {
     const char *unknown = lictor_refusal_text(14);
@@ -290,7 +359,7 @@ static void words(void) {
         for (uint64_t j = 0; known && j < i; j++) EXPECT(strcmp(lictor_refusal_text(i), lictor_refusal_text(j)) != 0);
     }
     snprintf(version, sizeof version, "%d.%d.%d", LICTOR_VERSION_MAJOR, LICTOR_VERSION_MINOR, LICTOR_VERSION_PATCH);
-    EXPECT(strcmp(version, LICTOR_VERSION) == 0 && LICTOR_VERSION_NUMBER >= 500);
+    EXPECT(strcmp(version, LICTOR_VERSION) == 0 && LICTOR_VERSION_NUMBER >= 600);
 }
 
 int main(void) {
@@ -299,6 +368,7 @@ int main(void) {
     widths();
     arming();
     cameras();
+    zones();
     words();
     puts(failed ? "guard forms: failed" : "guard forms: as expected");
     return failed;

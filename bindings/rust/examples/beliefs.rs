@@ -47,6 +47,10 @@ fn main() -> Result<(), Refusal> {
     // Two coordinates may share a camera channel? The configuration is refused with 4, armed or not.
     let shared = ARM.armed(0).contact(Contact { radius: 1.0, v_max: 0.5, a0: 1, a1: 1 });
     assert_eq!(shared.build().unwrap_err(), Refusal::Channels);
+    // Two zones may not share both of theirs in the same order either; in the other order they are another zone's.
+    let zone = Contact { radius: 1.0, v_max: 0.5, a0: 0, a1: 1 };
+    assert_eq!(ARM.zones(&[zone, zone]).build().unwrap_err(), Refusal::Channels);
+    assert!(ARM.zones(&[zone, Contact { a0: 1, a1: 0, ..zone }]).build().is_ok());
 
     // Touching a limit trips it? The step of 1 above is the limit, and ends on the wall; a longer one trips.
     assert_eq!(found.trips, 0);

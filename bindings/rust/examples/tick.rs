@@ -4,7 +4,7 @@
 use lictor::{
     brake,
     chunk::ChunkView,
-    config::{BrakeKind, BrakeModel, Config},
+    config::{trip, BrakeKind, BrakeModel, Config, Contact},
     conformal::{self, feature, Calibration, Scores},
     tier0,
     tier1::{self, Tier1},
@@ -15,6 +15,11 @@ use lictor::{
 /// Two axes along the table, and its height; a chunk has four rows.
 const AXES: usize = 3;
 const ROWS: usize = 4;
+
+/// The camera tells where two trays stand on the table, two numbers each. The second tray's zone is the slower one: steps of 0.25 and of 0.125.
+const CHANNELS: usize = 4;
+const TRAYS: [Contact; 2] =
+    [Contact { radius: 0.25, v_max: 0.5, a0: 0, a1: 1 }, Contact { radius: 0.25, v_max: 0.25, a0: 2, a1: 3 }];
 
 /// The window holds 3 ticks, and 2 hits stop the arm.
 const PUSHES: u8 = 3;
@@ -28,15 +33,16 @@ struct Guard {
     slacks: [f64; 64],
 }
 
-/// What was measured at tick `t`, numbered from 1; this arm has no camera, and no slow zone.
+/// What was measured at tick `t`, numbered from 1, and what the camera sent.
 struct Measured<'a> {
     t: u32,
     pos: &'a [f64],
     vel: &'a [f64],
+    aux: &'a [f64; CHANNELS],
 }
 
 impl Guard {
-    /// The arm's limits, brake and calibration, judged.
+    /// The arm's limits, brake, calibration and a slow zone round each tray, judged.
     fn new() -> Answer<Self> {
         let calibration = Calibration {
             center: [0.0; 192],
@@ -66,6 +72,8 @@ impl Guard {
             .walls([-1.0; 8], [1.0; 8])
             .brake(brake)
             .calibration(calibration, 200)
+            .zones(&TRAYS)
+            .aux_count(CHANNELS)
             .build()?;
         let (state, scores, window) = (Tier1::new(), Scores::default(), Window::default());
         Ok(Self { config, state, scores, window, slacks: [0.0; 64] })
@@ -83,8 +91,11 @@ impl Guard {
         self.window.push(hit, window::mask(PUSHES)?);
 
         let (mut projected, mut row) = ([0.0; ROWS * AXES], [0.0; AXES]);
-        let found = tier0::check_chunk(&self.config, m.pos, &[], planned, &mut projected)?;
+        let found = tier0::check_chunk(&self.config, m.pos, m.aux, planned, &mut projected)?;
         log_walls(m.t, "chunk", found.low_dims, found.high_dims);
+        if found.trips & trip::CONTACT != 0 {
+            println!("tick {}: chunk, too fast beside a tray", m.t);
+        }
         let rows = ChunkView { data: &projected, ..planned };
         let forecast = brake::brake_feasible(&self.config, m.pos, m.vel, rows, 0, &mut self.slacks)?;
         let calm = found.trips == 0 && self.window.hits() < STOPS && forecast.feasible;
@@ -122,19 +133,22 @@ fn main() -> Answer<()> {
     assert!(lictor::environment_ok(), "the processor does not round to nearest, or takes small numbers for 0");
     let mut guard = Guard::new()?;
     let mut last = [0.0; AXES];
-    // each tick's position and speed along the first axis, and its chunk
+    // each tick's position and speed along the first axis, its chunk, and how far to the side the trays stand: in tick 8 the arm is inside
+    // both zones, and its step of 0.1875 is too long for the second
     let ticks = [
-        (0.0, 0.0, straight(0.125, 0.125, 0.0)),
-        (0.125, 0.25, straight(0.25, 0.5, 0.0)),
-        (0.125, 8.0, straight(0.25, 0.125, 0.0)),
-        (0.25, 0.0, straight(0.75, 0.0, 0.0)),
-        (0.25, 0.0, straight(0.75, 0.0, 0.0)),
-        (0.25, 0.0, straight(0.25, 0.0, 0.5)),
-        (-1.25, 0.0, straight(-1.0, 0.0, 0.0)),
-        (f64::NAN, 0.0, straight(0.25, 0.0, 0.0)),
+        (0.0, 0.0, straight(0.125, 0.125, 0.0), 0.5),
+        (0.125, 0.25, straight(0.25, 0.5, 0.0), 0.5),
+        (0.125, 8.0, straight(0.25, 0.125, 0.0), 0.5),
+        (0.25, 0.0, straight(0.75, 0.0, 0.0), 0.5),
+        (0.25, 0.0, straight(0.75, 0.0, 0.0), 0.5),
+        (0.25, 0.0, straight(0.25, 0.0, 0.5), 0.5),
+        (-1.25, 0.0, straight(-1.0, 0.0, 0.0), 0.5),
+        (0.0, 0.0, straight(0.1875, 0.0, 0.0), 0.125),
+        (f64::NAN, 0.0, straight(0.25, 0.0, 0.0), 0.5),
     ];
-    for (t, (pos, vel, data)) in (1..).zip(&ticks) {
-        let measured = Measured { t, pos: &[*pos, 0.0, 0.0], vel: &[*vel, 0.0, 0.0] };
+    for (t, (pos, vel, data, side)) in (1..).zip(&ticks) {
+        let aux = [0.125, *side, -0.125, *side];
+        let measured = Measured { t, pos: &[*pos, 0.0, 0.0], vel: &[*vel, 0.0, 0.0], aux: &aux };
         let planned = ChunkView::new(t, t, 3, 1, data);
         match guard.tick(&measured, planned) {
             Ok((deed, row)) => {

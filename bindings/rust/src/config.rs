@@ -18,7 +18,7 @@ pub mod trip {
     pub const JERK: u32 = 8;
     /// The first row is farther than `reach_max` from the position.
     pub const REACH: u32 = 16;
-    /// A step inside the slow zone is longer than the zone's `v_max` allows.
+    /// A step is longer than the `v_max` of a slow zone that the arm is inside allows.
     pub const CONTACT: u32 = 32;
     /// All six.
     pub const ALL: u32 = 63;
@@ -97,8 +97,76 @@ pub struct Contact {
     pub a1: u8,
 }
 
-/// What holds where a slow zone is configured and `CONTACT` armed, and the camera's message is too short for either of the zone's channels
-/// or the position has fewer than two coordinates.
+/// What is laid out where there is no zone: nothing of it is read.
+const NO_CONTACT: Contact = Contact { radius: 0.0, v_max: 0.0, a0: 0, a1: 0 };
+
+/// The slow zones of one arm, at most [`MAX`](Self::MAX). A step inside several of them is held to the least of what they allow.
+///
+/// More than that are counted, so that the library refuses them with [`Size`](crate::Refusal::Size) and none is dropped in silence. Two zones may
+/// not name the same channels in the same order; swapped they are another pair.
+///
+/// ```
+/// # use lictor::config::{BrakeKind, BrakeModel, Config};
+/// # let brake = BrakeModel {
+/// #     kind: BrakeKind::PdSecondOrder, k_p: 2.0, k_v: 1.0, dt: 0.5, substeps: 2, commit: 1, brake_steps: 1, react_ticks: 1,
+/// # };
+/// # let builder = Config::builder().axes(2).dt(1.0).v_max(9.0).a_max(9.0).j_max(9.0).reach_max(99.0).walls([-9.0; 8], [9.0; 8]).brake(brake);
+/// use lictor::{config::{trip, Contact}, tier0, Refusal};
+/// let tray = Contact { radius: 1.0, v_max: 2.0, a0: 0, a1: 1 };
+/// let slower = Contact { radius: 2.0, v_max: 0.5, a0: 2, a1: 3 };
+/// let config = builder.zones(&[tray, slower]).aux_count(4).build()?;
+/// let mut out = [0.0; 2];
+/// // a step of 1 inside both, and inside the first alone
+/// let both = tier0::check_action(&config, &[0.0; 2], &[0.0; 4], &[0.0; 2], &[1.0, 0.0], &mut out)?;
+/// assert_eq!((both.trips, out[0] < 0.5), (trip::CONTACT, true));
+/// let one = tier0::check_action(&config, &[0.0; 2], &[0.0, 0.0, 5.0, 5.0], &[0.0; 2], &[1.0, 0.0], &mut out)?;
+/// assert_eq!((one.trips, out), (0, [1.0, 0.0]));
+/// // five are too many, and the same pair twice is refused
+/// assert_eq!(builder.zones(&[tray; 5]).aux_count(4).build().unwrap_err(), Refusal::Size);
+/// assert_eq!(builder.zones(&[tray, tray]).aux_count(4).build().unwrap_err(), Refusal::Channels);
+/// # Ok::<(), lictor::Refusal>(())
+/// ```
+#[derive(Clone, Copy, Debug, PartialEq)]
+pub struct Zones {
+    list: [Contact; Self::MAX],
+    count: usize,
+}
+
+impl Zones {
+    /// How many one arm may have.
+    pub const MAX: usize = 4;
+
+    /// No zone: slow nowhere.
+    pub const NONE: Self = Self { list: [NO_CONTACT; Self::MAX], count: 0 };
+
+    /// All of these zones. The first four are held; more are counted, and refused.
+    ///
+    /// ```
+    /// use lictor::config::{Contact, Zones};
+    /// const TRAY: Contact = Contact { radius: 0.25, v_max: 0.5, a0: 0, a1: 1 };
+    /// const TRAYS: Zones = Zones::of(&[TRAY, Contact { a0: 2, a1: 3, ..TRAY }]);
+    /// assert_ne!(TRAYS, Zones::of(&[TRAY]));
+    /// assert_eq!(Zones::of(&[]), Zones::NONE);
+    /// ```
+    #[must_use]
+    pub const fn of(zones: &[Contact]) -> Self {
+        let (mut list, mut i) = (Self::NONE.list, 0);
+        while i < zones.len() && i < Self::MAX {
+            list[i] = zones[i];
+            i += 1;
+        }
+        Self { list, count: zones.len() }
+    }
+}
+
+impl Default for Zones {
+    fn default() -> Self {
+        Self::NONE
+    }
+}
+
+/// What holds of each slow zone where `CONTACT` is armed, and the camera's message is too short for either of that zone's channels or the
+/// position has fewer than two coordinates.
 ///
 /// No zone configured means slow nowhere, under either choice. A zone whose camera is silent means slow everywhere, unless the
 /// configuration says [`NoZone`](Self::NoZone).
@@ -107,7 +175,7 @@ pub enum AbsentCamera {
     /// The arm counts as inside the zone: a step longer than the zone's `v_max` allows raises `CONTACT`, and projection shortens it.
     #[default]
     Slow,
-    /// There is no zone then. For an arm that has a zone and runs without a camera on purpose.
+    /// There is no such zone then. For an arm that has zones and runs without a camera on purpose.
     NoZone,
 }
 
@@ -140,9 +208,9 @@ pub struct FuseConfig {
     pub box_lo: [f64; 8],
     /// The high wall.
     pub box_hi: [f64; 8],
-    /// The slow zone, where there is one.
-    pub contact: Option<Contact>,
-    /// What holds where the camera does not show that zone.
+    /// The slow zones.
+    pub zones: Zones,
+    /// What holds of a zone that the camera does not show.
     pub absent_camera: AbsentCamera,
     /// The brake.
     pub brake: BrakeModel,
@@ -200,7 +268,7 @@ impl Config {
     ///     norm_scale: [1.0; 8],
     ///     box_lo: [-1.0; 8],
     ///     box_hi: [1.0; 8],
-    ///     contact: None,
+    ///     zones: Zones::NONE,
     ///     absent_camera: AbsentCamera::Slow,
     ///     brake: BrakeModel {
     ///         kind: BrakeKind::BoundedAccel, k_p: 2.0, k_v: 1.0, dt: 0.5, substeps: 2, commit: 1, brake_steps: 4, react_ticks: 1,
@@ -237,7 +305,7 @@ impl Config {
     #[must_use]
     pub fn unjudged(c: &FuseConfig) -> Self {
         let gate = c.calibration.unwrap_or(NO_CALIBRATION);
-        let zone = c.contact.unwrap_or(Contact { radius: 0.0, v_max: 0.0, a0: 0, a1: 0 });
+        let [zone, zone1, zone2, zone3] = &c.zones.list;
         let b = &c.brake;
         let numbers = raw::Numbers {
             dt: c.dt,
@@ -256,6 +324,12 @@ impl Config {
             box_lo: c.box_lo,
             box_hi: c.box_hi,
             tau: gate.tau,
+            contact1_radius: zone1.radius,
+            contact1_v_max: zone1.v_max,
+            contact2_radius: zone2.radius,
+            contact2_v_max: zone2.v_max,
+            contact3_radius: zone3.radius,
+            contact3_v_max: zone3.v_max,
         };
         let counts = raw::Counts {
             dim: c.dim as u64,
@@ -263,7 +337,7 @@ impl Config {
             kind: c.kind as u64,
             clamp: c.clamp as u64,
             brake: b.kind as u64,
-            contact: c.contact.is_some().into(),
+            contact: c.zones.count as u64,
             contact_a0: zone.a0.into(),
             contact_a1: zone.a1.into(),
             substeps: b.substeps.into(),
@@ -278,6 +352,12 @@ impl Config {
             n_terms: gate.n_terms.into(),
             horizon_ticks: c.horizon_ticks.into(),
             absent_camera: c.absent_camera as u64,
+            contact1_a0: zone1.a0.into(),
+            contact1_a1: zone1.a1.into(),
+            contact2_a0: zone2.a0.into(),
+            contact2_a1: zone2.a1.into(),
+            contact3_a0: zone3.a0.into(),
+            contact3_a1: zone3.a1.into(),
         };
         Self { numbers, counts, gate }
     }
@@ -351,7 +431,7 @@ impl Config {
 /// | `armed` | [`trip::ALL`]: every check is made |
 /// | `margin` | 0: the walls as they are |
 /// | `norm` | centers 0 and scales 1: coordinates as they are |
-/// | `contact`, `aux_count` | no slow zone, and no camera |
+/// | `zones`, `aux_count` | no slow zone, and no camera |
 /// | `absent_camera` | [`AbsentCamera::Slow`]: a zone that the camera does not show is slow everywhere |
 /// | `calibration` | none: nothing of it is judged |
 ///
@@ -391,7 +471,7 @@ impl ConfigBuilder {
         norm_scale: [1.0; 8],
         box_lo: [f64::NAN; 8],
         box_hi: [f64::NAN; 8],
-        contact: None,
+        zones: Zones::NONE,
         absent_camera: AbsentCamera::Slow,
         brake: BrakeModel {
             kind: BrakeKind::PdSecondOrder,
@@ -481,13 +561,46 @@ impl ConfigBuilder {
         self
     }
 
-    /// A slow zone. Its channels have to be below the [`aux_count`](Self::aux_count).
-    pub const fn contact(mut self, zone: Contact) -> Self {
-        self.0.contact = Some(zone);
+    /// All slow zones, in place of those that were set. Their channels have to be below the [`aux_count`](Self::aux_count).
+    ///
+    /// ```
+    /// # use lictor::config::{BrakeKind, BrakeModel, Config};
+    /// # let brake = BrakeModel {
+    /// #     kind: BrakeKind::PdSecondOrder, k_p: 2.0, k_v: 1.0, dt: 0.5, substeps: 2, commit: 1, brake_steps: 1, react_ticks: 1,
+    /// # };
+    /// # let builder = Config::builder().axes(2).dt(1.0).v_max(9.0).a_max(9.0).j_max(9.0).reach_max(99.0).walls([-9.0; 8], [9.0; 8]).brake(brake);
+    /// use lictor::{config::Contact, Refusal};
+    /// let tray = Contact { radius: 0.25, v_max: 0.5, a0: 0, a1: 1 };
+    /// let trays = [tray, Contact { a0: 2, a1: 3, ..tray }, Contact { a0: 4, a1: 5, ..tray }];
+    /// assert!(builder.zones(&trays).aux_count(6).build().is_ok());
+    /// assert_eq!(builder.zones(&trays).aux_count(5).build().unwrap_err(), Refusal::Channels);
+    /// ```
+    pub const fn zones(mut self, zones: &[Contact]) -> Self {
+        self.0.zones = Zones::of(zones);
         self
     }
 
-    /// What holds where the zone is not seen: an arm that has a zone and no camera on purpose says [`AbsentCamera::NoZone`].
+    /// This slow zone alone, in place of those that were set; several are set by [`zones`](Self::zones). Its channels have to be below the
+    /// [`aux_count`](Self::aux_count).
+    ///
+    /// ```
+    /// # use lictor::config::{BrakeKind, BrakeModel, Config};
+    /// # let brake = BrakeModel {
+    /// #     kind: BrakeKind::PdSecondOrder, k_p: 2.0, k_v: 1.0, dt: 0.5, substeps: 2, commit: 1, brake_steps: 1, react_ticks: 1,
+    /// # };
+    /// # let builder = Config::builder().axes(2).dt(1.0).v_max(9.0).a_max(9.0).j_max(9.0).reach_max(99.0).walls([-9.0; 8], [9.0; 8]).brake(brake);
+    /// use lictor::{config::Contact, Refusal};
+    /// let tray = Contact { radius: 0.25, v_max: 0.5, a0: 0, a1: 1 };
+    /// assert!(builder.contact(tray).aux_count(2).build().is_ok());
+    /// assert!(builder.zones(&[tray; 5]).contact(tray).aux_count(2).build().is_ok());
+    /// assert_eq!(builder.contact(tray).aux_count(1).build().unwrap_err(), Refusal::Channels);
+    /// ```
+    pub const fn contact(mut self, zone: Contact) -> Self {
+        self.0.zones = Zones::of(&[zone]);
+        self
+    }
+
+    /// What holds of a zone that is not seen: an arm that has zones and no camera on purpose says [`AbsentCamera::NoZone`].
     ///
     /// ```
     /// # use lictor::config::{BrakeKind, BrakeModel, Config};
@@ -578,13 +691,37 @@ pub struct Derived {
 mod tests {
     use super::*;
 
-    /// The code at the end of the counts, which stands past all others.
     #[test]
-    fn the_choice_is_the_last_count() {
+    fn the_choice_is_a_code() {
         let laid = |choice| Config::unjudged(&FuseConfig { absent_camera: choice, ..ConfigBuilder::START }).counts;
         assert_eq!(laid(AbsentCamera::Slow).absent_camera, 0);
         assert_eq!(laid(AbsentCamera::NoZone).absent_camera, 1);
         assert_eq!(core::mem::offset_of!(raw::Counts, absent_camera), 26 * 8);
-        assert_eq!(core::mem::size_of::<raw::Counts>(), 27 * 8);
+    }
+
+    /// The first zone among the other numbers and counts, and the others at their ends, each by itself; the count whole, and zeros past it.
+    #[test]
+    fn each_zone_has_its_place() {
+        let zone = |k: u8| Contact { radius: f64::from(k), v_max: f64::from(10 * k), a0: 2 * k, a1: 2 * k + 1 };
+        let all = [1, 2, 3, 4, 5, 6].map(zone);
+        for n in 0..=all.len() {
+            let laid = Config::unjudged(&FuseConfig { zones: Zones::of(&all[..n]), ..ConfigBuilder::START });
+            let (m, c) = (&laid.numbers, &laid.counts);
+            let places = [
+                (m.contact_radius, m.contact_v_max, c.contact_a0, c.contact_a1),
+                (m.contact1_radius, m.contact1_v_max, c.contact1_a0, c.contact1_a1),
+                (m.contact2_radius, m.contact2_v_max, c.contact2_a0, c.contact2_a1),
+                (m.contact3_radius, m.contact3_v_max, c.contact3_a0, c.contact3_a1),
+            ];
+            assert_eq!(c.contact, n as u64);
+            for (k, place) in places.into_iter().enumerate() {
+                let z = if k < n { all[k] } else { NO_CONTACT };
+                assert_eq!(place, (z.radius, z.v_max, z.a0.into(), z.a1.into()), "zone {k} of {n}");
+            }
+        }
+        assert_eq!(core::mem::offset_of!(raw::Numbers, contact1_radius), 44 * 8);
+        assert_eq!(core::mem::offset_of!(raw::Counts, contact1_a0), 27 * 8);
+        assert_eq!(core::mem::size_of::<raw::Numbers>(), 50 * 8);
+        assert_eq!(core::mem::size_of::<raw::Counts>(), 33 * 8);
     }
 }

@@ -22,6 +22,12 @@ pub struct Numbers {
     pub box_lo: [f64; 8],
     pub box_hi: [f64; 8],
     pub tau: f64,
+    pub contact1_radius: f64,
+    pub contact1_v_max: f64,
+    pub contact2_radius: f64,
+    pub contact2_v_max: f64,
+    pub contact3_radius: f64,
+    pub contact3_v_max: f64,
 }
 
 #[repr(C)]
@@ -47,6 +53,12 @@ pub struct Counts {
     pub n_terms: u64,
     pub horizon_ticks: u64,
     pub absent_camera: u64,
+    pub contact1_a0: u64,
+    pub contact1_a1: u64,
+    pub contact2_a0: u64,
+    pub contact2_a1: u64,
+    pub contact3_a0: u64,
+    pub contact3_a1: u64,
 }
 
 extern "C" {

@@ -14,13 +14,13 @@ use core::{error::Error, fmt};
 #[derive(Clone, Copy, Debug, PartialEq, Eq, Hash)]
 #[non_exhaustive]
 pub enum Refusal {
-    /// 1: dim, `pos_dim`, a term count, a feature bit, a window length, a trail's head or a trail's count is out of size.
+    /// 1: dim, `pos_dim`, a zone count, a term count, a feature bit, a window length, a trail's head or a trail's count is out of size.
     Size,
     /// 2: a configuration number, or one derived from it, is not finite or is out of its range.
     Number,
     /// 3: substeps, commit, braking steps or horizon ticks are out of range.
     Steps,
-    /// 4: the contact's two channels are equal, or one is at or above `aux_count`.
+    /// 4: a zone's two channels are equal, one is at or above `aux_count`, or two zones name the same pair in the same order.
     Channels,
     /// 17: a calibration's mask or one of its counted terms names Stall, which is not computed.
     Withdrawn,
@@ -127,10 +127,12 @@ impl Refusal {
     #[must_use]
     pub const fn text(self) -> &'static str {
         match self {
-            Self::Size => "a dimension, term count, feature bit, window length or trail index is out of size",
+            Self::Size => {
+                "a dimension, zone count, term count, feature bit, window length or trail index is out of size"
+            }
             Self::Number => "a configuration number is not finite or out of its range",
             Self::Steps => "a count of steps or ticks is out of range",
-            Self::Channels => "the contact's channels are equal or past the declared ones",
+            Self::Channels => "a zone's channels are equal, past the declared ones or another's pair",
             Self::Withdrawn => "the calibration's mask or a counted term names Stall, which is not computed",
             Self::Empty => "the chunk is empty",
             Self::TooLong => "the chunk has too many rows",

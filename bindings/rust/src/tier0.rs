@@ -34,10 +34,12 @@ impl Tier0Out {
 }
 
 /// Checks a chunk from a position. The projected rows are written over the first horizon x dim numbers of `out`. An arm without a
-/// camera lends `&[]`: where it has no slow zone it is slow nowhere, and where it has one, with `CONTACT` armed, it is slow everywhere, unless
-/// it says [`AbsentCamera::NoZone`](crate::config::AbsentCamera). So it is where `aux` lacks one channel of the two, or `pos` has one
-/// coordinate; no distance is computed then. Lend what the camera sent in this tick, and nothing where it sent nothing: an older message, or
-/// zeros in its place, is a camera that sees.
+/// camera lends `&[]`: where it has no slow zone it is slow nowhere, and where it has some, with `CONTACT` armed, it is slow everywhere, unless
+/// it says [`AbsentCamera::NoZone`](crate::config::AbsentCamera). So it is by each zone of whose two channels `aux` lacks one, and by all
+/// where `pos` has one coordinate; the distance of such a zone is not computed. Lend what the camera sent in this tick, and nothing where it
+/// sent nothing: an older message, or zeros in its place, is a camera that sees. Where `CONTACT` is armed,
+/// [`Computed`](crate::Refusal::Computed) comes from the distance of any counted zone that is seen, and from the step of any that the arm is
+/// inside.
 ///
 /// ```
 /// # use lictor::config::{BrakeKind, BrakeModel, Config};

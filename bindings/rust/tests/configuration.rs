@@ -4,6 +4,7 @@ use lictor::{
     chunk::ChunkView,
     config::{
         trip, AbsentCamera, ActionKind, BrakeKind, BrakeModel, ClampMode, Config, ConfigBuilder, Contact, FuseConfig,
+        Zones,
     },
     conformal::{self, Calibration, Scores},
     tier0, Refusal,
@@ -171,6 +172,92 @@ fn a_silent_camera_by_the_choice() {
         let unarmed = builder.armed(trip::ALL - trip::CONTACT - trip::ACCEL - trip::JERK);
         assert_eq!(stepped(&unarmed, &[0.0; 2], &[]), Ok((0, false)), "{choice:?}");
         assert_eq!(stepped(&builder, &[0.0; 2], &[f64::NAN]), Err(Refusal::NotFinite), "{choice:?}");
+    }
+}
+
+/// A zone of radius 0.25 on two channels of its own, of eight.
+fn tray(k: u8) -> Contact {
+    Contact { radius: 0.25, v_max: 0.5, a0: 2 * k, a1: 2 * k + 1 }
+}
+
+#[test]
+fn five_zones_are_refused_by_the_library() {
+    let trays = [0, 1, 2, 3, 4, 5].map(tray);
+    for n in 0..=trays.len() {
+        let due = if n > 4 { Some(Refusal::Size) } else { None };
+        assert_eq!(arm().aux_count(12).zones(&trays[..n]).build().err(), due, "{n}");
+        assert_eq!(Zones::of(&trays[..n]) == Zones::NONE, n == 0);
+    }
+    assert_ne!(Zones::of(&trays[..4]), Zones::of(&trays[..5]), "the fifth is counted");
+    assert_eq!((Zones::default(), ConfigBuilder::START.zones), (Zones::NONE, Zones::NONE));
+}
+
+/// What is set replaces what was set, whether by `zones` or by `contact`: the slow zone that stood there slows nothing.
+#[test]
+fn zones_that_are_set_replace_those_before() {
+    let (slow, fast) = (tray(0), Contact { v_max: 2.0, ..tray(1) });
+    let builder = arm().armed(trip::CONTACT).aux_count(4);
+    assert_eq!(stepped(&builder.contact(slow), &[0.0; 2], &[0.0; 4]), Ok((trip::CONTACT, true)));
+    for replaced in [
+        builder.contact(slow).contact(fast),
+        builder.contact(slow).zones(&[fast]),
+        builder.zones(&[fast, slow]).contact(fast),
+        builder.zones(&[slow; 5]).zones(&[fast]),
+    ] {
+        assert_eq!(stepped(&replaced, &[0.0; 2], &[0.0; 4]), Ok((0, false)));
+    }
+    assert!(builder.contact(slow).contact(slow).build().is_ok(), "one zone, and no repeated pair");
+}
+
+#[test]
+fn every_zone_is_judged_armed_or_not() {
+    for (k, armed) in (0..4).flat_map(|k| [(k, 0), (k, trip::ALL)]) {
+        let with = |change: fn(&mut Contact)| {
+            let mut trays = [0, 1, 2, 3].map(tray);
+            change(&mut trays[k]);
+            arm().armed(armed).aux_count(8).zones(&trays).build().err()
+        };
+        assert_eq!(with(|_| ()), None);
+        assert_eq!(with(|z| z.v_max = 0.0), Some(Refusal::Number), "zone {k}");
+        assert_eq!(with(|z| z.radius = -1.0), Some(Refusal::Number), "zone {k}");
+        assert_eq!(with(|z| z.radius = f64::NAN), Some(Refusal::Number), "zone {k}");
+        assert_eq!(with(|z| z.a1 = z.a0), Some(Refusal::Channels), "zone {k}");
+        assert_eq!(with(|z| z.a0 = 8), Some(Refusal::Channels), "zone {k}");
+        assert_eq!(with(|z| z.a1 = 255), Some(Refusal::Channels), "zone {k}");
+    }
+}
+
+#[test]
+fn a_repeated_pair_is_refused_and_a_swapped_one_is_not() {
+    for (i, j) in [(0, 1), (0, 2), (0, 3), (1, 2), (1, 3), (2, 3)] {
+        let with = |pair: fn(Contact) -> (u8, u8)| {
+            let mut trays = [0, 1, 2, 3].map(tray);
+            (trays[j].a0, trays[j].a1) = pair(trays[i]);
+            arm().aux_count(8).zones(&trays).build().err()
+        };
+        assert_eq!(with(|z| (z.a0, z.a1)), Some(Refusal::Channels), "zones {i} and {j}");
+        assert_eq!(with(|z| (z.a1, z.a0)), None, "zones {i} and {j}");
+    }
+}
+
+/// A step of 0.5 from the origin: each zone that the arm is inside holds it, wherever it stands in the list, and none that it is outside.
+#[test]
+fn any_zone_that_the_arm_is_inside_holds_it() {
+    for slow in 0..4 {
+        let mut trays = [0, 1, 2, 3].map(|k| Contact { v_max: 2.0, ..tray(k) });
+        trays[slow].v_max = 0.5;
+        for inside in 0..16_usize {
+            let at = |k: usize| if inside >> k & 1 == 1 { 0.0 } else { 9.0 };
+            let aux: Vec<f64> = (0..8).map(|channel| at(channel / 2)).collect();
+            let builder = arm().armed(trip::CONTACT).aux_count(8).zones(&trays);
+            let held = inside >> slow & 1 == 1;
+            let due = if held { (trip::CONTACT, true) } else { (0, false) };
+            assert_eq!(stepped(&builder, &[0.0; 2], &aux), Ok(due), "zone {slow} of {inside:04b}");
+            // a message that ends before the slow zone's channels: by the choice, for that zone
+            let (short, old) = (&vec![9.0; 2 * slow + 1], builder.absent_camera(AbsentCamera::NoZone));
+            assert_eq!(stepped(&builder, &[0.0; 2], short), Ok((trip::CONTACT, true)), "zone {slow}");
+            assert_eq!(stepped(&old, &[0.0; 2], short), Ok((0, false)), "zone {slow}");
+        }
     }
 }
 
