@@ -3,7 +3,7 @@
 use differential::rng::Rng;
 use model::{
     AbsentCamera, BrakeModel, Calibration, ChunkBuf, ChunkView, ClampMode, ContactLimit, FuseConfig, Scores, Tier1Rt,
-    Trail, NAMED,
+    Trail, Zones, NAMED,
 };
 
 /// Numbers in [0, 1), the same in every run.
@@ -37,8 +37,20 @@ pub fn second_order(dim: usize) -> FuseConfig {
 
 /// Everything armed, the position inside the slow zone, limits that some rows exceed.
 pub fn all_armed(dim: usize) -> FuseConfig {
-    let contact = Some(ContactLimit { radius: 5.0, v_max: 4.0, a0: 0, a1: 1 });
-    FuseConfig { armed: 63, clamp: ClampMode::Project, v_max: 8.0, contact, aux_count: 2, ..boxed(dim) }
+    let zones = Zones::of(&[ContactLimit { radius: 5.0, v_max: 4.0, a0: 0, a1: 1 }]);
+    FuseConfig { armed: 63, clamp: ClampMode::Project, v_max: 8.0, zones, aux_count: 2, ..boxed(dim) }
+}
+
+/// The same with none to four zones, the position inside each of them.
+pub fn zoned(dim: usize, count: usize) -> FuseConfig {
+    let zones = [(4.0, 0), (5.0, 2), (6.0, 4), (7.0, 6)];
+    let zones = zones.map(|(v_max, a0)| ContactLimit { radius: 5.0, v_max, a0, a1: a0 + 1 });
+    FuseConfig { zones: Zones::of(&zones[..count]), aux_count: 8, ..all_armed(dim) }
+}
+
+/// What the camera sends: every centre near the position.
+pub fn camera(cfg: &FuseConfig) -> Vec<f64> {
+    vec![0.5; cfg.aux_count]
 }
 
 /// Everything armed, 64 rows of 64 substeps, and a calibration.

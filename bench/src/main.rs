@@ -70,9 +70,14 @@ fn main() {
     trail(&port);
     forecast(&port, 1);
     forecast(&port, 8);
-    check_chunk(&port, "check_chunk 64 x 8, all armed", &inputs::numbers(512));
-    check_chunk(&port, "check_chunk 64 x 8, rows outside", &inputs::about_the_walls(512));
-    check_action(&port);
+    check_chunk(&port, "check_chunk 64 x 8, all armed", &inputs::all_armed(8), &inputs::numbers(512));
+    check_chunk(&port, "check_chunk 64 x 8, rows outside", &inputs::all_armed(8), &inputs::about_the_walls(512));
+    check_action(&port, "check_action, 8 axes, all armed", &inputs::all_armed(8));
+    for (count, zones) in [(0, "no zone"), (1, "one zone"), (4, "four zones")] {
+        let cfg = inputs::zoned(8, count);
+        check_chunk(&port, &format!("check_chunk 64 x 8, {zones}"), &cfg, &inputs::numbers(512));
+        check_action(&port, &format!("check_action, 8 axes, {zones}"), &cfg);
+    }
     features(&port, true);
     features(&port, false);
     gate(&port);
@@ -176,36 +181,41 @@ fn forecast(port: &Port, dim: usize) {
     line(&format!("forecast 4,096 substeps, axes: {dim}"), 10, Some(rust), ported);
 }
 
+/// The configuration as the Rust has it, which is with one zone or none.
+fn in_the_rust(cfg: &FuseConfig) -> Option<rust::FuseConfig> {
+    (cfg.zones.count <= 1).then(|| oracle::config(cfg))
+}
+
 /// Everything armed. Beside the Rust's trips and moved axes the port gives the walls that stopped them.
-fn check_chunk(port: &Port, name: &str, data: &[f64]) {
-    let cfg = inputs::all_armed(8);
-    let raw = oracle::config(&cfg);
-    let (pos, aux) = (inputs::numbers(8), [0.5, 0.5]);
+fn check_chunk(port: &Port, name: &str, cfg: &FuseConfig, data: &[f64]) {
+    let raw = in_the_rust(cfg);
+    let (pos, aux) = (&inputs::numbers(8), &inputs::camera(cfg));
     let ch = inputs::chunk(8, data);
     let mut buf = oracle::rust::ChunkBuf::new();
-    let rust = calls(100, || {
-        tier0::check_chunk(black_box(&raw), oracle::obs(&pos, &aux, &[]), oracle::chunk_view(ch), &mut buf)
+    let rust = raw.as_ref().map(|raw| {
+        calls(100, || tier0::check_chunk(black_box(raw), oracle::obs(pos, aux, &[]), oracle::chunk_view(ch), &mut buf))
     });
     let mut out = vec![0.0; 512];
-    let (cfg, ch, pos, aux) = (linked::config(&cfg), linked::chunk_view(&ch), &pos, &aux);
+    let (cfg, ch) = (linked::config(cfg), linked::chunk_view(&ch));
     let ported = port
         .check_chunk
         .map(|_| calls(100, move || lictor::tier0::check_chunk(black_box(&cfg), pos, aux, ch, &mut out)));
-    line(name, 100, Some(rust), ported);
+    line(name, 100, rust, ported);
 }
 
-fn check_action(port: &Port) {
-    let cfg = inputs::all_armed(8);
-    let raw = oracle::config(&cfg);
-    let (pos, aux, prev, a) = (inputs::numbers(8), [0.5, 0.5], inputs::numbers(8), inputs::numbers(8));
+fn check_action(port: &Port, name: &str, cfg: &FuseConfig) {
+    let raw = in_the_rust(cfg);
+    let (pos, aux, prev, a) = (&inputs::numbers(8), &inputs::camera(cfg), &inputs::numbers(8), &inputs::numbers(8));
     let mut to = [0.0; 8];
-    let rust = calls(1000, || tier0::check_action(black_box(&raw), oracle::obs(&pos, &aux, &[]), &prev, &a, &mut to));
+    let rust = raw
+        .as_ref()
+        .map(|raw| calls(1000, || tier0::check_action(black_box(raw), oracle::obs(pos, aux, &[]), prev, a, &mut to)));
     let mut out = [0.0; 8];
-    let (cfg, pos, aux, prev, a) = (linked::config(&cfg), &pos, &aux, &prev, &a);
+    let cfg = linked::config(cfg);
     let ported = port
         .check_action
         .map(|_| calls(1000, move || lictor::tier0::check_action(black_box(&cfg), pos, aux, prev, a, &mut out)));
-    line("check_action, 8 axes, all armed", 1000, Some(rust), ported);
+    line(name, 1000, rust, ported);
 }
 
 /// The Rust computes twelve features, Stall among them, and the port eleven.

@@ -1,11 +1,11 @@
 //! Refusals 1 to 4 and 17 of the configuration at the edge of each condition. The numbers stand here as the scope document's
-//! table and request h give them, written by hand; the model and the linked entries are both held to them.
+//! table and requests f and h give them, written by hand; the model and the linked entries are both held to them.
 
 use std::fmt::Debug;
 
 use model::{
     brake, conformal, envelope, tier0, tier1, AbsentCamera, ChunkView, ContactLimit, FuseConfig, Refusal, Scores,
-    Tier1Rt, CONTACT, MAX_SUBSTEPS,
+    Tier1Rt, Zones, CONTACT, MAX_SUBSTEPS, MAX_ZONES,
 };
 
 use crate::{part::CHOICES, port::Port};
@@ -26,7 +26,15 @@ struct Case {
 }
 
 fn zone(c: &mut FuseConfig) -> &mut ContactLimit {
-    c.contact.as_mut().expect("a zone is configured")
+    c.zones.counted_mut().first_mut().expect("a zone is configured")
+}
+
+/// Four zones, each on two channels of its own, of eight; so many of them are counted.
+fn four(c: &mut FuseConfig, count: usize) -> &mut [ContactLimit; MAX_ZONES] {
+    let zone = |(a0, a1)| ContactLimit { radius: 1.0, v_max: 1.0, a0, a1 };
+    (c.zones, c.aux_count) = (Zones::of(&[(0, 1), (2, 3), (4, 5), (6, 7)].map(zone)), 8);
+    c.zones.count = count;
+    &mut c.zones.list
 }
 
 /// The condition with each value set in the accepted configuration.
@@ -95,6 +103,18 @@ fn sizes() -> Vec<Condition> {
     vec![
         at("dim is out of size", "dim", |c, n| c.dim = n, DIMS),
         at("pos_dim is out of size", "pos_dim", |c, n| c.pos_dim = n, DIMS),
+        at(
+            "zone count (over 4)",
+            "zone count",
+            |c, n| _ = four(c, n),
+            &[(0, 0), (1, 0), (2, 0), (3, 0), (4, 0), (5, 1), (6, 1), (255, 1), (256, 1), (257, 1), (260, 1)],
+        ),
+        at(
+            "zone count (over 4)",
+            "(zone count, armed)",
+            |c, (n, armed)| (c.armed = armed, four(c, n)).0,
+            &[((4, 0), 0), ((4, CONTACT), 0), ((5, 0), 1), ((5, CONTACT), 1)],
+        ),
         at("term count (over 8)", "n_terms", |c, n| c.cal.n_terms = n, &[(0, 0), (7, 0), (8, 0), (9, 1), (255, 1)]),
         at("a bit above 11 in a counted term", "terms[0]", |c, b| c.cal.terms[0] = b, BITS),
         at("a bit above 11 in a counted term", "terms[7]", |c, b| c.cal.terms[7] = b, BITS),
@@ -382,11 +402,83 @@ fn channels() -> Vec<Condition> {
         ),
         at(
             "contact is configured",
-            "contact, with no aux",
-            |c, is: bool| (c.contact, c.aux_count) = (c.contact.filter(|_| is), 0),
-            &[(true, 4), (false, 0)],
+            "zone count, with no aux",
+            |c, n| (c.zones.count, c.aux_count) = (n, 0),
+            &[(1, 4), (0, 0)],
         ),
     ]
+}
+
+/// A zone's values with every count of zones, armed or not: what is due where it is counted, and nothing where it is not.
+fn counted<T: Copy>(zone: usize, values: &[(T, u8)]) -> Vec<((usize, u32, T), u8)> {
+    let settings = (0..=MAX_ZONES).flat_map(|count| [(count, 0), (count, CONTACT)]);
+    let with =
+        |(count, armed)| values.iter().map(move |(x, due)| ((count, armed, *x), if zone < count { *due } else { 0 }));
+    settings.flat_map(with).collect()
+}
+
+/// Each number and each channel of each of four zones, which is judged where it is counted and unread past the count.
+fn every_zone() -> Vec<Condition> {
+    const FIELDS: [[&str; 5]; MAX_ZONES] = [
+        ["contact radius", "contact v_max", "contact a0", "contact a1", "contact (a0, a1)"],
+        ["contact1 radius", "contact1 v_max", "contact1 a0", "contact1 a1", "contact1 (a0, a1)"],
+        ["contact2 radius", "contact2 v_max", "contact2 a0", "contact2 a1", "contact2 (a0, a1)"],
+        ["contact3 radius", "contact3 v_max", "contact3 a0", "contact3 a1", "contact3 (a0, a1)"],
+    ];
+    const BAD: [(f64, u8); 6] = [(NAN, 2), (OTHER_NAN, 2), (INF, 2), (-INF, 2), (-1.0, 2), (-TINY, 2)];
+    const PAST: [(u8, u8); 4] = [(7, 0), (8, 4), (9, 4), (255, 4)];
+    let radius = [&BAD[..], &[(-0.0, 0), (0.0, 0), (TINY, 0), (MAX, 0)]].concat();
+    let v_max = [&BAD[..], &[(-0.0, 2), (0.0, 2), (TINY, 0), (MAX, 0)]].concat();
+    let of = |k: usize, [r, v, first, second, both]: [&'static str; 5]| {
+        let set = move |c: &mut FuseConfig, (count, armed): (usize, u32), change: &dyn Fn(&mut ContactLimit)| {
+            change(&mut four(c, count)[k]);
+            c.armed = armed;
+        };
+        let words = "of each counted zone";
+        let pairs = [((0, 7), 0), ((7, 0), 0), ((0, 0), 4), ((7, 7), 4), ((8, 8), 4), ((255, 255), 4)];
+        // 7 beside a channel that no other pair has with it
+        let low = if k == 3 { 1 } else { 2 * k as u8 };
+        vec![
+            at(words, r, move |c, (n, a, x)| set(c, (n, a), &|z| z.radius = x), &counted(k, &radius)),
+            at(words, v, move |c, (n, a, x)| set(c, (n, a), &|z| z.v_max = x), &counted(k, &v_max)),
+            at(words, first, move |c, (n, a, x)| set(c, (n, a), &|z| (z.a0, z.a1) = (x, low)), &counted(k, &PAST)),
+            at(words, second, move |c, (n, a, x)| set(c, (n, a), &|z| (z.a0, z.a1) = (low, x)), &counted(k, &PAST)),
+            at(words, both, move |c, (n, a, (x, y))| set(c, (n, a), &|z| (z.a0, z.a1) = (x, y)), &counted(k, &pairs)),
+        ]
+    };
+    FIELDS.into_iter().enumerate().flat_map(|(k, fields)| of(k, fields)).collect()
+}
+
+/// Any two of four zones: the same pair in the same order, both counted; swapped, and with one channel in common, it is another pair.
+fn pairs_of_zones() -> Vec<Condition> {
+    const TWO: [(usize, usize, &str); 6] = [
+        (0, 1, "contact and contact1"),
+        (0, 2, "contact and contact2"),
+        (0, 3, "contact and contact3"),
+        (1, 2, "contact1 and contact2"),
+        (1, 3, "contact1 and contact3"),
+        (2, 3, "contact2 and contact3"),
+    ];
+    type Pair = fn(ContactLimit) -> (u8, u8);
+    const PAIRS: [(&str, Pair, u8); 4] = [
+        ("a repeated pair", |z| (z.a0, z.a1), 4),
+        ("a swapped pair is another", |z| (z.a1, z.a0), 0),
+        ("a pair with the same first channel is another", |z| (z.a0, 7 - z.a1), 0),
+        ("a pair with the same second channel is another", |z| (7 - z.a0, z.a1), 0),
+    ];
+    let of = |(words, pair, due): (&'static str, Pair, u8)| {
+        TWO.map(|(first, second, field)| {
+            let set = |c: &mut FuseConfig, (count, armed, ()): (usize, u32, ())| {
+                let list = four(c, count);
+                // other numbers, so that it is the channels that are compared
+                list[second] = ContactLimit { radius: 2.0, v_max: 3.0, ..list[second] };
+                (list[second].a0, list[second].a1) = pair(list[first]);
+                c.armed = armed;
+            };
+            at(words, field, set, &counted(second, &[((), due)]))
+        })
+    };
+    PAIRS.into_iter().flat_map(of).collect()
 }
 
 /// Bit 7 between its neighbours, alone and among the others; a bit above 11 comes first.
@@ -447,8 +539,9 @@ fn choices() -> Vec<Condition> {
     vec![
         chosen("absent_camera", |_| ()),
         chosen("absent_camera, with CONTACT armed", |c| c.armed = CONTACT),
-        chosen("absent_camera, with no zone", |c| c.contact = None),
-        chosen("absent_camera, with no zone and CONTACT armed", |c| (c.contact, c.armed) = (None, CONTACT)),
+        chosen("absent_camera, with no zone", |c| c.zones = Zones::NONE),
+        chosen("absent_camera, with no zone and CONTACT armed", |c| (c.zones, c.armed) = (Zones::NONE, CONTACT)),
+        chosen("absent_camera, with four zones and CONTACT armed", |c| (c.armed = CONTACT, four(c, 4)).0),
     ]
 }
 
@@ -519,7 +612,17 @@ fn together() -> Vec<Condition> {
         [|c| c.cal.mask = 1 << 12, |c| c.cal.tau = NAN, |c| c.horizon_ticks = 0, |c| c.aux_count = 1];
     let derived: Four =
         [|c| c.pos_dim = 0, |c| c.margin = OVER_1, |c| c.brake.brake_steps = 4097, |c| zone(c).a0 = 255];
+    let zoned: Four = [
+        |c| c.zones.count = 5,
+        |c| zone(c).v_max = 0.0,
+        |c| c.brake.commit = 65,
+        |c| (c.zones.list[1], c.zones.count) = (c.zones.list[0], c.zones.count.max(2)),
+    ];
     [
+        broken(
+            ["[zone count, contact v_max, commit, a pair]", "[zone count, contact v_max, commit, a pair], with bit 7"],
+            zoned,
+        ),
         broken(["[dim, dt, substeps, a1]", "[dim, dt, substeps, a1], with bit 7"], plain),
         broken(
             ["[mask, tau, horizon_ticks, aux_count]", "[mask, tau, horizon_ticks, aux_count], with bit 7"],
@@ -543,6 +646,8 @@ fn table() -> Vec<Condition> {
         every_entry(),
         steps(),
         channels(),
+        every_zone(),
+        pairs_of_zones(),
         withdrawn(),
         unarmed(),
         clear_flag(),

@@ -2,7 +2,7 @@
 
 use model::{
     AbsentCamera, BrakeModel, Calibration, ChunkBuf, ChunkView, ClampMode, ContactLimit, FuseConfig, Scores, Trail,
-    BINS, HELD, MAX_D, MAX_H, NAMED, NFEAT, STALL,
+    Zones, BINS, HELD, MAX_D, MAX_H, NAMED, NFEAT, STALL,
 };
 
 use crate::{
@@ -201,14 +201,15 @@ fn brake(rng: &mut Rng) -> BrakeModel {
     }
 }
 
-fn contact(rng: &mut Rng, field: Field, aux_count: usize) -> Option<ContactLimit> {
+/// One zone or none, as the Rust has them.
+fn contact(rng: &mut Rng, field: Field, aux_count: usize) -> Zones {
     if aux_count < 2 || rng.one_in(3) {
-        return None;
+        return Zones::NONE;
     }
     let a0 = rng.below(aux_count);
     let a1 = (a0 + rng.within(1, aux_count - 1)) % aux_count;
     let radius = if rng.one_in(8) { 0.0 } else { 2.0 * field.above(rng) };
-    Some(ContactLimit { radius, v_max: field.above(rng), a0: a0 as u8, a1: a1 as u8 })
+    Zones::of(&[ContactLimit { radius, v_max: field.above(rng), a0: a0 as u8, a1: a1 as u8 }])
 }
 
 /// The box over pos_dim and the norm over dim; with room the box holds most of the field's numbers.
@@ -225,7 +226,7 @@ fn fill_axes(rng: &mut Rng, field: Field, cfg: &mut FuseConfig, room: f64) {
 }
 
 /// A configuration that is accepted, unless the field's size is too much for a derived number. Of two, one has limits
-/// that the field's numbers seldom exceed. It has the old choice, which is the Rust's.
+/// that the field's numbers seldom exceed. It has the old choice and no more than one zone, which is what the Rust has.
 pub fn config(rng: &mut Rng, field: Field) -> FuseConfig {
     let room = if rng.one_in(2) { 32.0 } else { 1.0 };
     let dim = rng.within(1, MAX_D);
@@ -246,7 +247,7 @@ pub fn config(rng: &mut Rng, field: Field) -> FuseConfig {
         box_hi: [f64::NEG_INFINITY; 8],
         norm_center: [f64::NAN; 8],
         norm_scale: [-1.0; 8],
-        contact: contact(rng, field, aux_count),
+        zones: contact(rng, field, aux_count),
         absent_camera: AbsentCamera::NoZone,
         brake: brake(rng),
         clamp: if rng.one_in(4) { ClampMode::Off } else { ClampMode::Project },
@@ -287,7 +288,7 @@ pub fn config_parts_with_choice(c: &mut FuseConfig) -> Vec<Part<'_>> {
         Part::Table(&mut c.box_hi, 0.0),
         Part::Table(&mut c.norm_center, 0.0),
         Part::Table(&mut c.norm_scale, 1.0),
-        Part::Contact(&mut c.contact),
+        Part::Contact(&mut c.zones),
         Part::Brake(&mut c.brake.kind),
         Part::Num(&mut c.brake.k_p),
         Part::Num(&mut c.brake.k_v),
@@ -305,6 +306,15 @@ pub fn config_parts_with_choice(c: &mut FuseConfig) -> Vec<Part<'_>> {
     parts.extend(calibration_parts(&mut c.cal));
     parts.push(Part::Absent(&mut c.absent_camera));
     parts
+}
+
+/// All parts, with each of several zones in the place of the one.
+pub fn config_parts_with_zones(c: &mut FuseConfig) -> Vec<Part<'_>> {
+    let several = |part| match part {
+        Part::Contact(zones) => Part::Zones(zones),
+        other => other,
+    };
+    config_parts_with_choice(c).into_iter().map(several).collect()
 }
 
 /// One coordinate of some points laid about its walls: on one or a step to either side, or about a wall at a zero.

@@ -3,8 +3,8 @@
 
 use lictor::{brake, chunk, config, conformal, fmath, tier0, tier1, window};
 use model::{
-    AbsentCamera, ActionKind, BrakeKind, BrakeOut, Calibration, ChunkBuf, ChunkView, ClampMode, Derived, FuseConfig,
-    Scores, Tier0Out, Tier1Rt, Trail, WallMarks,
+    AbsentCamera, ActionKind, BrakeKind, BrakeOut, Calibration, ChunkBuf, ChunkView, ClampMode, ContactLimit, Derived,
+    FuseConfig, Scores, Tier0Out, Tier1Rt, Trail, WallMarks, Zones, MAX_ZONES,
 };
 
 use crate::port::{Answer, Port};
@@ -213,9 +213,17 @@ fn brake(b: &model::BrakeModel) -> config::BrakeModel {
     config::BrakeModel { kind, k_p, k_v, dt, substeps, commit, brake_steps, react_ticks: react }
 }
 
+/// The zones that are counted, and where those are more than are held as many of the last, so that the count comes to the library. What
+/// stands past the count does not come to it by the binding.
+fn zones(z: &Zones) -> config::Zones {
+    let contact = |z: &ContactLimit| config::Contact { radius: z.radius, v_max: z.v_max, a0: z.a0, a1: z.a1 };
+    let mut all: Vec<config::Contact> = z.counted().iter().map(contact).collect();
+    all.resize(z.count, contact(&z.list[MAX_ZONES - 1]));
+    config::Zones::of(&all)
+}
+
 /// The configuration as the library takes it, not judged: each entry is compared on what it has to refuse, too.
 pub fn config(c: &FuseConfig) -> config::Config {
-    let contact = c.contact.map(|z| config::Contact { radius: z.radius, v_max: z.v_max, a0: z.a0, a1: z.a1 });
     config::Config::unjudged(&config::FuseConfig {
         kind: kind(c.kind),
         dim: c.dim,
@@ -230,7 +238,7 @@ pub fn config(c: &FuseConfig) -> config::Config {
         norm_scale: c.norm_scale,
         box_lo: c.box_lo,
         box_hi: c.box_hi,
-        contact,
+        zones: zones(&c.zones),
         absent_camera: match c.absent_camera {
             AbsentCamera::Slow => config::AbsentCamera::Slow,
             AbsentCamera::NoZone => config::AbsentCamera::NoZone,

@@ -1,7 +1,7 @@
 //! The parts of an input: one of them is broken to damage a good input, and they are made simpler one by one when a
 //! failure is shown.
 
-use model::{AbsentCamera, ActionKind, BrakeKind, ClampMode, ContactLimit};
+use model::{AbsentCamera, ActionKind, BrakeKind, ClampMode, ContactLimit, Zones, MAX_ZONES};
 
 use crate::{input::ChunkIn, number::broken, rng::Rng};
 
@@ -20,7 +20,10 @@ pub enum Part<'a> {
     Kind(&'a mut ActionKind),
     Brake(&'a mut BrakeKind),
     Clamp(&'a mut ClampMode),
-    Contact(&'a mut Option<ContactLimit>),
+    /// One zone or none.
+    Contact(&'a mut Zones),
+    /// Any count of zones, and what stands past it.
+    Zones(&'a mut Zones),
     Absent(&'a mut AbsentCamera),
     Chunk(&'a mut ChunkIn),
 }
@@ -55,6 +58,7 @@ impl Part<'_> {
             Part::Brake(k) => **k = rng.pick(&BRAKES),
             Part::Clamp(m) => **m = rng.pick(&[ClampMode::Off, ClampMode::Project]),
             Part::Contact(z) => damage_contact(rng, z),
+            Part::Zones(z) => damage_zones(rng, z),
             Part::Absent(choice) => **choice = rng.pick(&CHOICES),
             Part::Chunk(c) => damage_chunk(rng, c),
         }
@@ -76,6 +80,7 @@ impl Part<'_> {
             Part::Brake(k) => once(way, *k, BrakeKind::PdSecondOrder),
             Part::Clamp(m) => once(way, *m, ClampMode::Off),
             Part::Contact(z) => simpler_contact(z, way),
+            Part::Zones(z) => simpler_zones(z, way),
             Part::Absent(choice) => once(way, *choice, AbsentCamera::Slow),
             Part::Chunk(c) => simpler_chunk(c, way),
         }
@@ -118,17 +123,34 @@ fn damage_slice(rng: &mut Rng, v: &mut Vec<f64>) {
     }
 }
 
-fn damage_contact(rng: &mut Rng, z: &mut Option<ContactLimit>) {
-    let Some(zone) = z else {
-        *z = Some(ContactLimit { radius: 1.0, v_max: 1.0, a0: 0, a1: 1 });
+fn damage_contact(rng: &mut Rng, z: &mut Zones) {
+    if z.count == 0 {
+        *z = Zones::of(&[ContactLimit { radius: 1.0, v_max: 1.0, a0: 0, a1: 1 }]);
         return;
-    };
+    }
     match rng.below(5) {
+        4 => *z = Zones::NONE,
+        field => damage_zone(rng, &mut z.list[0], field),
+    }
+}
+
+fn damage_zone(rng: &mut Rng, zone: &mut ContactLimit, field: usize) {
+    match field {
         0 => zone.radius = broken(rng, zone.radius),
         1 => zone.v_max = broken(rng, zone.v_max),
         2 => zone.a0 = edge(rng, zone.a0 as u64) as u8,
-        3 => zone.a1 = edge(rng, zone.a1 as u64) as u8,
-        _ => *z = None,
+        _ => zone.a1 = edge(rng, zone.a1 as u64) as u8,
+    }
+}
+
+/// The count moved, a pair made another's in either order, or a field of any zone broken, counted or not.
+fn damage_zones(rng: &mut Rng, z: &mut Zones) {
+    let (one, other) = (rng.below(MAX_ZONES), rng.below(MAX_ZONES));
+    match rng.below(8) {
+        0 | 1 => z.count = rng.pick(&[z.count + 1, z.count.saturating_sub(1), 0, 4, 5, 6]),
+        2 => (z.list[one].a0, z.list[one].a1) = (z.list[other].a0, z.list[other].a1),
+        3 => (z.list[one].a0, z.list[one].a1) = (z.list[other].a1, z.list[other].a0),
+        field => damage_zone(rng, &mut z.list[one], field - 4),
     }
 }
 
@@ -213,12 +235,12 @@ fn simpler_count(n: u64, way: usize, mut set: impl FnMut(u64)) -> Option<bool> {
     Some(true)
 }
 
-fn simpler_contact(z: &mut Option<ContactLimit>, way: usize) -> Option<bool> {
+fn simpler_contact(z: &mut Zones, way: usize) -> Option<bool> {
     let plain = ContactLimit { radius: 1.0, v_max: 1.0, a0: 0, a1: 1 };
-    let zone = z.as_mut()?;
+    let zone = z.counted_mut().first_mut()?;
     match way {
         0 => {
-            *z = None;
+            *z = Zones::NONE;
             Some(true)
         }
         1 => once(0, &mut zone.radius, plain.radius),
@@ -227,6 +249,38 @@ fn simpler_contact(z: &mut Option<ContactLimit>, way: usize) -> Option<bool> {
         4 => once(0, &mut zone.a1, plain.a1),
         _ => None,
     }
+}
+
+/// Four pairs on few channels.
+const PAIRS: [(u8, u8); MAX_ZONES] = [(0, 1), (1, 0), (0, 2), (2, 0)];
+
+/// No zone; one zone less, each in turn; nothing past the count; and then the zones one by one, field by field.
+fn simpler_zones(z: &mut Zones, way: usize) -> Option<bool> {
+    const PAST: usize = MAX_ZONES + 1;
+    const FIELDS: usize = 2 * WAYS + 2;
+    let (held, before) = (z.counted().len(), *z);
+    match way {
+        0 => *z = Zones::NONE,
+        1..=MAX_ZONES => {
+            if way <= held {
+                z.list[way - 1..].rotate_left(1);
+                (z.count, z.list[MAX_ZONES - 1]) = (z.count - 1, ContactLimit::UNUSED);
+            }
+        }
+        PAST => z.list[held..].fill(ContactLimit::UNUSED),
+        _ => {
+            let (k, field) = ((way - PAST - 1) / FIELDS, (way - PAST - 1) % FIELDS);
+            let zone = z.list.get_mut(k)?;
+            return match field {
+                _ if k >= held => Some(false),
+                field if field < WAYS => simpler_number(&mut zone.radius, 1.0, field),
+                field if field < 2 * WAYS => simpler_number(&mut zone.v_max, 1.0, field - WAYS),
+                field if field == 2 * WAYS => once(0, &mut zone.a0, PAIRS[k].0),
+                _ => once(0, &mut zone.a1, PAIRS[k].1),
+            };
+        }
+    }
+    Some(z.count < before.count || way == PAST && format!("{z:?}") != format!("{before:?}"))
 }
 
 fn simpler_chunk(c: &mut ChunkIn, way: usize) -> Option<bool> {

@@ -50,7 +50,7 @@ impl Record {
     }
 
     fn config(&mut self, c: &FuseConfig) -> &mut Self {
-        let (b, zone) = (&c.brake, c.contact.as_ref());
+        let (b, zone) = (&c.brake, c.zones.counted().first());
         let kind = [ActionKind::EePosition, ActionKind::EeDelta, ActionKind::JointPosition, ActionKind::JointVelocity];
         let brake =
             [BrakeKind::PdSecondOrder, BrakeKind::FirstOrderDecay, BrakeKind::BoundedAccel, BrakeKind::JerkLimited];

@@ -16,16 +16,16 @@ const TINY: f64 = f64::from_bits(1);
 
 /// Two axes with CONTACT alone armed, and a zone of radius 3 in which a step of 2 is allowed.
 fn zoned(absent_camera: AbsentCamera, a0: u8, a1: u8) -> FuseConfig {
-    let contact = Some(ContactLimit { radius: 3.0, v_max: 4.0, a0, a1 });
+    let zones = Zones::of(&[ContactLimit { radius: 3.0, v_max: 4.0, a0, a1 }]);
     let (aux_count, clamp, dt) = (256, ClampMode::Project, 0.5);
-    FuseConfig { dim: 2, pos_dim: 2, dt, armed: CONTACT, contact, aux_count, clamp, absent_camera, ..FuseConfig::PLAIN }
+    FuseConfig { dim: 2, pos_dim: 2, dt, armed: CONTACT, zones, aux_count, clamp, absent_camera, ..FuseConfig::PLAIN }
 }
 
 /// The zone of a configuration that has one.
 fn with_zone(cfg: FuseConfig, change: impl Fn(&mut ContactLimit)) -> FuseConfig {
-    let mut zone = cfg.contact.expect("a zone is configured");
-    change(&mut zone);
-    FuseConfig { contact: Some(zone), ..cfg }
+    let mut zones = cfg.zones;
+    change(zones.counted_mut().first_mut().expect("a zone is configured"));
+    FuseConfig { zones, ..cfg }
 }
 
 /// Trips and the row that goes out, from the origin to a point, by a chunk and by an action on both sides; a refusal leaves the output.
@@ -101,8 +101,8 @@ fn no_zone_and_not_armed() {
     for choice in [SLOW, NO_ZONE] {
         let zone = zoned(choice, 0, 1);
         for aux in [&[][..], &[0.0], &[0.0; 2], &[9.0; 3]] {
-            assert_eq!(stepped(&FuseConfig { contact: None, ..zone }, &[0.0; 2], aux, STEP), passed());
-            assert_eq!(stepped(&FuseConfig { contact: None, pos_dim: 1, ..zone }, &[0.0], aux, STEP), passed());
+            assert_eq!(stepped(&FuseConfig { zones: Zones::NONE, ..zone }, &[0.0; 2], aux, STEP), passed());
+            assert_eq!(stepped(&FuseConfig { zones: Zones::NONE, pos_dim: 1, ..zone }, &[0.0], aux, STEP), passed());
             for armed in [0, WORKSPACE | ACCEL | JERK, !CONTACT & !SPEED & !REACH] {
                 let wide = FuseConfig { box_lo: [-9.0; 8], box_hi: [9.0; 8], armed, ..zone };
                 assert_eq!(stepped(&wide, &[0.0; 2], aux, STEP), passed());

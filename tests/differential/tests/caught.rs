@@ -13,7 +13,8 @@ use model::{
     fmath::{self, min},
     refusal::WITHDRAWN,
     AbsentCamera, ActionKind, BrakeKind, BrakeOut, Calibration, ChunkView, ClampMode, ContactLimit, Derived,
-    FuseConfig, Refusal, Scores, Tier0Out, Tier1Rt, Trail, WallMarks, CONTACT, MAX_D, NAMED, STALL, WORKSPACE,
+    FuseConfig, Refusal, Scores, Tier0Out, Tier1Rt, Trail, WallMarks, Zones, CONTACT, MAX_D, NAMED, SPEED, STALL,
+    WORKSPACE,
 };
 
 /// What the run of one entry says with this port.
@@ -148,9 +149,7 @@ macro_rules! nudged {
 }
 
 fn nudge_zone(cfg: &mut FuseConfig, change: fn(&mut model::ContactLimit)) {
-    if let Some(zone) = &mut cfg.contact {
-        change(zone);
-    }
+    cfg.zones.counted_mut().iter_mut().for_each(change);
 }
 
 #[test]
@@ -323,7 +322,8 @@ impl World {
 
     /// The zone where one is configured and not seen.
     fn unseen(&self) -> Option<ContactLimit> {
-        self.cfg.contact.filter(|z| !self.has(z.a0) || !self.has(z.a1) || self.pos.len() < 2)
+        let zone = self.cfg.zones.counted().first().copied();
+        zone.filter(|z| !self.has(z.a0) || !self.has(z.a1) || self.pos.len() < 2)
     }
 
     fn slow(&self) -> bool {
@@ -388,13 +388,13 @@ fn the_old_choice_is_the_default() {
 #[test]
 fn the_new_choice_slows_where_no_zone_is_configured() {
     let invented = told!(|w| {
-        if w.slow() && w.cfg.contact.is_none() {
-            w.cfg.contact = Some(ContactLimit { radius: 0.0, v_max: 5e-324, a0: 254, a1: 255 });
+        if w.slow() && w.cfg.zones.count == 0 {
+            w.cfg.zones = Zones::of(&[ContactLimit { radius: 0.0, v_max: 5e-324, a0: 254, a1: 255 }]);
             w.cfg.aux_count = 256;
         }
     });
     for text in camera_found(invented) {
-        assert!(text.contains("the port") && !text.contains("contact:") && text.contains("armed:"), "no zone");
+        assert!(text.contains("the port") && !text.contains("zones:") && text.contains("armed:"), "no zone");
     }
 }
 
@@ -487,7 +487,7 @@ fn a_step_that_is_not_evaluated() {
 /// 13 where the distance is not finite, what is missing counting as 0.
 fn measured(cfg: &FuseConfig, pos: &[f64], aux: &[f64]) -> Result<(), Refusal> {
     let at = |v: &[f64], i: usize| v.get(i).copied().unwrap_or(0.0);
-    let Some(z) = cfg.contact.filter(|_| cfg.armed & CONTACT != 0) else { return Ok(()) };
+    let Some(z) = cfg.zones.counted().first().filter(|_| cfg.armed & CONTACT != 0) else { return Ok(()) };
     let centre = [at(aux, z.a0 as usize), at(aux, z.a1 as usize)];
     fmath::dist(&[at(pos, 0), at(pos, 1)], &centre, 2).map(|_| ())
 }
@@ -514,12 +514,301 @@ fn a_distance_that_is_evaluated_and_dropped() {
 #[test]
 fn a_message_that_is_not_judged() {
     let unjudged = told!(|w| {
-        if w.cfg.contact.is_some_and(|z| !w.has(z.a0.max(z.a1))) {
+        if w.cfg.zones.counted().first().is_some_and(|z| !w.has(z.a0.max(z.a1))) {
             w.aux.iter_mut().filter(|x| !x.is_finite()).for_each(|x| *x = 0.0);
         }
     });
     for text in camera_found(unjudged) {
         assert!(text.contains("the port accepts; the model says Refusal { number: 12, place: 0 }"));
+    }
+}
+
+/// The texts of both checks' runs with several zones.
+fn zones_found(port: Port) -> [String; 2] {
+    ["check_chunk with several zones", "check_action with several zones"].map(|name| failure(port, name))
+}
+
+impl World {
+    fn sees(&self, zone: &ContactLimit) -> bool {
+        self.has(zone.a0) && self.has(zone.a1) && self.pos.len() >= 2
+    }
+
+    /// The counted zones that the arm is inside.
+    fn inside(&self) -> Vec<ContactLimit> {
+        let inside = |z: &&ContactLimit| match self.sees(z) {
+            true => {
+                let centre = [self.aux[z.a0 as usize], self.aux[z.a1 as usize]];
+                fmath::dist(&self.pos, &centre, 2).is_ok_and(|d| d <= z.radius)
+            }
+            false => self.slow(),
+        };
+        self.cfg.zones.counted().iter().filter(inside).copied().collect()
+    }
+
+    /// Whether two counted zones name the same pair, one of them turned.
+    fn names_twice(&self, turned: bool) -> bool {
+        let of = |z: &ContactLimit| if turned { (z.a1, z.a0) } else { (z.a0, z.a1) };
+        let zones = self.cfg.zones.counted();
+        (0..zones.len()).any(|i| zones[..i].iter().any(|z| of(z) == (zones[i].a0, zones[i].a1)))
+    }
+
+    fn keep(&mut self, such: impl FnMut(&ContactLimit) -> bool) {
+        let mut kept = self.cfg.zones.counted().to_vec();
+        kept.retain(such);
+        self.cfg.zones = Zones::of(&kept);
+    }
+}
+
+/// How a wrong check takes the answer that is right and the one of another world.
+#[derive(Clone, Copy, PartialEq)]
+enum Takes {
+    /// Where the right one is accepted, all of the other.
+    Accepted,
+    /// The other's trips alone.
+    Trips,
+    /// The other's rows and what is said of them.
+    Rows,
+    /// Where the right one is this refusal, the other.
+    Refused(u8),
+}
+
+/// An answer with the rows that go out.
+type Row = (Result<Tier0Out, Refusal>, Vec<f64>);
+
+fn taken(takes: Takes, (right, rows): Row, (other, moved): Row) -> Row {
+    match (takes, right, other) {
+        (Takes::Accepted, Ok(_), Ok(_)) => (other, moved),
+        (Takes::Trips, Ok(r), Ok(o)) => (Ok(Tier0Out { trips: o.trips, ..r }), rows),
+        (Takes::Rows, Ok(r), Ok(o)) => (Ok(Tier0Out { trips: r.trips, ..o }), moved),
+        (Takes::Refused(number), Err(r), _) if r.number == number => (other, moved),
+        _ => (right, rows),
+    }
+}
+
+/// The model's checks, of which a part is answered in another world.
+macro_rules! mistaken {
+    ($takes:expr, $change:expr) => {{
+        const CHANGE: fn(&mut World) = $change;
+        fn other(cfg: &FuseConfig, pos: &[f64], aux: &[f64]) -> World {
+            let mut world = World { cfg: *cfg, pos: pos.to_vec(), aux: aux.to_vec() };
+            CHANGE(&mut world);
+            world
+        }
+        let check_chunk: CheckChunk = |cfg, pos, aux, ch, out| {
+            let w = other(cfg, pos, aux);
+            let asked = |cfg: &FuseConfig, pos: &[f64], aux: &[f64]| {
+                let mut rows = out.to_vec();
+                (model::tier0::check_chunk(cfg, pos, aux, ch, &mut rows), rows)
+            };
+            let (answer, rows) = taken($takes, asked(cfg, pos, aux), asked(&w.cfg, &w.pos, &w.aux));
+            out.copy_from_slice(&rows);
+            answer
+        };
+        let check_action: CheckAction = |cfg, pos, aux, prev, a, out| {
+            let w = other(cfg, pos, aux);
+            let asked = |cfg: &FuseConfig, pos: &[f64], aux: &[f64]| {
+                let mut row = out.to_vec();
+                (model::tier0::check_action(cfg, pos, aux, prev, a, &mut row), row)
+            };
+            let (answer, row) = taken($takes, asked(cfg, pos, aux), asked(&w.cfg, &w.pos, &w.aux));
+            out.copy_from_slice(&row);
+            answer
+        };
+        Port { check_chunk: Some(check_chunk), check_action: Some(check_action), ..Port::default() }
+    }};
+}
+
+/// Only the first zone that the arm is inside: a slower one after it is passed over, by the trip and by the leash.
+#[test]
+fn only_the_first_zone_counts() {
+    for text in zones_found(mistaken!(Takes::Accepted, |w| {
+        let first = w.inside().first().copied();
+        w.keep(|z| Some(*z) == first);
+    })) {
+        assert!(text.contains("zones: Zones { count: 2,"), "two zones");
+    }
+    for text in zones_found(mistaken!(Takes::Rows, |w| {
+        let first = w.inside().first().copied();
+        w.keep(|z| Some(*z) == first);
+    })) {
+        assert!(text.contains("zones: Zones { count: 2,") && text.contains("clamp: Project"), "the leash of two zones");
+    }
+}
+
+/// The zone that the greatest step is of.
+fn fastest(zones: &[ContactLimit]) -> Option<ContactLimit> {
+    zones.iter().copied().reduce(|a, b| if b.v_max > a.v_max { b } else { a })
+}
+
+#[test]
+fn the_greatest_step() {
+    let all = mistaken!(Takes::Accepted, |w| {
+        let fastest = fastest(&w.inside());
+        w.keep(|z| Some(*z) == fastest);
+    });
+    // a trip only where every zone's step is exceeded, and a leash that is right
+    let trips = mistaken!(Takes::Trips, |w| {
+        let fastest = fastest(&w.inside());
+        w.keep(|z| Some(*z) == fastest);
+    });
+    // a trip that is right, and a leash of the greatest step
+    let rows = mistaken!(Takes::Rows, |w| {
+        let fastest = fastest(&w.inside());
+        w.keep(|z| Some(*z) == fastest);
+    });
+    for text in [all, trips, rows].into_iter().flat_map(zones_found) {
+        assert!(text.contains("zones: Zones { count: 2,"), "two zones");
+    }
+}
+
+#[test]
+fn the_last_zone_counts() {
+    let port = mistaken!(Takes::Accepted, |w| {
+        let last = w.inside().last().copied();
+        w.keep(|z| Some(*z) == last);
+    });
+    for text in zones_found(port) {
+        assert!(text.contains("zones: Zones { count: 2,"), "two zones");
+    }
+}
+
+/// Where what stands past the count is accepted it changes the answer, and where it is not it is refused.
+#[test]
+fn zones_past_the_count_are_read() {
+    for text in zones_found(mistaken!(Takes::Accepted, |w| w.cfg.zones.count = w.cfg.zones.count.max(4))) {
+        assert!(
+            text.contains("the port answers otherwise than the model")
+                || text.contains("the port leaves other buffers")
+        );
+    }
+    for text in zones_found(told!(|w| w.cfg.zones.count = w.cfg.zones.count.max(4))) {
+        assert!(text.contains("the port says Refusal { number: 2, place: 0 }") && !text.contains("zones:"), "no zone");
+    }
+}
+
+#[test]
+fn a_swapped_pair_is_refused() {
+    for text in zones_found(told!(|w| {
+        if w.names_twice(true) {
+            w.cfg.aux_count = 0;
+        }
+    })) {
+        assert!(text.contains("the port says Refusal { number: 4, place: 0 }"));
+        assert!(text.contains("zones: Zones { count: 2,"), "two zones");
+        assert!(text.contains("a0: 0, a1: 1 }") && text.contains("a0: 1, a1: 0 }"), "on the same channels");
+    }
+}
+
+#[test]
+fn a_repeated_pair_is_accepted() {
+    for text in zones_found(mistaken!(Takes::Refused(4), |w| {
+        let mut met = Vec::new();
+        w.keep(|z| {
+            met.push((z.a0, z.a1));
+            !met[..met.len() - 1].contains(&(z.a0, z.a1))
+        });
+    })) {
+        assert!(text.contains("the model says Refusal { number: 4, place: 0 }"));
+        assert!(text.contains("zones: Zones { count: 2,"), "two zones");
+    }
+}
+
+/// Neither its numbers nor its channels.
+#[test]
+fn the_fourth_zone_is_not_judged() {
+    for text in zones_found(mistaken!(Takes::Refused(2), |w| w.cfg.zones.count = w.cfg.zones.count.min(3))) {
+        assert!(
+            text.contains("the model says Refusal { number: 2, place: 0 }")
+                && text.contains("zones: Zones { count: 4,")
+        );
+    }
+    for text in zones_found(mistaken!(Takes::Refused(4), |w| w.cfg.zones.count = w.cfg.zones.count.min(3))) {
+        assert!(
+            text.contains("the model says Refusal { number: 4, place: 0 }")
+                && text.contains("zones: Zones { count: 4,")
+        );
+    }
+}
+
+#[test]
+fn five_zones_are_four() {
+    for text in zones_found(told!(|w| w.cfg.zones.count = w.cfg.zones.count.min(4))) {
+        assert!(
+            text.contains("the model says Refusal { number: 1, place: 0 }")
+                && text.contains("zones: Zones { count: 5,")
+        );
+    }
+}
+
+/// Zones after the first that the arm is inside are not evaluated, so that what is not finite of them is passed over.
+#[test]
+fn a_zone_is_skipped_because_another_decides() {
+    for text in zones_found(mistaken!(Takes::Refused(13), |w| {
+        let (first, mut met) = (w.inside().first().copied(), false);
+        w.keep(|z| {
+            let before = met;
+            met |= Some(*z) == first;
+            !before
+        });
+    })) {
+        assert!(text.contains("the port accepts; the model says Refusal { number: 13, place: 0 }"));
+        assert!(text.contains("zones: Zones { count: 2,"), "two zones");
+    }
+}
+
+/// All are seen or not as the first is.
+#[test]
+fn the_choice_by_the_first_zones_channels() {
+    let unseen = mistaken!(Takes::Accepted, |w| {
+        if w.cfg.zones.counted().first().is_some_and(|z| !w.sees(z)) {
+            w.aux.clear();
+        }
+    });
+    let seen = mistaken!(Takes::Accepted, |w| {
+        if w.cfg.zones.counted().first().is_some_and(|z| w.sees(z)) {
+            let world = World { cfg: w.cfg, pos: w.pos.clone(), aux: w.aux.clone() };
+            w.keep(|z| world.sees(z));
+        }
+    });
+    for text in [unseen, seen].into_iter().flat_map(zones_found) {
+        assert!(text.contains("zones: Zones { count: 2,"), "two zones");
+    }
+}
+
+/// The leash of a zone where SPEED's step is less, and SPEED's where a zone's is less.
+#[test]
+fn the_leash_of_one_kind() {
+    let zones = mistaken!(Takes::Rows, |w| {
+        if !w.inside().is_empty() && w.cfg.armed & CONTACT != 0 {
+            w.cfg.armed &= !SPEED;
+        }
+    });
+    let speed = mistaken!(Takes::Rows, |w| {
+        if w.cfg.armed & SPEED != 0 {
+            w.cfg.armed &= !CONTACT;
+        }
+    });
+    for text in [zones, speed].into_iter().flat_map(zones_found) {
+        assert!(text.contains("clamp: Project") && text.contains("zones: Zones { count: 1,"), "a zone beside SPEED");
+    }
+}
+
+/// A field of the others taken from the first, or their channels the other way round.
+#[test]
+fn fields_of_another_zone() {
+    let radius = mistaken!(Takes::Accepted, |w| {
+        let first = w.cfg.zones.list[0].radius;
+        w.cfg.zones.counted_mut().iter_mut().for_each(|z| z.radius = first);
+    });
+    let speed = mistaken!(Takes::Accepted, |w| {
+        let first = w.cfg.zones.list[0].v_max;
+        w.cfg.zones.counted_mut().iter_mut().for_each(|z| z.v_max = first);
+    });
+    let turned = mistaken!(Takes::Accepted, |w| {
+        w.cfg.zones.counted_mut().iter_mut().skip(1).for_each(|z| (z.a0, z.a1) = (z.a1, z.a0));
+    });
+    for text in [radius, speed, turned].into_iter().flat_map(zones_found) {
+        assert!(text.contains("zones: Zones { count: 2,"), "two zones");
     }
 }
 
@@ -588,7 +877,7 @@ fn stall_judged_where_it_is_not() {
         let text = failure(Port { derive: Some(derive), ..Port::default() }, "derive");
         assert!(text.contains(answer), "{answer}");
     };
-    let before_4 = withdrawn!(|c| c.contact = None);
+    let before_4 = withdrawn!(|c| c.zones = Zones::NONE);
     said(before_4, "number: 17, place: 0 }; the model says Refusal { number: 4,");
     let uncounted = withdrawn!(|c| {
         c.cal.n_terms = c.cal.n_terms.max(8);
@@ -701,9 +990,31 @@ fn steps_first(cfg: &FuseConfig) -> Result<model::Derived, Refusal> {
     }
 }
 
+/// A pair is compared with that of the zone before it alone.
+fn neighbours_alone(cfg: &FuseConfig) -> Result<model::Derived, Refusal> {
+    let pairs: Vec<(u8, u8)> = cfg.zones.counted().iter().map(|z| (z.a0, z.a1)).collect();
+    let mut other = *cfg;
+    // a zone that repeats an earlier one than its neighbour is given channels of its own
+    for i in 2..pairs.len() {
+        if pairs[..i - 1].contains(&pairs[i]) {
+            (other.zones.list[i].a0, other.zones.list[i].a1) = (7, i as u8);
+        }
+    }
+    model::envelope::derive(&other)
+}
+
+/// A pair is the same in either order.
+fn unordered(cfg: &FuseConfig) -> Result<model::Derived, Refusal> {
+    let mut other = *cfg;
+    for z in &mut other.zones.list {
+        (z.a0, z.a1) = (z.a0.min(z.a1), z.a0.max(z.a1));
+    }
+    model::envelope::derive(&other)
+}
+
 #[test]
 fn edges_that_are_moved() {
-    let ports: [(differential::port::Derive, &str); 15] = [
+    let ports: [(differential::port::Derive, &str); 21] = [
         (judged!(|c| c.brake.k_p = c.brake.k_p.next_down()), "is below 0: k_p as 0.0: 0 is due"),
         (judged!(|c| c.brake.k_v = c.brake.k_v.next_up()), "above 0: k_v as 0.0: 2 is due"),
         (judged!(|c| c.cal.tau = 0.0), "isn't finite: tau as NaN: 2 is due"),
@@ -714,11 +1025,20 @@ fn edges_that_are_moved() {
         (judged!(|c| c.box_lo = c.box_lo.map(f64::next_up)), "exceeds its box_hi: box_lo[0] below 1 as 1.0: 0 is due"),
         (judged!(|c| c.brake.brake_steps |= 1), "over 4,096: (commit, brake_steps, substeps) as (64, 0, 64): 0 is due"),
         (judged!(|c| c.brake.brake_steps &= 4095), "substeps) as (0, 32768, 2): 3 is due"),
-        (judged!(|c| c.contact = c.contact.filter(|_| c.armed & model::CONTACT != 0)), "equal channels as 0: 4 is due"),
+        (judged!(|c| c.zones.count *= (c.armed & CONTACT != 0) as usize), "equal channels as 0: 4 is due"),
+        (judged!(|c| c.zones.count = c.zones.count.min(4)), "zone count (over 4): zone count as 5: 1 is due"),
+        (judged!(|c| c.zones.count = c.zones.count.min(3)), "contact3 v_max as (4, 0, 0.0): 2 is due"),
+        (
+            judged!(|c| c.zones.count = c.zones.count.min(3)),
+            "a repeated pair: contact2 and contact3 as (4, 32, ()): 4 is due",
+        ),
+        (judged!(|c| c.zones.count += (c.zones.count == 3) as usize), "contact3 radius as (3, 0, NaN): 0 is due"),
+        (neighbours_alone, "a repeated pair: contact and contact2 as (3, 0, ()): 4 is due"),
+        (unordered, "a swapped pair is another: contact1 and contact3 as (4, 0, ()): 0 is due"),
         (steps_first, "[dim, dt, substeps, a1] as [false, true, true, false]: 2 is due"),
         (judged!(|c| c.cal.mask &= NAMED), "the calibration mask has bit 7: mask as 128: 17 is due"),
         (judged!(|c| c.cal.mask |= c.cal.mask << 1 & 1 << STALL), "has bit 7: mask as 64: 0 is due"),
-        (withdrawn!(|c| c.contact = None), "a1], with bit 7 as [false, false, false, true]: 4 is due"),
+        (withdrawn!(|c| c.zones = Zones::NONE), "a1], with bit 7 as [false, false, false, true]: 4 is due"),
     ];
     for (derive, row) in ports {
         let text = edges::check(&Port { derive: Some(derive), ..Port::default() }).expect_err(row);

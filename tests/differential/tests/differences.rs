@@ -128,8 +128,8 @@ fn a_nan_action_predecessor_or_position_that_raises_nothing() {
 
 #[test]
 fn a_slow_zone_around_a_nan() {
-    let contact = Some(ContactLimit { radius: 1.0, v_max: 1.0, a0: 0, a1: 1 });
-    let cfg = FuseConfig { armed: CONTACT, contact, aux_count: 2, ..boxed(2) };
+    let zones = Zones::of(&[ContactLimit { radius: 1.0, v_max: 1.0, a0: 0, a1: 1 }]);
+    let cfg = FuseConfig { armed: CONTACT, zones, aux_count: 2, ..boxed(2) };
     let far = rows(2, &[9.0, 0.0]);
     assert_eq!(checked(&cfg, &[0.0, 0.0], &[f64::NAN, 0.0], far), (0, refused(12)));
     assert_eq!(checked(&cfg, &[0.0, 0.0], &[0.0, 0.0], far), (CONTACT, Ok(CONTACT)));
@@ -144,8 +144,8 @@ fn a_jerk_that_is_not_raised() {
 
 #[test]
 fn a_slow_zone_that_is_not_seen() {
-    let contact = Some(ContactLimit { radius: 1e250, v_max: 1.0, a0: 0, a1: 1 });
-    let cfg = FuseConfig { armed: CONTACT, contact, aux_count: 2, ..boxed(2) };
+    let zones = Zones::of(&[ContactLimit { radius: 1e250, v_max: 1.0, a0: 0, a1: 1 }]);
+    let cfg = FuseConfig { armed: CONTACT, zones, aux_count: 2, ..boxed(2) };
     let (pos, centre) = ([1e200, 0.0], [0.0, 0.0]);
     assert_eq!(checked(&cfg, &pos, &centre, rows(2, &[1e200, 0.0])), (0, refused(13)));
     assert_eq!(checked(&cfg, &[1e100, 0.0], &centre, rows(2, &[2e100, 0.0])), (CONTACT, Ok(CONTACT)));
@@ -310,8 +310,8 @@ fn no_side_of_a_wall() {
 
 /// CONTACT alone armed, and a zone in which a step of 1 is allowed.
 fn zoned(pos_dim: usize) -> FuseConfig {
-    let contact = Some(ContactLimit { radius: 1.0, v_max: 1.0, a0: 0, a1: 1 });
-    FuseConfig { pos_dim, armed: CONTACT, contact, aux_count: 2, clamp: ClampMode::Project, ..boxed(2) }
+    let zones = Zones::of(&[ContactLimit { radius: 1.0, v_max: 1.0, a0: 0, a1: 1 }]);
+    FuseConfig { pos_dim, armed: CONTACT, zones, aux_count: 2, clamp: ClampMode::Project, ..boxed(2) }
 }
 
 /// What the model and the linked port answer to a chunk, which is one.
@@ -349,13 +349,34 @@ fn a_zone_that_the_camera_does_not_show() {
 /// The step of such a zone is evaluated under the new choice alone: 13 where it is not finite.
 #[test]
 fn a_step_of_a_zone_that_the_camera_does_not_show() {
-    let contact = zoned(2).contact.map(|zone| ContactLimit { v_max: MAX, ..zone });
-    let old = FuseConfig { contact, dt: 2.0, ..zoned(2) };
+    let mut old = FuseConfig { dt: 2.0, ..zoned(2) };
+    old.zones.list[0].v_max = MAX;
     let ch = rows(2, &[2.0, 0.0]);
     assert_eq!(checked(&old, &[0.0; 2], &[], ch), (0, Ok(0)));
     assert_eq!(checked_by_both(&old, &[0.0; 2], &[], ch), Ok((0, 2.0)));
     let new = FuseConfig { absent_camera: AbsentCamera::Slow, ..old };
     assert_eq!(checked_by_both(&new, &[0.0; 2], &[], ch), refused(13));
+}
+
+/// A step of 2 from inside two zones, in which one of 2 and one of 1 is allowed: the Rust has either alone, and by the first the row passes.
+/// The port has both, in either order, and the lesser holds.
+#[test]
+fn a_second_zone() {
+    let (slowed, passed) = (Ok((CONTACT, 2.0 * ((1.0 - 1.0 / 68719476736.0) / 2.0))), Ok((0, 2.0)));
+    let (cfg, ch) = (zoned(2), rows(2, &[2.0, 0.0]));
+    let slow = cfg.zones.list[0];
+    let fast = ContactLimit { v_max: 2.0, a0: 1, a1: 0, ..slow };
+    let with = |zones: &[ContactLimit]| FuseConfig { zones: Zones::of(zones), ..zoned(2) };
+    for (zone, alone) in [(fast, passed), (slow, slowed)] {
+        let mut out = [0.0; 2];
+        let rust = oracle::check_chunk(&with(&[zone]), &[0.0; 2], &[0.0; 2], ch, &mut out).trips;
+        assert_eq!((Ok((rust, out[0])), checked_by_both(&with(&[zone]), &[0.0; 2], &[0.0; 2], ch)), (alone, alone));
+    }
+    for both in [[fast, slow], [slow, fast]] {
+        assert_eq!(checked_by_both(&with(&both), &[0.0; 2], &[0.0; 2], ch), slowed);
+        let asked = catch_unwind(|| oracle::check_chunk(&with(&both), &[0.0; 2], &[0.0; 2], ch, &mut [0.0; 2]));
+        assert!(asked.is_err(), "the Rust is not asked with two");
+    }
 }
 
 /// A box move that a short leash takes back: nothing of it is left in the Rust's answer.
@@ -720,8 +741,8 @@ fn no_gain_on_position() {
 
 #[test]
 fn a_zone_without_radius() {
-    let zone = |radius| Some(ContactLimit { radius, v_max: 1.0, a0: 0, a1: 1 });
-    let cfg = |radius| FuseConfig { contact: zone(radius), aux_count: 2, ..compiled() };
+    let zones = |radius| Zones::of(&[ContactLimit { radius, v_max: 1.0, a0: 0, a1: 1 }]);
+    let cfg = |radius| FuseConfig { zones: zones(radius), aux_count: 2, ..compiled() };
     only_the_rust_refuses(cfg(0.0), cfg(1.0));
 }
 
@@ -817,8 +838,8 @@ fn more_than_4096_substeps_in_all() {
 
 #[test]
 fn a_zone_with_one_channel_twice() {
-    let contact = Some(ContactLimit { radius: 1.0, v_max: 1.0, a0: 0, a1: 0 });
-    only_the_port_refuses(FuseConfig { contact, aux_count: 1, ..compiled() }, 4);
+    let zones = Zones::of(&[ContactLimit { radius: 1.0, v_max: 1.0, a0: 0, a1: 0 }]);
+    only_the_port_refuses(FuseConfig { zones, aux_count: 1, ..compiled() }, 4);
 }
 
 #[test]

@@ -1,5 +1,5 @@
 //! The generators reach what matters: every trip on its limit and off it, every side of a wall and of clamp, every way in which a zone is not
-//! seen, every kind, every place of 13, and 17 at every entry.
+//! seen, every zone of several that decides alone, every kind, every place of 13, and 17 at every entry.
 
 use std::collections::BTreeMap;
 
@@ -9,7 +9,7 @@ use differential::{
     run::Entry,
 };
 use model::{brake::count_of, refusal::WITHDRAWN, tier0 as rule};
-use model::{AbsentCamera, ActionKind, Calibration, ContactLimit, FuseConfig, Refusal, Tier0Out};
+use model::{AbsentCamera, ActionKind, Calibration, ClampMode, ContactLimit, FuseConfig, Refusal, Tier0Out, Zones};
 use model::{ACCEL, CONTACT, JERK, NFEAT, REACH, SPEED, SPEED_PEAK, STALL, WORKSPACE};
 
 const CALLS: u64 = 60_000;
@@ -171,7 +171,7 @@ fn note_camera(
     let (choice, armed) = (cfg.absent_camera, cfg.armed & CONTACT != 0);
     let answer = check(cfg);
     let trip = answer.map(|r| r.trips & CONTACT != 0);
-    let Some(zone) = &cfg.contact else {
+    let Some(zone) = cfg.zones.counted().first() else {
         if let Ok(trip) = trip {
             met.note(format!("{name} {choice:?} no zone, message {}, armed {armed}, trip {trip}", !aux.is_empty()));
         }
@@ -196,10 +196,10 @@ fn note_camera(
 }
 
 /// Whether the Rust is asked, of the calls that are accepted or 13.
-fn note_rust<I: Clone + std::fmt::Debug + 'static>(met: &mut Met, entry: &Entry<I>, i: &I, choice: AbsentCamera) {
+fn note_rust<I: Clone + std::fmt::Debug + 'static>(met: &mut Met, entry: &Entry<I>, i: &I, case: &str) {
     let number = (entry.model)(i).answer.map_or_else(|r| r.number, |_| 0);
     if [0, 13].contains(&number) {
-        met.note(format!("{} {choice:?} {number}, Rust asked {}", entry.name, (entry.rust)(i).is_some()));
+        met.note(format!("{} {case} {number}, Rust asked {}", entry.name, (entry.rust)(i).is_some()));
     }
 }
 
@@ -214,12 +214,12 @@ fn the_camera_of_the_checks() {
         note_camera(&mut met, "chunk", (&i.cfg, &i.pos, &i.aux), |cfg| {
             rule::check_chunk(cfg, &i.pos, &i.aux, i.ch.view(), &mut i.out.clone())
         });
-        note_rust(&mut met, &chunks, &i, i.cfg.absent_camera);
+        note_rust(&mut met, &chunks, &i, &format!("{:?}", i.cfg.absent_camera));
         let i = actions.input(1, call);
         note_camera(&mut met, "action", (&i.cfg, &i.pos, &i.aux), |cfg| {
             rule::check_action(cfg, &i.pos, &i.aux, &i.prev, &i.a, &mut i.out.clone())
         });
-        note_rust(&mut met, &actions, &i, i.cfg.absent_camera);
+        note_rust(&mut met, &actions, &i, &format!("{:?}", i.cfg.absent_camera));
     }
     let names = [chunks.name, actions.name];
     met.all(names.iter().flat_map(|name| [0, 13].map(|number| format!("{name} NoZone {number}, Rust asked true"))));
@@ -246,6 +246,203 @@ fn the_camera_of_the_checks() {
         lacks.iter().for_each(|l| none(&format!("NoZone lacks {l}, armed true, trip true")));
         ["Slow", "NoZone"].iter().for_each(|choice| none(&format!("{choice} lacks nothing, too far to measure")));
     }
+}
+
+/// A check's answer, and the rows that go out.
+type Checked = (Result<Tier0Out, Refusal>, Vec<f64>);
+
+/// The distance to a zone that is seen, where it is finite.
+fn away(zone: &ContactLimit, pos: &[f64], aux: &[f64]) -> Option<f64> {
+    let centre = [*aux.get(zone.a0 as usize)?, *aux.get(zone.a1 as usize)?];
+    model::fmath::dist(pos, &centre, 2).ok()
+}
+
+/// The same zones without one of them.
+fn without(zones: &Zones, k: usize) -> Zones {
+    let mut less = *zones;
+    less.list[k..].rotate_left(1);
+    less.count -= 1;
+    less
+}
+
+/// What one zone of several decides alone: the answer is another where that zone is taken away.
+fn note_zone(met: &mut Met, at: &str, k: usize, (cfg, pos, aux): (&FuseConfig, &[f64], &[f64]), pair: [&Checked; 2]) {
+    let zone = &cfg.zones.list[k];
+    let seen = lacking(zone, pos, aux) == "nothing";
+    let ([(answer, out), (other, other_out)], choice) = (pair, cfg.absent_camera);
+    match (answer, other) {
+        (Err(Refusal { number: 13, .. }), Ok(r)) => {
+            let by = if seen && away(zone, pos, aux).is_none() { "distance" } else { "step" };
+            let others = r.trips & CONTACT != 0;
+            met.note(format!("{at} 13 by the {by} of zone {k}, the others trip {others}"));
+            met.note(format!("{at} {choice:?} 13 by the {by} of a zone, seen {seen}"));
+        }
+        (Err(r), Ok(_)) => met.note(format!("{at} {} by zone {k}", r.number)),
+        (Ok(r), Ok(_)) if r.trips != other.map_or(0, |r| r.trips) => {
+            met.note(format!("{at} CONTACT by zone {k} alone, seen {seen}"));
+        }
+        (Ok(_), Ok(_)) if out != other_out => met.note(format!("{at} leash by zone {k}, CONTACT by others")),
+        _ => (),
+    }
+}
+
+/// Where the arm stands to each zone, what each decides, and what would be another answer past the count.
+fn note_zones(
+    met: &mut Met,
+    name: &str,
+    (cfg, pos, aux): (&FuseConfig, &[f64], &[f64]),
+    step: Option<f64>,
+    check: impl Fn(&FuseConfig) -> Checked,
+) {
+    let (zones, armed, count) = (cfg.zones.counted(), cfg.armed & CONTACT != 0, cfg.zones.count);
+    let whole = check(cfg);
+    let number = whole.0.map_or_else(|r| r.number, |_| 0);
+    met.note(format!("{name} {count} zones, armed {armed}, {number}"));
+    let twice = |turn: bool| {
+        let turned = |z: &ContactLimit| if turn { (z.a1, z.a0) } else { (z.a0, z.a1) };
+        (0..zones.len()).any(|i| zones[..i].iter().any(|z| turned(z) == (zones[i].a0, zones[i].a1)))
+    };
+    met.note(format!("{name} {count} zones, swapped {}, repeated {}, {number}", twice(true), twice(false)));
+    let all = FuseConfig { zones: Zones { count: 4, ..cfg.zones }, ..*cfg };
+    if number == 0 && count < 4 {
+        let refused = check(&all).0.map_or_else(|r| r.number, |_| 0);
+        let other = if refused == 0 && check(&all).0 != whole.0 { "otherwise".into() } else { refused.to_string() };
+        met.note(format!("{name} {count} zones, {other} past the count"));
+    }
+    if !armed || count > 4 {
+        return;
+    }
+    for k in 0..zones.len() {
+        let less = check(&FuseConfig { zones: without(&cfg.zones, k), ..*cfg });
+        note_zone(met, &format!("{name} {count} zones,"), k, (cfg, pos, aux), [&whole, &less]);
+    }
+    let Ok(answer) = whole.0 else { return };
+    let inside = |z: &&ContactLimit| match lacking(z, pos, aux) {
+        "nothing" => away(z, pos, aux).is_some_and(|d| d <= z.radius),
+        _ => cfg.absent_camera == AbsentCamera::Slow,
+    };
+    let steps: Vec<f64> = zones.iter().filter(inside).map(|z| z.v_max * cfg.dt).collect();
+    met.note(format!("{name} {count} zones, inside {}, trip {}", steps.len(), answer.trips & CONTACT != 0));
+    let seen = zones.iter().filter(|z| lacking(z, pos, aux) == "nothing").count();
+    let mixed = seen > 0 && seen < zones.len();
+    met.note(format!("{name} {count} zones, {:?} some seen and some not {mixed}", cfg.absent_camera));
+    if let (Some(least), true, ClampMode::Project) =
+        (steps.iter().copied().reduce(f64::min), cfg.armed & SPEED != 0, cfg.clamp)
+    {
+        let (first, own) = (steps[0], cfg.v_max * cfg.dt);
+        met.note(format!(
+            "{name} SPEED's step the least {}, the first zone's {}",
+            own < least,
+            first == least && first < own
+        ));
+    }
+    for (k, z) in zones.iter().enumerate() {
+        if let (Some(d), "nothing") = (away(z, pos, aux), lacking(z, pos, aux)) {
+            let side = if d == z.radius {
+                "on"
+            } else if d == z.radius.next_up() {
+                "outside"
+            } else {
+                "off"
+            };
+            met.note(format!("{name} the arm {side} the edge of zone {k}"));
+        }
+        if let (Some(n), true) = (step, inside(&z)) {
+            let limit = z.v_max * cfg.dt;
+            let side = if n == limit {
+                "on"
+            } else if n == limit.next_up() {
+                "over"
+            } else {
+                "off"
+            };
+            met.note(format!("{name} a step {side} that of zone {k}"));
+        }
+    }
+}
+
+#[test]
+fn the_zones_of_the_checks() {
+    let port = Port::default();
+    let (chunks, actions) =
+        (tier0::check_chunk_with_several_zones(&port), tier0::check_action_with_several_zones(&port));
+    let mut met = Met::new();
+    for call in 0..CALLS * 2 {
+        let i = chunks.input(1, call);
+        let (d, nb) = (i.cfg.dim, i.cfg.dim.min(i.cfg.pos_dim));
+        let step = (i.ch.dim as usize == d && i.ch.data.len() >= d && i.pos.len() >= nb)
+            .then(|| oracle::rust::fmath::dist(&i.ch.data, &i.pos, nb));
+        note_zones(&mut met, "chunk", (&i.cfg, &i.pos, &i.aux), step, |cfg| {
+            let mut out = i.out.clone();
+            (rule::check_chunk(cfg, &i.pos, &i.aux, i.ch.view(), &mut out), out)
+        });
+        note_rust(&mut met, &chunks, &i, &format!("{:?} {} zones", i.cfg.absent_camera, i.cfg.zones.count));
+        let i = actions.input(1, call);
+        let step = (i.a.len() >= i.cfg.dim && i.prev.len() >= i.cfg.dim)
+            .then(|| oracle::rust::fmath::dist(&i.a, &i.prev, i.cfg.dim));
+        note_zones(&mut met, "action", (&i.cfg, &i.pos, &i.aux), step, |cfg| {
+            let mut out = i.out.clone();
+            (rule::check_action(cfg, &i.pos, &i.aux, &i.prev, &i.a, &mut out), out)
+        });
+        note_rust(&mut met, &actions, &i, &format!("{:?} {} zones", i.cfg.absent_camera, i.cfg.zones.count));
+    }
+    for name in [chunks.name, actions.name] {
+        let asked = |choice: &str, count: usize, is: bool| {
+            [0, 13].map(|number| format!("{name} {choice} {count} zones {number}, Rust asked {is}"))
+        };
+        met.all(asked("NoZone", 1, true));
+        met.all([format!("{name} NoZone 0 zones 0, Rust asked true")]);
+        met.all((1..=4).flat_map(|count| asked("Slow", count, false)));
+        met.all((2..=4).flat_map(|count| asked("NoZone", count, false)));
+    }
+    let few = |case: &String| case.contains("NoZone 0 zones") || case.contains("NoZone 1 zones");
+    assert!(met.0.keys().filter(|case| case.contains("Rust asked true")).all(few));
+    assert!(!met.0.keys().any(|case| few(case) && case.contains("Rust asked false")));
+    ["chunk", "action"].iter().for_each(|name| every_zone_is_met(&met, name));
+}
+
+/// What `note_zones` has to have met of one check.
+fn every_zone_is_met(met: &Met, name: &str) {
+    let of = |case: String| format!("{name} {case}");
+    let each = |cases: &dyn Fn(usize, usize) -> Vec<String>| {
+        met.all((1..=4).flat_map(|count| (0..count).flat_map(move |k| cases(count, k))).map(of));
+    };
+    met.all((0..=4).flat_map(|count| [true, false].map(|armed| of(format!("{count} zones, armed {armed}, 0")))));
+    met.all([true, false].map(|armed| of(format!("5 zones, armed {armed}, 1"))));
+    each(&|count, k| [2, 4].map(|number| format!("{count} zones, {number} by zone {k}")).to_vec());
+    each(&|count, k| {
+        let other = if count > 1 { vec![true, false] } else { vec![false] };
+        let by = |by: &str| -> Vec<String> {
+            other.iter().map(|o| format!("{count} zones, 13 by the {by} of zone {k}, the others trip {o}")).collect()
+        };
+        [by("distance"), by("step")].concat()
+    });
+    each(&|count, k| {
+        [true, false].map(|seen| format!("{count} zones, CONTACT by zone {k} alone, seen {seen}")).to_vec()
+    });
+    met.all(
+        (2..=4)
+            .flat_map(|count| (0..count).map(move |k| format!("{count} zones, leash by zone {k}, CONTACT by others")))
+            .map(of),
+    );
+    met.all(
+        (0..=4).flat_map(|count| (0..=count).map(move |n| format!("{count} zones, inside {n}, trip false"))).map(of),
+    );
+    met.all(
+        (1..=4).flat_map(|count| (1..=count).map(move |n| format!("{count} zones, inside {n}, trip true"))).map(of),
+    );
+    for choice in ["Slow", "NoZone"] {
+        met.all((2..=4).map(|count| of(format!("{count} zones, {choice} some seen and some not true"))));
+    }
+    met.all((2..=4).map(|count| of(format!("{count} zones, swapped true, repeated false, 0"))));
+    met.all((2..=4).map(|count| of(format!("{count} zones, swapped false, repeated true, 4"))));
+    let past = ["2", "4", "otherwise", "13"];
+    met.all((0..=3).flat_map(|count| past.map(|other| of(format!("{count} zones, {other} past the count")))));
+    let least = ["true, the first zone's false", "false, the first zone's false", "false, the first zone's true"];
+    met.all(least.map(|which| of(format!("SPEED's step the least {which}"))));
+    let edges = ["the arm on the edge", "the arm outside the edge", "a step on that", "a step over that"];
+    met.all((0..4).flat_map(|k| edges.map(|edge| of(format!("{edge} of zone {k}")))));
+    assert!(!met.0.keys().any(|case| case.starts_with(name) && case.contains("inside 0, trip true")));
 }
 
 #[test]

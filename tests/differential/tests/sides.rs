@@ -182,8 +182,8 @@ fn leash_and_reach() {
 #[test]
 fn the_leash_of_a_slow_zone() {
     let zone = |v_max| {
-        let contact = Some(ContactLimit { radius: 1.0, v_max, a0: 0, a1: 1 });
-        FuseConfig { armed: WORKSPACE | CONTACT, contact, aux_count: 2, ..boxed(2, 2) }
+        let zones = Zones::of(&[ContactLimit { radius: 1.0, v_max, a0: 0, a1: 1 }]);
+        FuseConfig { armed: WORKSPACE | CONTACT, zones, aux_count: 2, ..boxed(2, 2) }
     };
     seen_chunk(&zone(1e-20), &[2.0, 0.0], &[2.0, 0.0], &[2.0, 0.0], (0, 0b01, 0));
     seen_chunk(&zone(1e-20), &[2.0, 0.0], &[9.0, 9.0], &[2.0, 0.0], (0, 0b01, 0b01));
@@ -192,8 +192,8 @@ fn the_leash_of_a_slow_zone() {
 
 extern "C" {
     fn lictor_check_chunk(
-        numbers: &[f64; 44],
-        counts: &[u64; 27],
+        numbers: &[f64; 50],
+        counts: &[u64; 33],
         center: &[f64; 192],
         scale: &[f64; 192],
         position: *const f64,
@@ -211,8 +211,8 @@ extern "C" {
         peak_speed: &mut f64,
     ) -> u64;
     fn lictor_check_action(
-        numbers: &[f64; 44],
-        counts: &[u64; 27],
+        numbers: &[f64; 50],
+        counts: &[u64; 33],
         center: &[f64; 192],
         scale: &[f64; 192],
         position: *const f64,
@@ -229,8 +229,8 @@ extern "C" {
         peak_speed: &mut f64,
     ) -> u64;
     fn lictor_brake_action(
-        numbers: &[f64; 44],
-        counts: &[u64; 27],
+        numbers: &[f64; 50],
+        counts: &[u64; 33],
         center: &[f64; 192],
         scale: &[f64; 192],
         position: *const f64,
@@ -242,8 +242,8 @@ extern "C" {
         walls: &mut [u64; 2],
     ) -> u64;
     fn lictor_hold_action(
-        numbers: &[f64; 44],
-        counts: &[u64; 27],
+        numbers: &[f64; 50],
+        counts: &[u64; 33],
         center: &[f64; 192],
         scale: &[f64; 192],
         position: *const f64,
@@ -257,7 +257,7 @@ extern "C" {
 /// What the four exported functions answer to one row of one coordinate at `x`, with the kind's code and room in the output, and the marks
 /// that they were lent, which held any bits before.
 fn lent(x: f64, kind: u64, room: usize) -> [(u64, Vec<u64>); 4] {
-    let (mut numbers, mut counts) = ([1.0; 44], [0; 27]);
+    let (mut numbers, mut counts) = ([1.0; 50], [0; 33]);
     numbers[5..6].fill(0.0); // margin
     numbers[27..35].fill(-1.0); // box_lo
     counts[0..1].fill(1); // dim

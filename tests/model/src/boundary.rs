@@ -1,5 +1,7 @@
 //! The number for counts as C passes them, in words of 64 bits: the table's, on the counts themselves, or 255 where a code
-//! or a flag is none of its kind or where the table accepts a count that its field cannot hold. 255 comes first.
+//! or a flag is none of its kind or where the table accepts a count that its field cannot hold; a zone's two channels are judged by
+//! themselves in this, so that a pair that its fields cannot hold, with nothing against it alone, is 255 also where another zone has the
+//! same pair. 255 comes first.
 
 use crate::{
     refusal::{first, when, CHANNELS, EMPTY, EXEC_EXCEEDS_HORIZON, SIZE, STEPS, TOO_LONG, TOO_WIDE, WITHDRAWN},
@@ -22,18 +24,24 @@ fn withdrawn(bits: u64) -> bool {
     bits >> STALL & 1 == 1
 }
 
-/// The configuration's 27 counts, by their names in include/lictor.h, all of its numbers being accepted.
-pub fn counts(c: &[u64; 27]) -> u8 {
+/// The configuration's 33 counts, by their names in include/lictor.h, all of its numbers being accepted.
+pub fn counts(c: &[u64; 33]) -> u8 {
     let &[dim, pos_dim, kind, clamp, brake, contact, contact_a0, contact_a1, ref rest @ ..] = c;
     let &[substeps, commit, brake_steps, react_ticks, ref rest @ ..] = rest;
+    let (rest, pairs) = (rest.first_chunk::<15>().expect("15 counts"), rest.last_chunk::<6>().expect("6 channels"));
     let &[ref terms @ .., armed, aux_count, calibrated, mask, n_terms, horizon_ticks, absent_camera] = rest;
-    let (zone, gate) = (contact == 1, calibrated == 1);
-    let channels = zone && (contact_a0 == contact_a1 || contact_a0 >= aux_count || contact_a1 >= aux_count);
-    let code = kind > 4 || clamp > 1 || brake > 4 || contact > 1 || calibrated > 1 || absent_camera > 1;
+    let &[contact1_a0, contact1_a1, contact2_a0, contact2_a1, contact3_a0, contact3_a1] = pairs;
+    let gate = calibrated == 1;
+    let four =
+        [(contact_a0, contact_a1), (contact1_a0, contact1_a1), (contact2_a0, contact2_a1), (contact3_a0, contact3_a1)];
+    let zones = &four[..contact.min(4) as usize];
+    let bad = |&(a0, a1): &(u64, u64)| a0 == a1 || a0 >= aux_count || a1 >= aux_count;
+    let repeated = (1..zones.len()).any(|i| zones[..i].contains(&zones[i]));
+    let code = kind > 4 || clamp > 1 || brake > 4 || calibrated > 1 || absent_camera > 1;
     let field = react_ticks > SHORT
         || armed > WORD
         || gate && horizon_ticks > WORD
-        || zone && !channels && (contact_a0 > BYTE || contact_a1 > BYTE);
+        || zones.iter().any(|z| !bad(z) && (z.0 > BYTE || z.1 > BYTE));
     if code || field {
         return MISFIT;
     }
@@ -43,9 +51,9 @@ pub fn counts(c: &[u64; 27]) -> u8 {
     let in_all = (commit as u128 + brake_steps as u128).saturating_mul(substeps as u128);
     let steps = !(1..=64).contains(&substeps) || commit > 64 || in_all > 4096 || gate && horizon_ticks == 0;
     let judged = [
-        when(size(dim) || size(pos_dim) || gate && n_terms > 8 || names(over), SIZE),
+        when(size(dim) || size(pos_dim) || contact > 4 || gate && n_terms > 8 || names(over), SIZE),
         when(steps, STEPS),
-        when(channels, CHANNELS),
+        when(repeated || zones.iter().any(bad), CHANNELS),
         when(names(withdrawn), WITHDRAWN),
     ];
     first(&judged).unwrap_or(0)

@@ -3,7 +3,8 @@
 use crate::{
     fmath::{min, side},
     refusal::{first, judged, when, CHANNELS, NUMBER, SIZE, STEPS, WITHDRAWN},
-    Calibration, Derived, FuseConfig, Refusal, WallMarks, MAX_D, MAX_POS, MAX_SUBSTEPS, MAX_TERMS, NFEAT, STALL,
+    Calibration, Derived, FuseConfig, Refusal, WallMarks, MAX_D, MAX_POS, MAX_SUBSTEPS, MAX_TERMS, MAX_ZONES, NFEAT,
+    STALL,
 };
 
 /// The derived numbers as they come, finite or not; dim and pos_dim are in size.
@@ -70,8 +71,8 @@ pub fn judge_calibration(c: &Calibration) -> Option<u8> {
 fn judge_numbers(c: &FuseConfig) -> Option<u8> {
     let b = &c.brake;
     let above = [c.dt, b.dt, b.k_v, c.v_max, c.a_max, c.j_max, c.reach_max];
-    let contact = c.contact.is_none_or(|z| above_zero(z.v_max) && not_below_zero(z.radius));
-    let fine = above.iter().all(|x| above_zero(*x)) && not_below_zero(b.k_p) && not_below_zero(c.margin) && contact;
+    let zones = c.zones.counted().iter().all(|z| above_zero(z.v_max) && not_below_zero(z.radius));
+    let fine = above.iter().all(|x| above_zero(*x)) && not_below_zero(b.k_p) && not_below_zero(c.margin) && zones;
     when(!fine, NUMBER)
 }
 
@@ -96,9 +97,12 @@ fn judge_steps(c: &FuseConfig) -> Option<u8> {
     when(!(1..=64).contains(&b.substeps) || b.commit > 64 || all > MAX_SUBSTEPS || ticks, STEPS)
 }
 
+/// 4 of each counted zone, and of any two that name the same pair in the same order.
 fn judge_channels(c: &FuseConfig) -> Option<u8> {
-    let bad = |a0: u8, a1: u8| a0 == a1 || a0 as usize >= c.aux_count || a1 as usize >= c.aux_count;
-    when(c.contact.is_some_and(|z| bad(z.a0, z.a1)), CHANNELS)
+    let pairs: Vec<(u8, u8)> = c.zones.counted().iter().map(|z| (z.a0, z.a1)).collect();
+    let bad = |&(a0, a1): &(u8, u8)| a0 == a1 || a0 as usize >= c.aux_count || a1 as usize >= c.aux_count;
+    let repeated = (1..pairs.len()).any(|i| pairs[..i].contains(&pairs[i]));
+    when(repeated || pairs.iter().any(bad), CHANNELS)
 }
 
 /// The whole configuration, whether or not an entry reads that part: the first of 1 to 4 and 17.
@@ -107,8 +111,9 @@ pub fn judge(c: &FuseConfig) -> Option<u8> {
     if !sized {
         return Some(SIZE);
     }
+    let zones = when(c.zones.count > MAX_ZONES, SIZE);
     let calibration = if c.calibrated { judge_calibration(&c.cal) } else { None };
-    first(&[calibration, judge_numbers(c), judge_arrays(c), judge_steps(c), judge_channels(c)])
+    first(&[zones, calibration, judge_numbers(c), judge_arrays(c), judge_steps(c), judge_channels(c)])
 }
 
 /// The sides that the box moves a point to, over the first min(dim, pos_dim) coordinates: those past pos_dim have no box of their own.

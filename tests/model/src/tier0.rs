@@ -22,13 +22,13 @@ struct Check<'a> {
     pos: &'a [f64],
     /// min(dim, pos_dim)
     nb: usize,
-    /// the contact step, inside an armed zone alone
-    slow: Option<f64>,
+    /// the step of each zone that the arm is inside, where CONTACT is armed
+    slow: Vec<f64>,
 }
 
 impl<'a> Check<'a> {
     fn new(cfg: &'a FuseConfig, derived: Derived, pos: &'a [f64], aux: &[f64]) -> Result<Self, NotFinite> {
-        let slow = contact_step(cfg, pos, aux)?;
+        let slow = contact_steps(cfg, pos, aux)?;
         Ok(Self { cfg, derived, pos, nb: cfg.dim.min(cfg.pos_dim), slow })
     }
 
@@ -46,7 +46,7 @@ impl<'a> Check<'a> {
         if self.armed(SPEED) && n > self.derived.step_max {
             trips |= SPEED;
         }
-        if self.slow.is_some_and(|step| n > step) {
+        if self.slow.iter().any(|step| n > *step) {
             trips |= CONTACT;
         }
         if self.armed(WORKSPACE) && self.outside(a) {
@@ -62,13 +62,10 @@ impl<'a> Check<'a> {
         Ok(0)
     }
 
-    /// The least armed leash.
+    /// The least armed step: SPEED's, and that of each zone that the arm is inside.
     fn leash(&self) -> Option<f64> {
         let speed = self.armed(SPEED).then_some(self.derived.step_max);
-        match (speed, self.slow) {
-            (Some(a), Some(b)) => Some(min(a, b)),
-            (a, b) => a.or(b),
-        }
+        speed.into_iter().chain(self.slow.iter().copied()).reduce(min)
     }
 
     /// The sides that the box moves a row to, as the row came; none where the box is not armed, or where no row is moved.
@@ -115,20 +112,25 @@ fn seen(zone: &ContactLimit, pos: &[f64], aux: &[f64]) -> Option<[f64; 2]> {
     (pos.len() >= 2).then_some(centre)
 }
 
-/// The zone's speed times dt when CONTACT is armed and configured and the arm is inside: at most the radius away from a centre that is
-/// seen, and by the choice where none is.
-fn contact_step(cfg: &FuseConfig, pos: &[f64], aux: &[f64]) -> Result<Option<f64>, NotFinite> {
-    let Some(zone) = cfg.contact.filter(|_| cfg.armed & CONTACT != 0) else {
-        return Ok(None);
-    };
-    let inside = match seen(&zone, pos, aux) {
-        Some(centre) => dist(pos, &centre, 2)? <= zone.radius,
-        None => cfg.absent_camera == AbsentCamera::Slow,
-    };
-    match inside {
-        true => Ok(Some(mul(zone.v_max, cfg.dt)?)),
-        false => Ok(None),
+/// Whether the arm is inside a zone: at most the radius away from a centre that is seen, and by the choice where none is.
+fn inside(cfg: &FuseConfig, zone: &ContactLimit, pos: &[f64], aux: &[f64]) -> Result<bool, NotFinite> {
+    match seen(zone, pos, aux) {
+        Some(centre) => Ok(dist(pos, &centre, 2)? <= zone.radius),
+        None => Ok(cfg.absent_camera == AbsentCamera::Slow),
     }
+}
+
+/// Where CONTACT is armed, the speed times dt of each counted zone that the arm is inside. No zone is passed over because of another.
+fn contact_steps(cfg: &FuseConfig, pos: &[f64], aux: &[f64]) -> Result<Vec<f64>, NotFinite> {
+    let mut steps = Vec::new();
+    if cfg.armed & CONTACT != 0 {
+        for zone in cfg.zones.counted() {
+            if inside(cfg, zone, pos, aux)? {
+                steps.push(mul(zone.v_max, cfg.dt)?);
+            }
+        }
+    }
+    Ok(steps)
 }
 
 /// A bit for each coordinate that differs as a number.

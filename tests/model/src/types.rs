@@ -11,6 +11,7 @@ pub const BINS: usize = 16;
 pub const TRAIL_W: usize = 32;
 pub const PE_WINDOW: usize = 20;
 pub const MAX_SUBSTEPS: usize = 4096;
+pub const MAX_ZONES: usize = 4;
 
 /// Trip bits.
 pub const WORKSPACE: u32 = 1;
@@ -78,8 +79,52 @@ pub struct ContactLimit {
     pub a1: u8,
 }
 
-/// What holds where a zone is configured and CONTACT armed, and the camera does not show the zone or the position has fewer than two
-/// coordinates.
+impl ContactLimit {
+    /// What stands past the count where nothing else does.
+    pub const UNUSED: Self = Self { radius: 0.0, v_max: 0.0, a0: 0, a1: 0 };
+}
+
+/// The slow zones of an arm: the first `count` of the list. What stands past the count is unread, and a count over four is refused.
+#[derive(Clone, Copy, PartialEq)]
+pub struct Zones {
+    pub count: usize,
+    pub list: [ContactLimit; MAX_ZONES],
+}
+
+impl Zones {
+    pub const NONE: Self = Self { count: 0, list: [ContactLimit::UNUSED; MAX_ZONES] };
+
+    /// All of these zones, the first four of which are held.
+    pub const fn of(zones: &[ContactLimit]) -> Self {
+        let mut all = Self { count: zones.len(), ..Self::NONE };
+        let mut i = 0;
+        while i < zones.len() && i < MAX_ZONES {
+            all.list[i] = zones[i];
+            i += 1;
+        }
+        all
+    }
+
+    /// The zones that are counted and held.
+    pub fn counted(&self) -> &[ContactLimit] {
+        &self.list[..self.count.min(MAX_ZONES)]
+    }
+
+    pub fn counted_mut(&mut self) -> &mut [ContactLimit] {
+        &mut self.list[..self.count.min(MAX_ZONES)]
+    }
+}
+
+impl core::fmt::Debug for Zones {
+    /// The count, and the zones up to the last that is counted or not `UNUSED`.
+    fn fmt(&self, f: &mut core::fmt::Formatter<'_>) -> core::fmt::Result {
+        let used = self.list.iter().rposition(|z| *z != ContactLimit::UNUSED).map_or(0, |i| i + 1);
+        let shown = &self.list[..used.max(self.counted().len())];
+        f.debug_struct("Zones").field("count", &self.count).field("list", &shown).finish()
+    }
+}
+
+/// What holds of each zone where CONTACT is armed, and the camera does not show that zone or the position has fewer than two coordinates.
 #[derive(Clone, Copy, Debug, Default, PartialEq, Eq)]
 pub enum AbsentCamera {
     /// The arm counts as inside the zone.
@@ -138,7 +183,7 @@ pub struct FuseConfig {
     pub box_hi: [f64; MAX_POS],
     pub norm_center: [f64; MAX_D],
     pub norm_scale: [f64; MAX_D],
-    pub contact: Option<ContactLimit>,
+    pub zones: Zones,
     pub absent_camera: AbsentCamera,
     pub brake: BrakeModel,
     pub clamp: ClampMode,
@@ -165,7 +210,7 @@ impl FuseConfig {
         box_hi: [0.0; MAX_POS],
         norm_center: [0.0; MAX_D],
         norm_scale: [1.0; MAX_D],
-        contact: None,
+        zones: Zones::NONE,
         absent_camera: AbsentCamera::Slow,
         brake: BrakeModel {
             kind: BrakeKind::PdSecondOrder,
@@ -191,7 +236,7 @@ impl FuseConfig {
         pos_dim: 2,
         box_lo: [-1.0; MAX_POS],
         box_hi: [1.0; MAX_POS],
-        contact: Some(ContactLimit { radius: 1.0, v_max: 1.0, a0: 0, a1: 1 }),
+        zones: Zones::of(&[ContactLimit { radius: 1.0, v_max: 1.0, a0: 0, a1: 1 }]),
         aux_count: 2,
         calibrated: true,
         cal: Calibration { mask: NAMED, n_terms: 8, terms: [NAMED; MAX_TERMS], ..Calibration::DISARMED },
@@ -212,7 +257,7 @@ impl core::fmt::Debug for FuseConfig {
             };
         }
         differing!(dim, pos_dim, kind, dt, v_max, a_max, j_max, reach_max, margin, box_lo, box_hi);
-        differing!(norm_center, norm_scale, contact, absent_camera, brake, clamp, armed, aux_count, calibrated, cal);
+        differing!(norm_center, norm_scale, zones, absent_camera, brake, clamp, armed, aux_count, calibrated, cal);
         differing!(horizon_ticks);
         shown.finish_non_exhaustive()
     }

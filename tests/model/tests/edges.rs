@@ -35,7 +35,7 @@ fn sizes() {
 type Field = fn(&mut FuseConfig) -> &mut f64;
 
 fn zone(c: &mut FuseConfig) -> &mut ContactLimit {
-    c.contact.as_mut().expect("a zone is configured")
+    c.zones.counted_mut().first_mut().expect("a zone is configured")
 }
 
 #[test]
@@ -131,7 +131,7 @@ fn channels() {
     assert_eq!(judged(|c| zone(c).a0 = 1), Some(4), "equal");
     assert_eq!(judged(|c| c.aux_count = 1), Some(4), "at the count");
     assert_eq!(judged(|c| (zone(c).a0, zone(c).a1) = (1, 0)), None);
-    assert_eq!(judged(|c| (c.contact, c.aux_count) = (None, 0)), None);
+    assert_eq!(judged(|c| (c.zones, c.aux_count) = (Zones::NONE, 0)), None);
     assert_eq!(judged(|c| (zone(c).a0, c.armed) = (1, 0)), Some(4), "armed or not");
 }
 
@@ -366,9 +366,9 @@ fn scores_and_trails() {
 
 /// Two axes, CONTACT alone armed, and a zone of radius 1 in which a step of 2 is allowed, on two of three channels.
 fn zoned(absent_camera: AbsentCamera, (a0, a1): (u8, u8)) -> FuseConfig {
-    let contact = Some(ContactLimit { radius: 1.0, v_max: 2.0, a0, a1 });
+    let zones = Zones::of(&[ContactLimit { radius: 1.0, v_max: 2.0, a0, a1 }]);
     let clamp = ClampMode::Project;
-    FuseConfig { armed: CONTACT, contact, aux_count: 3, calibrated: false, clamp, absent_camera, ..FuseConfig::WHOLE }
+    FuseConfig { armed: CONTACT, zones, aux_count: 3, calibrated: false, clamp, absent_camera, ..FuseConfig::WHOLE }
 }
 
 /// Trips of a step to (x, 0), by a chunk and by an action, from positions that are lent whole or in part.
@@ -428,7 +428,7 @@ fn no_zone_and_no_arming_are_slow_nowhere() {
     for choice in [AbsentCamera::Slow, AbsentCamera::NoZone] {
         let zoned = zoned(choice, (0, 1));
         for aux in [&[][..], &[0.0], &[0.0; 2]] {
-            let none = FuseConfig { contact: None, ..zoned };
+            let none = FuseConfig { zones: Zones::NONE, ..zoned };
             assert_eq!(stepped(&none, &[0.0; 2], aux, 9.0), Ok(0), "{choice:?}");
             let unarmed = FuseConfig { armed: 0, ..zoned };
             assert_eq!(stepped(&unarmed, &[0.0; 2], aux, 9.0), Ok(0), "{choice:?}");
@@ -486,7 +486,7 @@ fn a_number_of_a_short_message_that_is_not_finite() {
 #[test]
 fn the_choice_as_a_code() {
     let good = |contact: u64, armed: u64, code: u64| {
-        let mut c = [0; 27];
+        let mut c = [0; 33];
         (c[0], c[1], c[5], c[7], c[8], c[20], c[21], c[26]) = (1, 1, contact, 1, 1, armed, 2, code);
         c
     };
@@ -496,6 +496,265 @@ fn the_choice_as_a_code() {
             assert_eq!(boundary::counts(&c), want, "{code} with {contact} and {armed}");
             c[0] = 9;
             assert_eq!(boundary::counts(&c), want.max(1));
+        }
+    }
+}
+
+/// Four zones of radius 1 and speed 1, each on two channels of its own, of eight.
+fn four() -> Zones {
+    Zones::of(&[(0, 1), (2, 3), (4, 5), (6, 7)].map(|(a0, a1)| ContactLimit { radius: 1.0, v_max: 1.0, a0, a1 }))
+}
+
+/// What a configuration with four zones, so many of them counted, is answered after one change, armed or not.
+fn zones_judged(count: usize, change: impl Fn(&mut [ContactLimit; MAX_ZONES])) -> Option<u8> {
+    let [unarmed, armed] = [0, CONTACT].map(|armed| {
+        judged(|c| {
+            (c.armed, c.aux_count, c.zones) = (armed, 8, Zones { count, ..four() });
+            change(&mut c.zones.list);
+        })
+    });
+    assert_eq!(unarmed, armed, "armed or not");
+    armed
+}
+
+#[test]
+fn counts_of_zones() {
+    for count in 0..=4 {
+        assert_eq!(zones_judged(count, |_| ()), None);
+    }
+    for count in [5, 6, 255, 256, 1 << 32, usize::MAX] {
+        assert_eq!(zones_judged(count, |_| ()), Some(1));
+        assert_eq!(zones_judged(count, |list| list[0].v_max = f64::NAN), Some(1), "before the numbers");
+        assert_eq!(zones_judged(count, |list| list[0].a1 = 0), Some(1), "before the channels");
+    }
+}
+
+/// Each number and each channel of each zone, which is judged where it is counted and unread where it is not.
+#[test]
+fn every_counted_zone_is_judged() {
+    for (zone, count) in (0..4).flat_map(|zone| (0..=4).map(move |count| (zone, count))) {
+        let due = |number: u8| (zone < count).then_some(number);
+        let with = |change: &dyn Fn(&mut ContactLimit)| zones_judged(count, |list| change(&mut list[zone]));
+        for bad in [f64::NAN, f64::INFINITY, f64::NEG_INFINITY, -1.0, -5e-324] {
+            assert_eq!(with(&|z| z.v_max = bad), due(2), "speed {bad} of zone {zone} of {count}");
+            assert_eq!(with(&|z| z.radius = bad), due(2), "radius {bad} of zone {zone} of {count}");
+        }
+        for (edge, number) in [(0.0, due(2)), (-0.0, due(2)), (5e-324, None), (f64::MAX, None)] {
+            assert_eq!(with(&|z| z.v_max = edge), number, "speed {edge} of zone {zone} of {count}");
+            assert_eq!(with(&|z| z.radius = edge), None, "radius {edge} of zone {zone} of {count}");
+        }
+        assert_eq!(with(&|z| z.a1 = z.a0), due(4), "equal channels of zone {zone} of {count}");
+        for (channel, number) in [(8, due(4)), (9, due(4)), (255, due(4))] {
+            assert_eq!(with(&|z| z.a0 = channel), number, "channel {channel} of zone {zone} of {count}");
+            assert_eq!(with(&|z| z.a1 = channel), number, "channel {channel} of zone {zone} of {count}");
+        }
+        assert_eq!(
+            with(&|z| *z = ContactLimit { radius: 1.0, v_max: 1.0, a0: 0, a1: 7 }),
+            None,
+            "a channel of another"
+        );
+    }
+}
+
+/// Any two zones: the same pair in the same order is refused where both are counted, and swapped it is another pair.
+#[test]
+fn pairs_of_two_zones() {
+    for (first, second) in [(0, 1), (0, 2), (0, 3), (1, 2), (1, 3), (2, 3)] {
+        for count in 0..=4 {
+            let with = |pair: fn(u8, u8) -> (u8, u8)| {
+                zones_judged(count, |list| {
+                    (list[second].a0, list[second].a1) = pair(list[first].a0, list[first].a1);
+                    (list[second].radius, list[second].v_max) = (2.0, 3.0);
+                })
+            };
+            let case = format!("zones {first} and {second} of {count}");
+            assert_eq!(with(|a0, a1| (a0, a1)), (second < count).then_some(4), "{case}");
+            assert_eq!(with(|a0, a1| (a1, a0)), None, "{case}");
+            assert_eq!(with(|a0, _| (a0, 7 - a0)), None, "{case}: one channel is shared");
+        }
+    }
+}
+
+const NEAR: [f64; 2] = [0.0; 2];
+const FAR: [f64; 2] = [9.0; 2];
+
+/// Two axes with CONTACT alone armed, dt 1, and zones of radius 1 with these speeds.
+fn slowed(count: usize, speeds: [f64; 4]) -> FuseConfig {
+    let mut zones = Zones { count, ..four() };
+    zones.list.iter_mut().zip(speeds).for_each(|(zone, v_max)| zone.v_max = v_max);
+    FuseConfig { zones, aux_count: 8, ..zoned(AbsentCamera::Slow, (0, 1)) }
+}
+
+/// A message that has the centre of each zone, at the arm for those of a set.
+fn message(set: usize) -> Vec<f64> {
+    (0..4).flat_map(|zone| if set >> zone & 1 == 1 { NEAR } else { FAR }).collect()
+}
+
+/// The greatest step that does not trip, and one next to it that does: the least of the counted zones that the arm is inside, whichever
+/// stands first.
+#[test]
+fn the_least_step_of_the_zones() {
+    for speeds in [[1.0, 2.0, 3.0, 4.0], [4.0, 3.0, 2.0, 1.0], [2.0, 4.0, 1.0, 3.0], [3.0, 1.0, 4.0, 2.0]] {
+        for (count, set) in (0..=4).flat_map(|count| (0..16).map(move |set| (count, set))) {
+            let c = slowed(count, speeds);
+            let at = |x: f64| stepped(&c, &[0.0; 2], &message(set), x);
+            let least = (0..count).filter(|zone| set >> zone & 1 == 1).map(|zone| speeds[zone]).reduce(f64::min);
+            match least {
+                Some(step) => {
+                    assert_eq!([at(step), at(step.next_up())], [Ok(0), Ok(CONTACT)], "{count} {set} {speeds:?}")
+                }
+                None => assert_eq!(at(9.0), Ok(0), "{count} {set}"),
+            }
+        }
+    }
+}
+
+/// SPEED's step is one of those that the least is taken of, and trips by itself.
+#[test]
+fn the_leash_beside_speed() {
+    for (v_max, x, trips, limit) in [
+        (1.5, 3.5, SPEED | CONTACT, 1.5),
+        (4.0, 3.5, CONTACT, 2.0),
+        (3.0, 3.5, SPEED | CONTACT, 2.0),
+        (1.5, 1.75, SPEED, 1.5),
+    ] {
+        let c = FuseConfig { armed: SPEED | CONTACT, v_max, ..slowed(3, [3.0, 2.0, 2.5, 1.0]) };
+        let mut out = [7.0; 2];
+        let r = tier0::check_action(&c, &[0.0; 2], &message(0b1111), &[0.0; 2], &[x, 0.0], &mut out).expect("accepted");
+        assert_eq!(r.trips, trips);
+        assert!(out[0] < limit && limit - out[0] < 1e-9, "{} of {limit}", out[0]);
+    }
+}
+
+/// Each zone is seen or not by its own channels, and the choice is that of those which are not.
+#[test]
+fn a_message_that_shows_some_zones() {
+    let speeds = [4.0, 3.0, 2.0, 1.0];
+    for length in 0..=9 {
+        // those that are seen are far away
+        let aux = vec![9.0; length];
+        let unseen = (0..4).filter(|zone| length < 2 * zone + 2);
+        for count in 0..=4 {
+            let least = unseen.clone().filter(|zone| *zone < count).map(|zone| speeds[zone]).reduce(f64::min);
+            let at =
+                |absent_camera, x| stepped(&FuseConfig { absent_camera, ..slowed(count, speeds) }, &[0.0; 2], &aux, x);
+            let step = least.unwrap_or(9.0);
+            assert_eq!(at(AbsentCamera::Slow, step), Ok(0), "{length} of {count}");
+            let trips = if least.is_some() { CONTACT } else { 0 };
+            assert_eq!(at(AbsentCamera::Slow, step.next_up()), Ok(trips), "{length} of {count}");
+            assert_eq!(at(AbsentCamera::NoZone, 9.0), Ok(0), "{length} of {count}");
+        }
+        // those that are seen are at the arm
+        let near = vec![0.0; length];
+        let at = |absent_camera| stepped(&FuseConfig { absent_camera, ..slowed(4, speeds) }, &[0.0; 2], &near, 5.0);
+        assert_eq!(at(AbsentCamera::Slow), Ok(CONTACT));
+        assert_eq!(at(AbsentCamera::NoZone), Ok(if length < 2 { 0 } else { CONTACT }), "{length}");
+    }
+}
+
+/// 13 from the distance of any counted zone that is seen and from the step of any that the arm is inside, whatever the others decide.
+#[test]
+fn what_is_computed_of_each_zone() {
+    let computed = Err(Refusal { number: 13, place: 0 });
+    for (zone, count) in (0..4).flat_map(|zone| (0..=4).map(move |count| (zone, count))) {
+        let due = |other| if zone < count { computed } else { other };
+        for set in [0b0000, 0b1111] {
+            let others = if set & ((1 << count) - 1) != 0 { Ok(CONTACT) } else { Ok(0) };
+            let c = slowed(count, [1.0; 4]);
+            let mut aux = message(set);
+            aux[2 * zone] = 1e200;
+            assert_eq!(stepped(&c, &[0.0; 2], &aux, 5.0), due(others), "a distance, {zone} of {count}");
+            assert_eq!(stepped(&FuseConfig { armed: 0, ..c }, &[0.0; 2], &aux, 5.0), Ok(0), "not armed");
+        }
+        let mut fast = FuseConfig { dt: 1f64.next_up(), ..slowed(count, [1.0; 4]) };
+        fast.zones.list[zone].v_max = f64::MAX;
+        let alone = 1 << zone;
+        let rest = if count > (zone == 0) as usize { Ok(CONTACT) } else { Ok(0) };
+        for (set, want) in [(0b1111, due(rest)), (alone, due(Ok(0))), (0b1111 & !alone, rest), (0, Ok(0))] {
+            assert_eq!(
+                stepped(&fast, &[0.0; 2], &message(set), 5.0),
+                want,
+                "a step, {zone} of {count}, inside {set:04b}"
+            );
+        }
+        let short = stepped(&fast, &[0.0; 2], &[], 5.0);
+        assert_eq!(short, due(if count == 0 { Ok(0) } else { Ok(CONTACT) }), "none is seen");
+        let none = FuseConfig { absent_camera: AbsentCamera::NoZone, ..fast };
+        assert_eq!(stepped(&none, &[0.0; 2], &[], 5.0), Ok(0), "the old choice");
+    }
+}
+
+/// What stands past the count is neither judged nor computed.
+#[test]
+fn zones_past_the_count() {
+    let garbage = ContactLimit { radius: f64::NAN, v_max: -1.0, a0: 255, a1: 255 };
+    for count in 0..=4 {
+        let mut c = slowed(count, [2.0; 4]);
+        c.zones.list[count..].fill(garbage);
+        assert_eq!(envelope::judge(&c), None);
+        assert_eq!(stepped(&c, &[0.0; 2], &message(0b1111), OVER), Ok(if count == 0 { 0 } else { CONTACT }));
+        assert_eq!(stepped(&c, &[0.0; 2], &message(0), OVER), Ok(0));
+    }
+}
+
+/// The count and the channels as C passes them: a count above four is 1 at any width, and channels are judged by 255 for those that are
+/// counted and held, each pair by itself.
+#[test]
+fn zones_as_counts() {
+    let good = |contact: u64, aux_count: u64| {
+        let mut c = [0; 33];
+        (c[0], c[1], c[5], c[8], c[21]) = (1, 1, contact, 1, aux_count);
+        for (place, channel) in PLACES.iter().flatten().zip(0..) {
+            c[*place] = channel;
+        }
+        c
+    };
+    const PLACES: [[usize; 2]; 4] = [[6, 7], [27, 28], [29, 30], [31, 32]];
+    for (contact, due) in [(0, 0), (1, 0), (4, 0), (5, 1), (255, 1), (256, 1), ((1 << 32) + 1, 1), (u64::MAX, 1)] {
+        assert_eq!(boundary::counts(&good(contact, 8)), due);
+    }
+    for (zone, [a0, a1]) in PLACES.into_iter().enumerate() {
+        for contact in [0, 1, 2, 3, 4, 5, u64::MAX] {
+            let counted = zone < contact.min(4) as usize;
+            let past = (contact > 4) as u8;
+            let due = |number: u8| if counted && past == 0 { number } else { past };
+            let with = |pair: (u64, u64), aux_count: u64| {
+                let mut c = good(contact, aux_count);
+                (c[a0], c[a1]) = pair;
+                boundary::counts(&c)
+            };
+            let misfit = if counted { 255 } else { past };
+            assert_eq!(with((256, 300), 301), misfit, "zone {zone} of {contact}");
+            assert_eq!(with((300, 256), 301), misfit, "zone {zone} of {contact}");
+            assert_eq!(with((255, 256), 257), misfit, "zone {zone} of {contact}");
+            assert_eq!(with((255, 254), 257), past, "zone {zone} of {contact}");
+            assert_eq!(with((300, 300), 301), due(4), "equal channels, zone {zone} of {contact}");
+            assert_eq!(with((256, 300), 300), due(4), "past the aux count, zone {zone} of {contact}");
+            assert_eq!(with((300, 256), 300), due(4), "past the aux count, zone {zone} of {contact}");
+        }
+    }
+    for (first, second) in [(0, 1), (0, 2), (0, 3), (1, 2), (1, 3), (2, 3)] {
+        for contact in 0..=4 {
+            let with = |one: [u64; 2], two: [u64; 2]| {
+                let mut c = good(contact, 301);
+                (c[PLACES[first][0]], c[PLACES[first][1]]) = (one[0], one[1]);
+                (c[PLACES[second][0]], c[PLACES[second][1]]) = (two[0], two[1]);
+                boundary::counts(&c)
+            };
+            let (either, both) = ((first as u64) < contact, (second as u64) < contact);
+            assert_eq!(with([9, 10], [9, 10]), if both { 4 } else { 0 });
+            assert_eq!(with([9, 10], [10, 9]), 0);
+            assert_eq!(with([256, 300], [256, 300]), if either { 255 } else { 0 }, "no field holds a repeated pair");
+            assert_eq!(
+                with([9, 9], [256, 300]),
+                if both {
+                    255
+                } else if either {
+                    4
+                } else {
+                    0
+                }
+            );
         }
     }
 }

@@ -1,12 +1,14 @@
 //! Module 5.
 
 use model::{
-    tier0 as rule, AbsentCamera, ClampMode, ContactLimit, FuseConfig, Refusal, Tier0Out, CONTACT, MAX_D, REACH, SPEED,
-    WORKSPACE,
+    tier0 as rule, AbsentCamera, ClampMode, ContactLimit, FuseConfig, Refusal, Tier0Out, Zones, CONTACT, MAX_D,
+    MAX_ZONES, REACH, SPEED, WORKSPACE,
 };
 
 use crate::{
-    input::{at_least, chunk, config, config_parts_with_choice, lay_walls, narrower_config, ChunkIn},
+    input::{
+        at_least, chunk, config, config_parts_with_choice, config_parts_with_zones, lay_walls, narrower_config, ChunkIn,
+    },
     number::{at_limit, filler, Field},
     part::{Part, CHOICES},
     port::{CheckAction, CheckChunk, Port},
@@ -72,7 +74,7 @@ fn lay_limits(rng: &mut Rng, cfg: &mut FuseConfig, pos: &[f64], aux: &[f64], row
 
 /// The zone's radius on the distance to its centre, or its speed on a step.
 fn lay_zone(rng: &mut Rng, cfg: &mut FuseConfig, pos: &[f64], aux: &[f64], step: f64) {
-    let Some(zone) = &mut cfg.contact else {
+    let Some(zone) = cfg.zones.counted_mut().first_mut() else {
         return;
     };
     if let (true, Some(x), Some(y)) = (pos.len() >= 2, aux.get(zone.a0 as usize), aux.get(zone.a1 as usize)) {
@@ -152,7 +154,7 @@ fn lay_camera(rng: &mut Rng, cfg: &mut FuseConfig, pos: &mut Vec<f64>, aux: &mut
     let enough = a0.max(a1) as usize + 1;
     let (radius, v_max) = (2.0 * field.above(rng), field.above(rng));
     cfg.aux_count = enough + rng.below(3);
-    cfg.contact = (!rng.one_in(8)).then_some(ContactLimit { radius, v_max, a0, a1 });
+    cfg.zones = if rng.one_in(8) { Zones::NONE } else { Zones::of(&[ContactLimit { radius, v_max, a0, a1 }]) };
     cfg.armed = if rng.one_in(6) { cfg.armed & !CONTACT } else { cfg.armed | CONTACT };
     let length = if rng.one_in(8) { enough + rng.below(9) } else { rng.within(0, enough) };
     *aux = field.numbers(rng, length);
@@ -164,7 +166,10 @@ fn lay_camera(rng: &mut Rng, cfg: &mut FuseConfig, pos: &mut Vec<f64>, aux: &mut
     match rng.below(12) {
         0 => [a0, a1].iter().for_each(|a| aux.iter_mut().skip(*a as usize).take(1).for_each(|x| *x = 1e200)),
         1 => pos.iter_mut().skip(cfg.pos_dim).for_each(|x| *x = 1e200),
-        2 | 3 => (cfg.contact, cfg.dt) = (cfg.contact.map(|z| ContactLimit { v_max: f64::MAX, ..z }), 2.0),
+        2 | 3 => {
+            cfg.zones.counted_mut().iter_mut().for_each(|z| z.v_max = f64::MAX);
+            cfg.dt = 2.0;
+        }
         4 if !aux.is_empty() => {
             let at = rng.below(aux.len());
             aux[at] = f64::NAN;
@@ -179,7 +184,8 @@ fn lay_slow_step(rng: &mut Rng, cfg: &mut FuseConfig, pos: &[f64], aux: &[f64], 
         lay_zone(rng, cfg, pos, aux, step);
     }
     let speed = at_limit(rng, step / cfg.dt);
-    if let Some(zone) = cfg.contact.as_mut().filter(|z| z.v_max < f64::MAX && 0.0 < speed && speed < f64::MAX) {
+    let zone = cfg.zones.counted_mut().first_mut();
+    if let Some(zone) = zone.filter(|z| z.v_max < f64::MAX && 0.0 < speed && speed < f64::MAX) {
         if !rng.one_in(3) {
             zone.v_max = speed;
         }
@@ -198,6 +204,105 @@ fn generate_short_camera(rng: &mut Rng) -> CheckChunkIn {
     i
 }
 
+/// Pairs that four zones are given, from the first on: apart, on few channels in either order, and the last channels that there are.
+const PAIRS: [[(u8, u8); MAX_ZONES]; 5] = [
+    [(0, 1), (2, 3), (4, 5), (6, 7)],
+    [(6, 7), (4, 5), (2, 3), (0, 1)],
+    [(0, 1), (1, 0), (0, 2), (2, 1)],
+    [(1, 0), (2, 0), (0, 1), (1, 2)],
+    [(3, 0), (0, 3), (1, 2), (254, 255)],
+];
+
+/// What may stand past the count: nothing, what would be refused, another's pair, zones that would stop the arm, and any others.
+fn past_the_count(rng: &mut Rng, zones: &mut Zones) {
+    let (first, odd) = (zones.list[0], rng.below(6));
+    let past = zones.count.min(MAX_ZONES)..;
+    for zone in &mut zones.list[past] {
+        *zone = match odd {
+            0 => ContactLimit::UNUSED,
+            1 => ContactLimit { radius: f64::NAN, v_max: -1.0, a0: 255, a1: 255 },
+            2 => ContactLimit { v_max: f64::INFINITY, ..*zone },
+            3 => first,
+            4 => ContactLimit { radius: f64::MAX, v_max: 5e-324, ..*zone },
+            _ => *zone,
+        };
+    }
+}
+
+/// Any count of zones, seldom five, under either choice, mostly armed; a message that is long enough for all of them or ends before; the arm
+/// inside some of them, of three radii one about the distance. Of twelve inputs one has a centre too far to measure, one a zone whose step
+/// is not finite, one a pair twice and one a position for an arm of one coordinate.
+fn lay_zones(rng: &mut Rng, cfg: &mut FuseConfig, pos: &mut Vec<f64>, aux: &mut Vec<f64>) {
+    let field = Field(1.0);
+    let pairs = rng.pick(&PAIRS);
+    let zone = |(a0, a1)| ContactLimit { radius: 2.0 * field.above(rng), v_max: field.above(rng), a0, a1 };
+    cfg.zones = Zones::of(&pairs.map(zone));
+    cfg.zones.count = rng.pick(&[0, 1, 1, 1, 2, 2, 2, 3, 3, 3, 3, 4, 4, 4, 4, 4]);
+    cfg.absent_camera = rng.pick(&CHOICES);
+    cfg.armed = if rng.one_in(8) { cfg.armed & !CONTACT } else { cfg.armed | CONTACT };
+    let enough = pairs.iter().map(|(a0, a1)| a0.max(a1)).max().map_or(0, |a| *a as usize + 1);
+    cfg.aux_count = enough + rng.below(3);
+    *aux = field.numbers(rng, enough);
+    for (a0, a1) in pairs {
+        if let (false, &[x, y, ..]) = (rng.one_in(3), &pos[..]) {
+            (aux[a0 as usize], aux[a1 as usize]) = (x + field.number(rng) / 8.0, y);
+        }
+    }
+    for z in &mut cfg.zones.list {
+        let away = match pos[..] {
+            [x, y, ..] => oracle::rust::fmath::dist(&[x, y], &[aux[z.a0 as usize], aux[z.a1 as usize]], 2),
+            _ => 1.0,
+        };
+        z.radius = if rng.one_in(3) { at_limit(rng, away).max(0.0) } else { z.radius };
+    }
+    if rng.one_in(3) {
+        aux.truncate(rng.below(enough.min(9) + 1));
+    }
+    lay_odd_zones(rng, cfg, pos, aux);
+}
+
+/// The seldom ones.
+fn lay_odd_zones(rng: &mut Rng, cfg: &mut FuseConfig, pos: &mut Vec<f64>, aux: &mut [f64]) {
+    let (one, other) = (rng.below(MAX_ZONES), rng.below(MAX_ZONES));
+    match rng.below(12) {
+        0 => aux.iter_mut().skip(cfg.zones.list[one].a0 as usize).take(1).for_each(|x| *x = 1e200),
+        1 => (cfg.zones.list[one].v_max, cfg.dt) = (f64::MAX, 2.0),
+        2 => (cfg.zones.list[one].a0, cfg.zones.list[one].a1) = (cfg.zones.list[other].a0, cfg.zones.list[other].a1),
+        3 => {
+            cfg.pos_dim = 1;
+            let lent = rng.pick(&[1, 1, 2]);
+            pos.resize(lent, 0.0);
+        }
+        4 if rng.one_in(2) => cfg.zones.count = 5,
+        _ => (),
+    }
+    past_the_count(rng, &mut cfg.zones);
+}
+
+/// The speeds of some zones laid on a step, on twice or on half of it.
+fn lay_slow_steps(rng: &mut Rng, cfg: &mut FuseConfig, step: f64) {
+    let laid = rng.below(1 << MAX_ZONES);
+    let dt = cfg.dt;
+    for (k, zone) in cfg.zones.counted_mut().iter_mut().enumerate() {
+        let speed = at_limit(rng, step / dt);
+        if laid >> k & 1 == 1 && zone.v_max < f64::MAX && 0.0 < speed && speed < f64::MAX {
+            zone.v_max = rng.pick(&[speed, speed, 2.0 * speed, speed / 2.0]);
+        }
+    }
+}
+
+/// A chunk with several zones.
+fn generate_several_zones(rng: &mut Rng) -> CheckChunkIn {
+    let mut i = generate(rng);
+    lay_zones(rng, &mut i.cfg, &mut i.pos, &mut i.aux);
+    let (d, nb) = (i.cfg.dim, i.cfg.dim.min(i.cfg.pos_dim));
+    if i.ch.dim as usize == d && !i.ch.data.is_empty() {
+        let step = oracle::rust::fmath::dist(&i.ch.data, &i.pos, nb);
+        lay_slow_steps(rng, &mut i.cfg, step);
+    }
+    i
+}
+
 fn parts(i: &mut CheckChunkIn) -> Vec<Part<'_>> {
     let mut parts = parts_with_choice(i);
     parts.pop();
@@ -205,9 +310,17 @@ fn parts(i: &mut CheckChunkIn) -> Vec<Part<'_>> {
 }
 
 fn parts_with_choice(i: &mut CheckChunkIn) -> Vec<Part<'_>> {
+    parts_and(config_parts_with_choice, i)
+}
+
+fn parts_with_zones(i: &mut CheckChunkIn) -> Vec<Part<'_>> {
+    parts_and(config_parts_with_zones, i)
+}
+
+fn parts_and(config: fn(&mut FuseConfig) -> Vec<Part<'_>>, i: &mut CheckChunkIn) -> Vec<Part<'_>> {
     let mut parts =
         vec![Part::Slice(&mut i.pos), Part::Slice(&mut i.aux), Part::Chunk(&mut i.ch), Part::Slice(&mut i.out)];
-    parts.extend(config_parts_with_choice(&mut i.cfg));
+    parts.extend(config(&mut i.cfg));
     parts
 }
 
@@ -256,9 +369,19 @@ pub fn check_chunk_with_a_short_camera(port: &Port) -> Entry<CheckChunkIn> {
     }
 }
 
-/// Whether the Rust has the configuration's choice.
+/// The same entry, with any count of zones, under either choice. The Rust is asked with one zone or none, under the old choice.
+pub fn check_chunk_with_several_zones(port: &Port) -> Entry<CheckChunkIn> {
+    Entry {
+        name: "check_chunk with several zones",
+        generate: generate_several_zones,
+        parts: parts_with_zones,
+        ..check_chunk_with_a_short_camera(port)
+    }
+}
+
+/// Whether the Rust has the configuration's choice and its zones.
 fn old(cfg: &FuseConfig) -> bool {
-    cfg.absent_camera == AbsentCamera::NoZone
+    cfg.absent_camera == AbsentCamera::NoZone && cfg.zones.count <= 1
 }
 
 #[derive(Clone, Debug)]
@@ -301,6 +424,15 @@ fn generate_action_with_a_short_camera(rng: &mut Rng) -> CheckActionIn {
     i
 }
 
+/// An action with several zones.
+fn generate_action_with_several_zones(rng: &mut Rng) -> CheckActionIn {
+    let mut i = generate_action(rng);
+    lay_zones(rng, &mut i.cfg, &mut i.pos, &mut i.aux);
+    let step = oracle::rust::fmath::dist(&i.a, &i.prev, i.cfg.dim);
+    lay_slow_steps(rng, &mut i.cfg, step);
+    i
+}
+
 fn action_parts(i: &mut CheckActionIn) -> Vec<Part<'_>> {
     let mut parts = action_parts_with_choice(i);
     parts.pop();
@@ -308,6 +440,14 @@ fn action_parts(i: &mut CheckActionIn) -> Vec<Part<'_>> {
 }
 
 fn action_parts_with_choice(i: &mut CheckActionIn) -> Vec<Part<'_>> {
+    action_parts_and(config_parts_with_choice, i)
+}
+
+fn action_parts_with_zones(i: &mut CheckActionIn) -> Vec<Part<'_>> {
+    action_parts_and(config_parts_with_zones, i)
+}
+
+fn action_parts_and(config: fn(&mut FuseConfig) -> Vec<Part<'_>>, i: &mut CheckActionIn) -> Vec<Part<'_>> {
     let mut parts = vec![
         Part::Slice(&mut i.pos),
         Part::Slice(&mut i.aux),
@@ -315,7 +455,7 @@ fn action_parts_with_choice(i: &mut CheckActionIn) -> Vec<Part<'_>> {
         Part::Slice(&mut i.a),
         Part::Slice(&mut i.out),
     ];
-    parts.extend(config_parts_with_choice(&mut i.cfg));
+    parts.extend(config(&mut i.cfg));
     parts
 }
 
@@ -356,5 +496,15 @@ pub fn check_action_with_a_short_camera(port: &Port) -> Entry<CheckActionIn> {
         parts: action_parts_with_choice,
         rust: Box::new(move |i| if old(&i.cfg) { rust(i) } else { None }),
         ..whole
+    }
+}
+
+/// The same entry, with any count of zones, under either choice.
+pub fn check_action_with_several_zones(port: &Port) -> Entry<CheckActionIn> {
+    Entry {
+        name: "check_action with several zones",
+        generate: generate_action_with_several_zones,
+        parts: action_parts_with_zones,
+        ..check_action_with_a_short_camera(port)
     }
 }

@@ -164,15 +164,17 @@ pub fn brake(cfg: &FuseConfig) -> rust::BrakeModel {
     }
 }
 
-/// The Rust has no zone where the camera does not show it, and no choice: a configuration that says anything else is not carried over, by
-/// `config` or by `compile`, so that no run against the Rust is under the new choice.
+/// The Rust has one zone or none, none where the camera does not show it, and no choice: a configuration that says anything else is not
+/// carried over, by `config` or by `compile`, so that no run against the Rust is under the new choice or has several zones.
 pub fn contact(cfg: &FuseConfig) -> Option<rust::ContactLimit> {
     assert!(
         cfg.absent_camera == AbsentCamera::NoZone,
         "the Rust has AbsentCamera::NoZone alone, and is asked under {:?}",
         cfg.absent_camera
     );
-    cfg.contact.map(|z| rust::ContactLimit { radius: z.radius, v_max: z.v_max, aux_center: [z.a0, z.a1] })
+    assert!(cfg.zones.count <= 1, "the Rust has one zone or none, and is asked with {}", cfg.zones.count);
+    let zone = cfg.zones.counted().first();
+    zone.map(|z| rust::ContactLimit { radius: z.radius, v_max: z.v_max, aux_center: [z.a0, z.a1] })
 }
 
 pub fn clamp_mode(cfg: &FuseConfig) -> rust::ClampMode {

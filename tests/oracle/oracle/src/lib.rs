@@ -274,7 +274,7 @@ pub fn time_bin(t: u32, horizon_ticks: u32) -> usize {
 mod tests {
     use std::panic::catch_unwind;
 
-    use model::AbsentCamera;
+    use model::{AbsentCamera, ContactLimit, Zones};
 
     use super::*;
 
@@ -296,6 +296,21 @@ mod tests {
         for cfg in [FuseConfig::PLAIN, FuseConfig::WHOLE, FuseConfig { armed: 63, ..FuseConfig::WHOLE }] {
             assert_eq!(carried(FuseConfig { absent_camera: AbsentCamera::NoZone, ..cfg }), [true; 2]);
             assert_eq!(carried(FuseConfig { absent_camera: AbsentCamera::Slow, ..cfg }), [false; 2]);
+        }
+    }
+
+    /// Under either choice, whether or not it is armed, and whatever stands past the count.
+    #[test]
+    fn a_configuration_with_several_zones_is_not_carried_over() {
+        for (armed, absent_camera) in [(0, AbsentCamera::NoZone), (63, AbsentCamera::NoZone), (63, AbsentCamera::Slow)]
+        {
+            let mut cfg = FuseConfig { armed, absent_camera, aux_count: 8, ..FuseConfig::WHOLE };
+            let pairs = [(0, 1), (2, 3), (4, 5), (6, 7)];
+            cfg.zones = Zones::of(&pairs.map(|(a0, a1)| ContactLimit { radius: 1.0, v_max: 1.0, a0, a1 }));
+            for count in 0..=5 {
+                cfg.zones.count = count;
+                assert_eq!(carried(cfg), [absent_camera == AbsentCamera::NoZone && count <= 1; 2], "{count} zones");
+            }
         }
     }
 
