@@ -14,6 +14,10 @@ SETTINGS = [
     Setting('zone_speed', 'number', 'the greatest speed inside it, m/s: above 0', '0.5'),
     Setting('channel0', 'channel', 'which camera number is the first coordinate of its centre: 0 up, below channels', '0'),
     Setting('channel1', 'channel', 'which is the second: another one', '1'),
+    Setting('zone1', 'zone', 'a further zone: its radius, speed and two channels, with commas, or none', 'none'),
+    Setting('zone2', 'zone', 'another, likewise', 'none'),
+    Setting('zone3', 'zone', 'another, likewise', 'none'),
+    Setting('zone4', 'zone', 'another, likewise; with zone and zone1 to zone3 it is a fifth, and an arm may have four', 'none'),
     Setting('channels', 'count', 'how many numbers the camera is declared to send', '2'),
     Setting('camera', 'list', 'the numbers that it sends, at most 8, m', '0,0'),
     Setting('absent_camera', 'choice', 'what a zone counts as whose camera is silent: slow or no-zone', 'slow'),
@@ -31,8 +35,9 @@ NAMES = [setting.name for setting in SETTINGS]
 TRIPS = {'workspace': 1, 'speed': 2, 'accel': 4, 'jerk': 8, 'reach': 16, 'contact': 32}
 # a refusal in the words of these settings
 REFUSALS = answers.REFUSALS | {
+    1: 'there are over four zones',
     2: 'a number is not finite or out of its range, or a low wall is above its high wall (tools/card try has the ranges)',
-    4: 'channel0 and channel1 are the same, or one of them is not below channels',
+    4: "a zone's two channels are the same, one of them is not below channels, or two zones have the same channels in the same order",
     12: 'a number of p, row or camera is not finite',
 }
 # a line of the program: a refusal's number, or 0 with trips, moved coordinates, peak speed, eight numbers of the row,
@@ -43,10 +48,11 @@ Belief = namedtuple('Belief', 'said settings shows vary')
 BELIEFS = {
     'contact': Belief('An empty contact box means slow everywhere.', {},
                       'no zone is configured, and a step as long as v_max allows passes, whatever the camera sees',
-                      ['zone=yes', 'zone=yes camera=3,3', 'zone=yes camera=3', 'zone=yes camera=3 absent_camera=no-zone']),
+                      ['zone=yes', 'zone=yes camera=3,3', 'zone=yes camera=3', 'zone=yes camera=3 absent_camera=no-zone',
+                       'zone=yes zone1=2,0.25,2,3 channels=4 camera=0,0,0,0']),
     'channels': Belief('Two arms may share camera channels.', {'zone': 'yes', 'channel0': '1', 'channel1': '1', 'armed': 'none'},
                        'one channel for both coordinates of a zone is refused, armed or not; another arm the guard does not see',
-                       ['channel1=0', 'channel1=2', 'channel1=2 channels=3', 'zone=no']),
+                       ['channel1=0', 'channel1=2', 'channel1=2 channels=3', 'zone=no', 'channel0=0 zone1=1,0.5,0,1', 'channel0=0 zone1=1,0.5,1,0']),
     'limit': Belief('Touching a limit trips it.', {},
                     'the step is as long as v_max allows and ends on the wall, and nothing trips',
                     ['row=1.001,0', 'p=-0.5,0 row=0.75,0', 'v_max=0.999']),
@@ -98,12 +104,26 @@ def choice(name, value):
     return codes[value]
 
 
+Zone = namedtuple('Zone', 'radius speed channel0 channel1')
+
+
+def zone(name, value):
+    """A further zone, None where there is none, or ValueError."""
+    if value == 'none':
+        return None
+    items = [item.strip() for item in value.split(',')]
+    if len(items) != 4:
+        raise ValueError(f'{name} is none, or a radius, a speed and two channels with commas between them: {text.shown(value)}')
+    return Zone(*(text.number(name, item) for item in items[:2]), *(text.count(name, item, 255) for item in items[2:]))
+
+
 READ = {
     'number': text.number,
     'count': text.count,
     'channel': lambda name, value: text.count(name, value, 255),
     'flag': flag,
     'choice': choice,
+    'zone': zone,
     'trips': bits,
     'pair': lambda name, value: numbers(name, value, 2, 2),
     'list': lambda name, value: numbers(name, value, 0, 8),
@@ -133,17 +153,27 @@ def chosen(belief, words):
     return typed, read
 
 
+def zones(s):
+    """The zones that are configured, in order."""
+    first = Zone(s['radius'], s['zone_speed'], s['channel0'], s['channel1']) if s['zone'] else None
+    return [found for found in (first, s['zone1'], s['zone2'], s['zone3'], s['zone4']) if found]
+
+
 def record(s):
     """The record of crates/tries: a configuration in the places of include/lictor.h, then the position, the camera, the row before and the row."""
     eight = [0.0] * 8
-    config = [s['dt'], s['v_max'], 1.0, 1.0, s['reach_max'], 0.0] + [2.0, 1.0, 0.5] + [s['radius'], s['zone_speed']]
+    count = len(zones(s))
+    first, *further = (zones(s) + [Zone(0.0, 0.0, 0, 0)] * 4)[:4]
+    config = [s['dt'], s['v_max'], 1.0, 1.0, s['reach_max'], 0.0] + [2.0, 1.0, 0.5] + [first.radius, first.speed]
     config += eight + [1.0] * 8 + (s['lo'] + eight)[:8] + (s['hi'] + eight)[:8] + [0.0]
+    config += [number for found in further for number in (found.radius, found.speed)]
     project, second_order = 1, 0
-    counts = [2, 2, 0, project, second_order, s['zone'], s['channel0'], s['channel1'], 2, 1, 1, 1] + [0] * 8
+    counts = [2, 2, 0, project, second_order, count, first.channel0, first.channel1, 2, 1, 1, 1] + [0] * 8
     counts += [s['armed'], s['channels'], 0, 0, 0, 1, s['absent_camera']]
+    counts += [channel for found in further for channel in (found.channel0, found.channel1)]
     place, row = (s['p'] + eight)[:8], (s['row'] + eight)[:8]
     camera = (s['camera'] + eight)[:8]
-    return struct.pack('<44d27QQ8dQ8d8d8d', *config, *counts, 2, *place, len(s['camera']), *camera, *place, *row)
+    return struct.pack('<50d33QQ8dQ8d8d8d', *config, *counts, 2, *place, len(s['camera']), *camera, *place, *row)
 
 
 def walls(low, high):
@@ -169,12 +199,16 @@ def told(line):
 
 
 def silent(s):
-    """What is to be said where an armed zone is not seen: why, and what it counts as."""
-    missing = [s[name] for name in ('channel0', 'channel1') if s[name] >= len(s['camera'])]
-    if not s['zone'] or not s['armed'] & TRIPS['contact'] or not missing:
+    """What is to be said of each armed zone that is not seen: why, and what it counts as."""
+    if not s['armed'] & TRIPS['contact']:
         return []
-    counts_as = 'there is no zone (absent_camera=no-zone)' if s['absent_camera'] else 'the arm counts as inside the zone (absent_camera=slow)'
-    return [f'The camera sends no number for channel {" or ".join(map(str, missing))}: {counts_as}.']
+    lines = []
+    for found in zones(s):
+        missing = [channel for channel in (found.channel0, found.channel1) if channel >= len(s['camera'])]
+        zone_named = f'the zone of channels {found.channel0} and {found.channel1}' if len(zones(s)) > 1 else 'the zone'
+        counts_as = f'{zone_named} does not count (absent_camera=no-zone)' if s['absent_camera'] else f'the arm counts as inside {zone_named} (absent_camera=slow)'
+        lines += [f'The camera sends no number for channel {" or ".join(map(str, missing))}: {counts_as}.'] if missing else []
+    return lines
 
 
 def run(name, words):
