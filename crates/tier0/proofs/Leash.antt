@@ -4,6 +4,7 @@ use mathlib.Core.Path.{_≡_, refl, sym, ap, _∙_}
 use mathlib.Core.Bool.{Bool, true, false, not, _&&_, _||_, false≢true, and-false}
 use mathlib.Core.Logic.{_⊎_, inl, inr, ⊎-elim}
 use mathlib.Core.List.{List, [], _∷_, _++_}
+use native.Mathlib.Omega.{arith}
 use borrow.Author.Tests.{not-false}
 use lib.ListN.{length, replicate}
 use lib.Ieee.{Float, Format, lt, le}
@@ -37,7 +38,7 @@ use Rattle.tier0.specs.Rule.{SPEED, CONTACT, arms, Slow, clear, zoneIn, 
 use Rattle.tier0.specs.Chunk.{someLonger, checkChunk}
 use Rattle.tier0.specs.Refusals.{answerAt}
 use Rattle.tier0.specs.Of.{checksOf, lentToAction, actionRuling, actionRefusal, actionAnswer, lentToChunk, chunkRuling, chunkRefusal, chunkAnswer}
-use Rattle.tier0.specs.Promises.{accepts, raised, beforeFirst, zoneFound, insideAt, leashArmed, leashNow, LeashTold, HasZonesOf, LeashNotLonger}
+use Rattle.tier0.specs.Promises.{accepts, raised, beforeFirst, zoneFound, insideAt, leashArmed, leashNow, LeashTold, HasZonesOf, MoreAtTheEnd, LeashNotLonger}
 use Rattle.tier0.proofs.Slowest.{Firm, OfLesser, inside-some, all-firm, each-firm, all-tested, is-one, step-longer, some-step-longer}
 use Rattle.tier0.proofs.Promises.{by-place, empty-place, chunk-raised, action-raised}
 use Rattle.tier0.proofs.Walled.{from-rule}
@@ -233,6 +234,9 @@ module _ (f : Format) (c : FuseConfig) (t : Tables) (p aux : List Float) where
       ∙ tested f (checksOf f c) p aux (action-taken prev a room (ap accepts e) .zones-sound) (λ (x : Float). lt x (dist f a prev (c .dim) .value)) (step-longer (dist f a prev (c .dim) .value))
 
 -- ---- more zones
+
+pub more-at-the-end : MoreAtTheEnd
+more-at-the-end z w more same k l radius speed i j e = record { index = k; within = omega arith; holds = refl; such = same k l ∙ e }
 
 module _ (f : Format) (s d : Checks) (p aux : List Float) (speed : arms d SPEED ≡ arms s SPEED) (contact : arms d CONTACT ≡ arms s CONTACT) (most : d .«step_max» ≡ s .«step_max»)
     (same : (k : ℕ) → k < counted (s .zones) → zoneFound f s p aux k .inside ≡ true → Among (λ (m : ℕ). true) (counted (d .zones)) (λ (m : ℕ). zoneFound f d p aux m ≡ zoneFound f s p aux k)) (of-s : LeashTold f s p aux) (of-d : LeashTold f d p aux) where

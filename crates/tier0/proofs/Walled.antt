@@ -1,4 +1,4 @@
--- What the masks of an accepted answer say. They are those of the rule, a bit of clamped_dims is a row that goes out otherwise than it came, and a coordinate that a
+-- What the masks of an accepted answer say, and how its rows go out: moved by the leash. The masks are those of the rule, a bit of clamped_dims is a row that goes out otherwise than it came, and a coordinate that a
 -- wall moved is another number afterwards.
 use Prim.Native.Nat.{ℕ, zero, suc, _+_, _*_, _≤_, _<_}
 use mathlib.Core.Path.{_≡_, refl, sym, ap, _∙_}
@@ -43,17 +43,13 @@ use Rattle.tier0.specs.Rule.{WORKSPACE, SPEED, arms, boxDims, Slow, slow
 use Rattle.tier0.specs.Chunk.{rawRow, rowBefore, putRow, nextRow, runRows, projectedRows, rowsMasks, checkChunk}
 use Rattle.tier0.specs.Refusals.{answerAt}
 use Rattle.tier0.specs.Of.{checksOf, lentToAction, actionRuling, actionRefusal, actionAnswer, actionOut, lentToChunk, chunkRuling, chunkRefusal, chunkAnswer, chunkOut}
-use Rattle.tier0.specs.Promises.{tripsIn, zoneNow, beforeFirst, zoneHere, movedRow, ChunkWalls, ActionWalls}
+use Rattle.tier0.specs.Promises.{tripsIn, accepts, zoneNow, beforeFirst, zoneHere, movedRow, ChunkWalls, ActionWalls}
 use Rattle.tier0.proofs.Refused as action
 use Rattle.tier0.proofs.ChunkRefused as chunk
 use Rattle.tier0.proofs.Rows.{length-put, before-first, before-later}
 use Rattle.tier0.proofs.Promises.{row-at, below-rows}
 
 -- ---- an accepted answer is the rule's
-
-abbrev isPassed : Tier0Out → Bool
-isPassed (Passed trips dims speed walls) = true
-isPassed (Refused r) = false
 
 abbrev dimsIn : Tier0Out → ℕ
 dimsIn (Passed trips dims speed walls) = dims
@@ -72,7 +68,7 @@ pub record FromRule (n : ℕ) (j : Judgement) (trips dims : ℕ) (walls : WallMa
 
 pub from-rule : (n : ℕ) (j : Judgement) (trips dims : ℕ) (speed : Float) (walls : WallMasks) → answerAt n j ≡ Passed trips dims speed walls → FromRule n j trips dims walls
 from-rule zero j trips dims speed walls e = record { accepted = refl; same-trips = sym (ap tripsIn e); same-dims = sym (ap dimsIn e); same-walls = sym (ap wallsIn e) }
-from-rule (suc n) j trips dims speed walls e = absurd (false≢true (ap isPassed e))
+from-rule (suc n) j trips dims speed walls e = absurd (false≢true (ap accepts e))
 
 -- ---- where rows are moved inside the box
 

@@ -34,7 +34,7 @@ use Rattle.tier0.proofs.Promises.{chunk-raised, action-raised, walls-to
 use Rattle.tier0.proofs.Walled.{chunk-walls, action-walls, chunk-moved, action-moved}
 use Rattle.tier0.proofs.Within.{chunk-workspace-touched, chunk-speed-touched, chunk-contact-touched, chunk-accel-touched, chunk-jerk-touched, chunk-reach-touched, chunk-touched, action-workspace-touched, action-speed-touched, action-contact-touched, action-reach-touched, action-touched}
 use Rattle.tier0.proofs.Alike.{ArmedAlike, armed-as-it-is, same-checks}
-use Rattle.tier0.proofs.Leash.{chunk-contact, action-contact, chunk-leash, action-leash, chunk-more-zones, action-more-zones}
+use Rattle.tier0.proofs.Leash.{chunk-contact, action-contact, chunk-leash, action-leash, more-at-the-end, chunk-more-zones, action-more-zones}
 
 -- ---- a zone that is seen
 
@@ -278,6 +278,7 @@ promised = record {
   unseen-is-inside = unseen-is-inside;
   unseen-as-empty = unseen-as-empty;
   no-zone-no-leash = no-zone-no-leash;
+  more-at-the-end = more-at-the-end;
   unarmed-action = unarmed-action;
   unarmed-chunk = unarmed-chunk;
 }

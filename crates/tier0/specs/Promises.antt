@@ -261,6 +261,10 @@ movedRow f s p aux isFirst prev a = do
 abbrev pub HasZonesOf : Zones → Zones → Type 0
 HasZonesOf w z = EachZone z (λ radius speed i j. Among (λ (m : ℕ). true) (counted w) (λ (m : ℕ). zoneAt w m ≡ Zone i j radius speed))
 
+-- and so is one that goes on where the other ends
+abbrev pub MoreAtTheEnd : Type 0
+MoreAtTheEnd = (z w : Zones) → counted z ≤ counted w → ((k : ℕ) → k < counted z → zoneAt w k ≡ zoneAt z k) → HasZonesOf w z
+
 -- where d has every zone of s, and s has a leash, so has d, and it is not longer
 pub record LeashNotLonger (f : Format) (s d : Checks) (p aux : List Float) : Type 0 where
   pub still-armed : leashArmed f s p aux ≡ true → leashArmed f d p aux ≡ true
@@ -493,5 +497,6 @@ pub record Promised : Type 0 where
   pub unseen-is-inside : UnseenIsInside
   pub unseen-as-empty : UnseenAsEmpty
   pub no-zone-no-leash : NoZoneNoLeash
+  pub more-at-the-end : MoreAtTheEnd
   pub unarmed-action : UnarmedAction
   pub unarmed-chunk : UnarmedChunk
