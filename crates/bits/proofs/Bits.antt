@@ -89,6 +89,12 @@ module _ (p : ℕ → Bool) where
 
 -- ---- words by their tests
 
+-- of tests that agree
+pub bits-same : (p q : ℕ → Bool) (n : ℕ) → ((j : ℕ) → j < n → p j ≡ q j) → bitsWhere p n ≡ bitsWhere q n
+unfolding bitsWhere
+bits-same p q zero e = refl
+bits-same p q (suc n) e = rw (bits-same p q n (λ j l. e j (omega arith)), e n (omega arith))
+
 -- no test holds: the word is 0
 pub bits-none : (p : ℕ → Bool) (n : ℕ) → ((j : ℕ) → j < n → p j ≡ false) → bitsWhere p n ≡ 0
 unfolding bitsWhere

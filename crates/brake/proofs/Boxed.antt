@@ -1,4 +1,4 @@
--- Each coordinate that a position kind's brake or hold writes lies in its box: the row is the position, which is finite, moved inside walls that an accepted
+-- Each coordinate that a position kind's brake or hold writes and that has a box lies in it: the row is the position, which is finite, moved inside walls that an accepted
 -- configuration has finite and in order.
 use Prim.Native.Nat.{ℕ, zero, suc, _<_}
 use mathlib.Core.Path.{_≡_, refl}
@@ -22,6 +22,7 @@ use Rattle.envelope.specs.declared.ActionKind.the-variants.{EePosition, EeDelta
 use Rattle.envelope.specs.declared.FuseConfig.{FuseConfig}
 use Rattle.envelope.proofs.Accepted.{accepted, dim-most, low-wall-finite, high-wall-finite, walls-ordered}
 use Rattle.workspace.specs.declared.WallMasks.{WallMasks}
+use Rattle.workspace.specs.Shape.{boxed}
 use Rattle.workspace.specs.Rule.{setpoint}
 use Rattle.workspace.proofs.Inside.{setpoint-inside}
 use Rattle.brake.specs.declared.Sent.the-variants.{Done}
@@ -48,8 +49,8 @@ module _ (c : FuseConfig) (tabs : Tables) (p l : List Float) (unfit : Bool) (pas
       let a = passes-at short (ltb (length l) (c .dim)) ((notFinite when unfit) ∷ []) w in
       passes-at notFinite unfit [] (a .1) .0
 
-  written-inside : someNotFinite p ≡ false → (j : ℕ) → j < c .dim → InBox c j (at (over (at (setpoint binary64 (wallsAt binary64 c) p (c .dim) .value)) l (c .dim)) j)
-  written-inside real j in-it =
+  written-inside : someNotFinite p ≡ false → (j : ℕ) → j < c .dim → boxed (c .shape) j ≡ true → InBox c j (at (over (at (setpoint binary64 (wallsAt binary64 c) p (c .dim) .value)) l (c .dim)) j)
+  written-inside real j in-it has =
       let fit = accepted binary64 c tabs (both-pass (configJudged binary64 c tabs) (rowLent c unfit (length l)) passed .0) in
       let few = dim-most binary64 c tabs fit in
       let room = sized binary64 c tabs unfit (length l) passed .1 in
@@ -57,23 +58,23 @@ module _ (c : FuseConfig) (tabs : Tables) (p l : List Float) (unfit : Bool) (pas
       let low = finite-real (at (wallsAt binary64 c .lo) j) (low-wall-finite binary64 c tabs fit j below) in
       let high = finite-real (at (wallsAt binary64 c .hi) j) (high-wall-finite binary64 c tabs fit j below) in
       rw (over-at (at (setpoint binary64 (wallsAt binary64 c) p (c .dim) .value)) l (c .dim) j in-it (omega arith))
-      (setpoint-inside binary64 (wallsAt binary64 c) p (c .dim) j in-it below real low high (walls-ordered binary64 c tabs fit j below))
+      (setpoint-inside binary64 (wallsAt binary64 c) p (c .dim) j in-it below has real low high (walls-ordered binary64 c tabs fit j below))
 
 module _ (c : FuseConfig) (tabs : Tables) (is : isPosition (c .kind) ≡ true) (p l : List Float) where
   pub brake-inside : (v : List Float) → BrakesInside c tabs p v l
   unfolding brakeAnswer brakeOutput brakeRefusal brakeSent
-  brake-inside v m done j in-it =
+  brake-inside v m done j in-it has =
       let z = sent-zero (brakeRefusal binary64 c tabs p v (length l)) (masksSent binary64 c p) m done in
       let unfit = someNotFinite p || someNotFinite v in
       let passed = both-pass (configJudged binary64 c tabs ++ rowLent c unfit (length l)) ((computed when not (brakeSent binary64 c p v .sound)) ∷ []) z .0 in
       let real = neither (someNotFinite p) (someNotFinite v) (fit-position c tabs p l unfit passed) .0 in
       rw (z, position-brakes (wallsAt binary64 c) p (c .dim) binary64 (c .limits .«a_max») (c .limits .dt) v (c .kind) (positions (c .kind) is))
-      (written-inside c tabs p l unfit passed real j in-it)
+      (written-inside c tabs p l unfit passed real j in-it has)
 
   pub hold-inside : HoldsInside c tabs p l
   unfolding holdAnswer holdOutput holdRefusal holdSent
-  hold-inside m done j in-it =
+  hold-inside m done j in-it has =
       let z = sent-zero (holdRefusal binary64 c tabs p (length l)) (masksSent binary64 c p) m done in
       let passed = both-pass (configJudged binary64 c tabs ++ rowLent c (someNotFinite p) (length l)) ((computed when not (holdSent binary64 c p .sound)) ∷ []) z .0 in
       rw (z, position-holds (wallsAt binary64 c) p (c .dim) binary64 (c .kind) (positions (c .kind) is))
-      (written-inside c tabs p l (someNotFinite p) passed (fit-position c tabs p l (someNotFinite p) passed) j in-it)
+      (written-inside c tabs p l (someNotFinite p) passed (fit-position c tabs p l (someNotFinite p) passed) j in-it has)

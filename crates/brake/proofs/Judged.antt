@@ -24,7 +24,7 @@ use Rattle.envelope.specs.declared.BrakeKind.{BrakeKind}
 use Rattle.envelope.specs.declared.BrakeKind.the-variants.{PdSecondOrder, FirstOrderDecay, BoundedAccel, JerkLimited, ZeroVelocityHold}
 use Rattle.envelope.specs.declared.FuseConfig.{FuseConfig}
 use Rattle.envelope.specs.Promises.{Fit}
-use Rattle.envelope.proofs.Accepted.{accepted, dim-most, substeps-least, commit-most, substeps-in-all}
+use Rattle.envelope.proofs.Accepted.{accepted, dim-least, dim-most, pos-dim-least, substeps-least, commit-most, substeps-in-all}
 use Rattle.course.specs.Forecast.{placeOf, writtenOf}
 use Rattle.course.specs.Rows.{rowsLeft}
 use Rattle.brake.specs.declared.BrakeOut.{BrakeOut}
@@ -110,6 +110,7 @@ module _ (f : Format) (c : FuseConfig) (tabs : Tables) (p v rows : List Float) (
         let b = passes-at short (brief f c p v rows k from room) ((notFinite when unfit f c p v rows k from room) ∷ []) (a .1) in
         record {
           narrow = dim-most f c tabs fit;
+          moves = omega (arith, dim-least f c tabs fit, pos-dim-least f c tabs fit);
           wide = eqb-true (k .dim) (c .dim) (not-false (eqb (k .dim) (c .dim)) (a .0));
           rowed = omega (arith, sized .some-rows);
           there = sized .all-there;

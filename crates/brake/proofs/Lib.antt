@@ -7,4 +7,6 @@ pub mod Sending
 pub mod Foreseen
 pub mod Boxed
 pub mod Walled
+pub mod AtBox
+pub mod Margin
 pub mod Promises

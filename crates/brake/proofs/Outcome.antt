@@ -8,31 +8,28 @@ use borrow.Author.Tests.{ne-eqb}
 use lib.Ieee.{le}
 use Rattle.checked.specs.Each.{all}
 use Rattle.checked.specs.Finite.{+0}
-use Rattle.course.specs.Plant.{State}
 use Rattle.course.specs.Forecast.{Forecast, fine, leadingIn, placeOf, marginOf}
-use Rattle.course.specs.Of.{runOf}
-use Rattle.checked.specs.Of.{reckonedFrom}
 use Rattle.checked.specs.declared.Reckoned.{Reckoned}
 use Rattle.course.specs.declared.Run.{Run}
 use Rattle.course.proofs.Leading.{leading-whole, leading-le}
 use Rattle.brake.specs.declared.BrakeOut.the-variants as out
+use Rattle.brake.specs.Of.{Settles}
 use Rattle.brake.specs.Answer.{outcome}
 
-module _ (t : Forecast) (stand : ℕ → State) (run : Run) (stop : Reckoned) (is : run ≡ runOf t stand) (ends : run .sound ≡ true → stop ≡ reckonedFrom (t .stop)) where
-  whole : run .sound ≡ all (fine t) (t .count)
-  whole = ap (λ (r : Run). r .sound) is
-
-  done : run .done ≡ leadingIn t
-  done = ap (λ (r : Run). r .done) is
+module _ (t : Forecast) (run : Run) (stop : Reckoned) (is : Settles t run stop) where
+  unsound-at : (b : Bool) → all (fine t) (t .count) ≡ b → run .sound ≡ false → placeOf t ≡ suc (run .done)
+  unfolding placeOf
+  unsound-at true w h = let d : run .done ≡ t .count = is .written ∙ leading-whole (fine t) (t .count) w in rw (w, is .unsound h w, d)
+  unsound-at false w h = rw (w, is .written)
 
   stops-at : (b s : Bool) → run .sound ≡ b → stop .sound ≡ s → (not b || not s) ≡ true → placeOf t ≡ suc (run .done)
   unfolding placeOf
-  stops-at false s h g e = rw (sym whole ∙ h, done)
+  stops-at false s h g e = unsound-at (all (fine t) (t .count)) refl h
   stops-at true true h g e = absurd (false≢true e)
   stops-at true false h g e =
-      let w : all (fine t) (t .count) ≡ true = sym whole ∙ h in
-      let d : run .done ≡ t .count = done ∙ leading-whole (fine t) (t .count) w in
-      rw (w, sym (ap (λ (r : Reckoned). r .sound) (ends h)) ∙ g, d)
+      let w = is .whole h in
+      let d : run .done ≡ t .count = is .written ∙ leading-whole (fine t) (t .count) w in
+      rw (w, sym (ap (λ (r : Reckoned). r .sound) (is .stops h)) ∙ g, d)
 
   pub fails : (not (run .sound) || not (stop .sound)) ≡ true → out.Refused (record { number = 13; place = run .done + 1 }) ≡ outcome t
   unfolding outcome
@@ -47,10 +44,11 @@ module _ (t : Forecast) (stand : ℕ → State) (run : Run) (stop : Reckoned) (i
   unfolding outcome placeOf marginOf
   passes e =
       let b = both (run .sound) (stop .sound) e in
-      let w : all (fine t) (t .count) ≡ true = sym whole ∙ b .0 in
+      let w = is .whole (b .0) in
       let r : leadingIn t ≡ t .count = leading-whole (fine t) (t .count) w in
-      let x = ends (b .0) in
-      rw (is, x, w, r, sym (ap (λ (r : Reckoned). r .sound) x) ∙ b .1)
+      let x = is .stops (b .0) in
+      rw (is .written, is .least, x, w, r, sym (ap (λ (r : Reckoned). r .sound) x) ∙ b .1)
 
-pub done-few : (t : Forecast) (stand : ℕ → State) (run : Run) → run ≡ runOf t stand → t .count ≤ 4096 → run .done ≤ 4096
-done-few t stand run is few = let e : run .done ≡ leadingIn t = ap (λ (r : Run). r .done) is in let b = leading-le (fine t) (t .count) in omega arith
+-- no more entries are written than there are
+pub done-few : (t : Forecast) {done : ℕ} → done ≡ leadingIn t → t .count ≤ 4096 → done ≤ 4096
+done-few t e few = let b = leading-le (fine t) (t .count) in omega arith

@@ -1,35 +1,46 @@
 -- Demand 3 of the entry, and "a feasible forecast stays inside": the entry's answer and lent entries are what the second-order forecast comes to (`Foreseen`), and of a
 -- forecast `rollout` has said where it reaches, what its entries are and what the least of them is.
-use Prim.Native.Nat.{ℕ, zero, suc, _+_, _-_, _≤_, _<_}
+use Prim.Native.Nat.{ℕ, zero, suc, _+_, _-_, _*_, _≤_, _<_}
 use mathlib.Core.Path.{_≡_, refl, sym, ap, _∙_, subst}
 use mathlib.Core.Bool.{Bool, true, false}
 use mathlib.Core.List.{List, _++_}
 use mathlib.Core.Logic.{_⊎_, inl, inr}
-use native.Mathlib.Nat.{le-trans, mul-le-mul-right}
+use native.Mathlib.Nat.{add-zero, le-trans, mul-le-mul-right}
 use native.Mathlib.Omega.{arith}
 use borrow.Author.Tests.{eqb-true, eqb-false}
-use lib.Dec.{eqb}
+use lib.Dec.{T, eqb}
 use lib.ListN.{length}
-use lib.Ieee.{Float, binary64, lt}
+use lib.Ieee.{Float, binary64, inf, lt, le, fits}
 use Rattle.refusal.specs.Order.{Judged, refusal, refusedFor}
 use Rattle.checked.specs.Each.{at, all}
 use Rattle.checked.specs.Finite.{+0}
+use Rattle.checked.specs.Checked.{Checked}
 use Rattle.checked.proofs.Each.{all-at, all-from, length-over}
 use Rattle.checked.proofs.Ordered.{Real}
 use Rattle.chunk.specs.Refusals.{chunkReasons}
 use Rattle.envelope.specs.Refusals.{configJudged}
 use Rattle.envelope.specs.declared.ControlSteps.{ControlSteps}
 use Rattle.envelope.proofs.Walls.{low-wall-fits, high-wall-fits}
+use Rattle.workspace.specs.declared.Shape.the-variants.{Disc}
+use Rattle.workspace.specs.Rule.{Walls, inward, slack}
+use Rattle.workspace.specs.Promises.{disc}
+use Rattle.workspace.proofs.Promises as shapes
 use Rattle.rollout.specs.Plant.{Gains}
 use Rattle.course.specs.Forecast.{Forecast, fine, slackAt, leadingIn, marginOf, feasibleOf, writtenOf}
-use Rattle.rollout.specs.Rule.{forecast, stop}
+use Rattle.rollout.specs.Rule.{Task, setpoint, entry, stop, forecast}
 use Rattle.course.proofs.Leading.{leading-le, first-or-all}
 use Rattle.course.proofs.Entries.{Whole, whole-leads, written-in-order, others-kept, first-failing-place, empty-margin, margin-attained, margin-least, feasible-none-negative, none-negative-feasible}
-use Rattle.rollout.proofs.Promises.{entry-is-slack, entries-real, braking, shorter-begins-longer, feasible-inside}
+use Rattle.rollout.proofs.Rows.{aims-setpoint, setpoint-is}
+use Rattle.rollout.proofs.Setpoint.{all-substeps}
+use Rattle.rollout.proofs.Promises.{entry-is-slack, fine-slack, entries-real, braking, shorter-begins-longer, feasible-inside, feasible-on-disc}
 use Rattle.brake.specs.declared.BrakeOut.{BrakeOut}
 use Rattle.brake.specs.declared.BrakeOut.the-variants.{Accepted, Refused}
 use Rattle.brake.specs.Answer.{plan, lentJudged}
-use Rattle.brake.specs.Promises.{Call, answer, entries, OnlyThirteen, SecondOrder, N, task, slackAfter, finiteIn, stopFinite, AllFinite, FirstFailing, Wrote, Forecasts, RefusedAt, Demand3, braked, Begins, StaysInside, Promised}
+use Rattle.brake.specs.Promises.{Call, answer, entries, OnlyThirteen, SecondOrder, N, task, slackAfter, finiteIn, stopFinite, AllFinite, FirstFailing, Wrote, Forecasts, RefusedAt, Demand3, rowsBefore, setpointFinite, plantAfter, SetpointPlaced, NothingLeft, DiscForecast, braked, Begins, StaysInside, Promised}
+use Rattle.brake.specs.Rule.{live, wallsAt}
+use Rattle.brake.proofs.AtBox.{box-setpoint, box-forecast}
+use Rattle.brake.proofs.Margin.{margin-unread}
+use Rattle.brake.proofs.Sending.{hold-at-a-box}
 use Rattle.brake.proofs.Boxed.{brake-inside, hold-inside}
 use Rattle.brake.proofs.Walled.{brake-walls, hold-walls}
 use Rattle.brake.proofs.ByKind.{count-is}
@@ -227,6 +238,57 @@ module _ (x : Call) (g : Gains) (is : SecondOrder x g) (only : OnlyThirteen x) w
     refuses-the-stop = λ h s. let w = whole h in (refuses-the-stop w s, wrote-all w);
   }
 
+-- ---- the setpoint, and nothing left to run
+
+module _ (x : Call) (g : Gains) (is : SecondOrder x g) (only : OnlyThirteen x) where
+  abbrev t₂ : Task
+  t₂ = task x g
+
+  -- it is made after the rows, and is what the first braking substep goes towards
+  first-unsound : setpointFinite x g ≡ false → finiteIn x g (rowsBefore x) ≡ false
+  unfolding entry
+  first-unsound e = rw (aims-setpoint binary64 t₂ (rowsBefore x) (omega arith), e)
+
+  stop-unsound : setpointFinite x g ≡ false → stopFinite x g ≡ false
+  unfolding stop
+  stop-unsound e = rw e
+
+  placed : SetpointPlaced x g
+  placed h e = go (x .config .brake .«brake_steps» .0 * x .config .brake .substeps .0) (all-substeps t₂)
+    where
+      go : (m : ℕ) → rowsBefore x + m ≡ N x → RefusedAt x (suc (rowsBefore x)) × Wrote x g (rowsBefore x)
+      go zero q =
+          let same : rowsBefore x ≡ N x = sym (add-zero (rowsBefore x)) ∙ q in
+          let d = demand-3 x g is only .refuses-the-stop (λ k b. h k (rw same b)) (stop-unsound e) in
+          rw same d
+      go (suc m) q =
+          let fails : FirstFailing x g (rowsBefore x) = record { counted = omega (arith, q); before = h; there = first-unsound e } in
+          (demand-3 x g is only .refuses (rowsBefore x) fails, demand-3 x g is only .wrote-before (rowsBefore x) fails)
+
+  module _ (none : N x ≡ 0) where
+    none-run : (k : ℕ) → k < N x → finiteIn x g k ≡ true
+    none-run k b = absurd (let z : ⊥ = omega (arith, none) in z)
+
+    no-rows : rowsBefore x ≡ 0
+    no-rows = omega (arith, none, all-substeps t₂)
+
+    anywhere : stopFinite x g ≡ true → answer x ≡ Accepted 0 (inf false) true (stop binary64 t₂ .value)
+    anywhere s =
+        let w = demand-3 x g is only .forecasts (record { substeps = none-run; stops = s }) in
+        let feasible = w .feasible-where (λ k b. absurd (let z : ⊥ = omega (arith, none) in z)) in
+        w .reports-N ∙ rw (none, w .margin-of-none none, feasible)
+
+    from-the-start : setpoint binary64 t₂ ≡ inward binary64 (wallsAt binary64 (x .config)) (plantAfter x g 0 .p) (live (x .config))
+    from-the-start = sym (setpoint-is binary64 t₂) ∙ ap (λ (k : ℕ). inward binary64 (wallsAt binary64 (x .config)) (plantAfter x g k .p) (live (x .config))) no-rows
+
+    nothing-left : NothingLeft x g
+    nothing-left = record {
+      feasible-anywhere = anywhere;
+      refused-at-one = λ s. rw none at (demand-3 x g is only .refuses-the-stop none-run s .0);
+      of-the-start = from-the-start;
+      box-computes-none = box-setpoint x g;
+    }
+
 -- ---- the shorter list begins the longer
 
 module _ (x : Call) (g : Gains) (is : SecondOrder x g) (b : ControlSteps) (l : List Float) where
@@ -254,15 +316,47 @@ module _ (x : Call) (g : Gains) (is : SecondOrder x g) (b : ControlSteps) (l : L
 
 -- ---- a feasible forecast stays inside
 
+module _ (x : Call) (g : Gains) (is : SecondOrder x g) {n : ℕ} {margin : Float} {feasible : Bool} {stop : Float} (a : answer x ≡ Accepted n margin feasible stop) where
+  finite-all : AllFinite x g
+  finite-all = only-finite x g is (accepted-free x a) n margin feasible stop a
+
+  whole-task : Whole (forecast binary64 (task x g))
+  whole-task = subst Whole (plan-is x g is (accepted-free x a)) (whole x g is (accepted-free x a) (finite-all .substeps))
+
+  -- each slack that was taken is sound
+  slack-sound : (k : ℕ) → k < N x → slack binary64 (wallsAt binary64 (x .config)) (plantAfter x g (suc k) .p) (live (x .config)) .sound ≡ true
+  slack-sound k b = fine-slack binary64 (task x g) k (finite-all .substeps k b)
+
+  disc-forecast : (cx cy radius : Float) → x .config .shape ≡ Disc cx cy radius → T (fits binary64 radius) → (k : ℕ) → k < N x → DiscForecast x g cx cy radius k
+  disc-forecast cx cy radius e number k b =
+      let lo = wallsAt binary64 (x .config) .lo in
+      let hi = wallsAt binary64 (x .config) .hi in
+      let p = plantAfter x g (suc k) .p in
+      let walls : wallsAt binary64 (x .config) ≡ disc cx cy radius lo hi = λ i. record { shape = e i; lo = lo; hi = hi } in
+      let same = ap (λ (w : Walls). slack binary64 w p (live (x .config))) walls in
+      let value : slackAfter x g (suc k) ≡ slack binary64 (disc cx cy radius lo hi) p (live (x .config)) .value = ap (λ (y : Checked Float). y .value) same in
+      let d = shapes.promised .disc-slack binary64 cx cy radius lo hi p (live (x .config)) number (sym (ap (λ (y : Checked Float). y .sound) same) ∙ slack-sound k b) in
+      record {
+        radius-less-distance = λ two. value ∙ d .disc-alone two;
+        not-negative-exactly = λ two. ap (le +0) (value ∙ d .disc-alone two) ∙ d .edge-told;
+        within-radius = λ inside. d .within-only (ap (λ (v : Float). lt v +0) (sym value) ∙ inside);
+        axes-inside = λ inside j further here. d .axes-only (ap (λ (v : Float). lt v +0) (sym value) ∙ inside) j further here;
+        within-all = λ near axes. ap (λ (v : Float). lt v +0) value ∙ d .within-where near axes;
+      }
+
 module _ (x : Call) (g : Gains) (is : SecondOrder x g) where
   feasible-stays-inside : {n : ℕ} {margin stop : Float} → answer x ≡ Accepted n margin true stop → StaysInside x g
-  feasible-stays-inside {n} {margin} {stop} a k b j c =
+  feasible-stays-inside {n} {margin} {stop} a =
       let only = accepted-free x a in
       let h = only-finite x g is only n margin true stop a in
       let w = whole x g is only (h .substeps) in
       let e = plan-is x g is only in
       let ok : feasibleOf (t x) ≡ true = ap feasibleIn (sym (report x g is only w (stop-sound x g is only h)) ∙ a) in
-      feasible-inside binary64 (task x g) (subst Whole e w) (subst (λ (y : Forecast). feasibleOf y ≡ true) e ok) k j b c (low-wall-fits binary64 (x .config) j) (high-wall-fits binary64 (x .config) j)
+      let feasible = subst (λ (y : Forecast). feasibleOf y ≡ true) e ok in
+      record {
+        in-its-box = λ k b j c has. feasible-inside binary64 (task x g) (subst Whole e w) feasible k b j c has (low-wall-fits binary64 (x .config) j) (high-wall-fits binary64 (x .config) j);
+        on-its-disc = λ k b cx cy radius shape number. feasible-on-disc binary64 (task x g) (subst Whole e w) feasible k b cx cy radius shape number;
+      }
 
 -- ---- feasible exactly when no slack after one substep or more is negative
 
@@ -282,9 +376,15 @@ module _ (x : Call) (g : Gains) (is : SecondOrder x g) where
 pub promised : Promised
 promised = record {
   demand-3-holds = demand-3;
+  setpoint-placed = placed;
+  margin-leaves-the-disc = margin-unread;
+  nothing-left = nothing-left;
+  box-forecast = box-forecast;
+  disc-forecast = λ x g is n margin feasible stop a. disc-forecast x g is a;
   shorter-begins-longer = λ x g is b l m n margin margin′ feasible feasible′ stop stop′. shorter-begins x g is b l;
   feasible-exactly-where = λ x g is n margin feasible stop. feasible-exactly x g is;
   feasible-is-inside = λ x g is n margin stop. feasible-stays-inside x g is;
+  box-holds = λ c t box p room r e n. hold-at-a-box binary64 c p box t room e n;
   brakes-inside = λ c t is p v l. brake-inside c t is p l v;
   holds-inside = hold-inside;
   brake-walls = λ c t p v l m. brake-walls c t p l m v;

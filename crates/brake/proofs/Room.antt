@@ -38,7 +38,7 @@ module _ (c : FuseConfig) (len : ℕ) (head : Header) (from room : ℕ) (w : Pla
       let k : countFor (c .brake) (c .brake .kind) from ≡ n = ap (λ (x : BrakeKind). countFor (c .brake) x from) e in
       let few : n ≤ 4096 = rw (← k) (w .few) in
       let space : n ≤ room = rw (← k) (w .space) in
-      (rw (shape, le-leb _ _ (w .parted), le-leb _ _ space), few)
+      (rw (shape, le-leb _ _ (w .parted), le-leb _ _ space, le-leb 1 (live c) (w .moves)), few)
 
   pub closed-room : Other (c .brake .kind)
       → (stopped.roomy (courseFor c head from) len room ≡ true) × (suc (rowsLeft (c .brake .commit) from .0) ≤ 4096)

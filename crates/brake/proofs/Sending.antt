@@ -1,5 +1,5 @@
--- A kind that is none of the velocity kinds; the whole answer, by the row that is sent; and that hold, at a box, never gives 13.
-use Prim.Native.Nat.{ℕ, min, _≤_}
+-- A kind that is none of the velocity kinds; the whole answer, by the row that is sent; and that hold, with a box, never gives 13.
+use Prim.Native.Nat.{ℕ, zero, suc, min, _≤_}
 use mathlib.Core.Path.{_≡_, refl, sym, ap, _∙_}
 use mathlib.Core.Bool.{Bool, true, false, not, _||_, false≢true}
 use mathlib.Core.Logic.{_⊎_, inl, inr}
@@ -28,6 +28,7 @@ use Rattle.envelope.specs.declared.ActionKind.the-variants.{EePosition, EeDelta
 use Rattle.envelope.specs.declared.FuseConfig.{FuseConfig}
 use Rattle.envelope.proofs.ActionKind as kind
 use Rattle.envelope.proofs.Accepted.{accepted, dim-most}
+use Rattle.workspace.specs.declared.Shape.the-variants.{Box}
 use Rattle.workspace.specs.declared.WallMasks.{WallMasks}
 use Rattle.workspace.specs.Rule.{Walls, setpoint, setpointMasks, unmoved}
 use Rattle.workspace.specs.Of.{wallsOf}
@@ -39,7 +40,7 @@ use Rattle.checked.specs.declared.Row.{Row}
 use Rattle.brake.specs.Rule.{live, wallsAt, brakeRow, holdRow, sentMasks}
 use Rattle.brake.specs.Of.{workspaceFor}
 use Rattle.checked.specs.Of.{rowFrom}
-use Rattle.brake.specs.Answer.{rowLent, masksSent, brakeSent, brakeRefusal, holdSent, holdRefusal}
+use Rattle.brake.specs.Answer.{rowLent, sentAt, masksSent, brakeSent, brakeRefusal, holdSent, holdRefusal, holdAnswer}
 
 -- ---- position kinds
 
@@ -112,6 +113,15 @@ module _ (f : Format) (c : FuseConfig) (tabs : Tables) (l : List Float) {bad unf
     pub row-done : row .sound ≡ true → length (row .at) ≡ 8 → {m : List Float} → m ≡ over (at (row .at)) l (min (c .dim) (min (length (row .at)) (length l))) → {r : Sent} → r ≡ done → Answered sent.Refused done l written k r m
     row-done y long i e = entry.accepted sent.Refused done l written judged (x .sound) ek passed sound-is y e (all-sent f c tabs bad (row .at) l z long i ∙ rw er)
 
+-- a refused answer names the number that it was refused with
+abbrev numberIn : Sent → ℕ
+numberIn (sent.Done m) = 0
+numberIn (sent.Refused r) = r .number
+
+sent-number : (k : ℕ) (m : WallMasks) {r : Refusal} → sentAt k m ≡ sent.Refused r → k ≡ r .number
+sent-number zero m e = ap numberIn e
+sent-number (suc k) m e = ap numberIn e
+
 -- where a number is given its reason applies
 first-applies : (applies : Reason → Bool) {l : List Reason} {k : Reason} → First applies l k → applies k ≡ true
 first-applies applies (here e) = e
@@ -157,18 +167,23 @@ module _ (f : Format) (c : FuseConfig) (p : List Float) where
   unfolding holdSent
   hold-is-sent ew er = er ∙ ap (λ (x : Workspace). rowFrom (holdRow f (c .kind) (wallsOf x) p (c .dim))) ew
 
-  -- at a box hold computes nothing
-  held-sound : (w : Walls) (n : ℕ) (k : ActionKind) → holdRow f k w p n .sound ≡ true
+  -- with a box hold computes nothing
+  held-sound : (w : Walls) → w .shape ≡ Box → (n : ℕ) (k : ActionKind) → holdRow f k w p n .sound ≡ true
   unfolding holdRow
-  held-sound w n EePosition = setpoint-sound f w p n
-  held-sound w n EeDelta = refl
-  held-sound w n JointPosition = setpoint-sound f w p n
-  held-sound w n JointVelocity = refl
-  held-sound w n Other = setpoint-sound f w p n
+  held-sound w box n EePosition = setpoint-sound f w p n box
+  held-sound w box n EeDelta = refl
+  held-sound w box n JointPosition = setpoint-sound f w p n box
+  held-sound w box n JointVelocity = refl
+  held-sound w box n Other = setpoint-sound f w p n box
 
   -- so it is never refused with 13
-  pub hold-never-13 : (tabs : Tables) (room : ℕ) → holdRefusal f c tabs p room ≡ 13 → ⊥
+  pub hold-never-13 : c .shape ≡ Box → (tabs : Tables) (room : ℕ) → holdRefusal f c tabs p room ≡ 13 → ⊥
   unfolding holdSent
-  hold-never-13 tabs room e =
+  hold-never-13 box tabs room e =
       let judges = among (holdJudges tabs room) in
-      false≢true (sym (ap not (held-sound (wallsAt f c) (c .dim) (c .kind))) ∙ first-applies judges (exactly-first judges computed .1 (sym (hold-judged tabs room) ∙ e)))
+      false≢true (sym (ap not (held-sound (wallsAt f c) box (c .dim) (c .kind))) ∙ first-applies judges (exactly-first judges computed .1 (sym (hold-judged tabs room) ∙ e)))
+
+  -- nor does its answer name it
+  pub hold-at-a-box : c .shape ≡ Box → (tabs : Tables) (room : ℕ) {r : Refusal} → holdAnswer f c tabs p room ≡ sent.Refused r → r .number ≡ 13 → ⊥
+  unfolding holdAnswer
+  hold-at-a-box box tabs room e n = hold-never-13 box tabs room (sent-number (holdRefusal f c tabs p room) (masksSent f c p) e ∙ n)

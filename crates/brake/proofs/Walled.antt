@@ -1,7 +1,7 @@
 -- What the masks of an accepted brake or hold say: they are those of the setpoint, on the first min(dim, pos_dim) axes, and the row is the setpoint.
 use Prim.Native.Nat.{ℕ, min, _≤_, _<_}
 use mathlib.Core.Path.{_≡_, refl, sym, ap, _∙_}
-use mathlib.Core.Bool.{true, false, not, _||_, false≢true}
+use mathlib.Core.Bool.{Bool, true, false, not, _||_, false≢true}
 use mathlib.Core.List.{List, [], _∷_, _++_}
 use native.Mathlib.Omega.{arith}
 use lib.ListN.{length, replicate, getD-replicate}
@@ -15,16 +15,18 @@ use Rattle.checked.specs.Each.{at, over}
 use Rattle.checked.specs.Finite.{+0}
 use Rattle.checked.specs.Row.{padded, eight}
 use Rattle.checked.proofs.Copy.{length-eight}
-use Rattle.checked.proofs.Each.{over-at, over-keeps}
+use Rattle.checked.proofs.Each.{and-left, over-at, over-keeps}
 use Rattle.conformal.specs.Rule.{Tables}
 use Rattle.envelope.specs.Refusals.{configJudged}
 use Rattle.envelope.specs.declared.ActionKind.{ActionKind}
 use Rattle.envelope.specs.declared.ActionKind.the-variants.{EePosition, EeDelta, JointPosition, JointVelocity, Other}
 use Rattle.envelope.specs.declared.FuseConfig.{FuseConfig}
 use Rattle.workspace.specs.declared.WallMasks.{WallMasks}
-use Rattle.workspace.specs.Rule.{Walls, setpoint, wallMasks, setpointMasks, unmoved}
+use Rattle.workspace.specs.Shape.{boxed}
+use Rattle.workspace.specs.Rule.{Walls, ontoDisc, setpoint, wallMasks, setpointMasks, unmoved}
 use Rattle.workspace.specs.Promises.{AxisTold, MovedAsTold, NoBitPast}
-use Rattle.workspace.proofs.Masks as masks
+use Rattle.workspace.proofs.Promises as masks
+use Rattle.workspace.proofs.Inside.{inward-on}
 use Rattle.brake.specs.declared.Sent.{Sent}
 use Rattle.brake.specs.declared.Sent.the-variants.{Done, Refused}
 use Rattle.brake.specs.Rule.{live, wallsAt, sentMasks}
@@ -99,7 +101,7 @@ module _ (c : FuseConfig) (p l : List Float) (m : WallMasks) (narrow : c .dim �
     told-of-all : (j : ℕ) → j < live c → AxisTold w (eight p 8) j (wallMasks w (eight p 8) (c .dim))
     told-of-all j here = masks.promised .axis-told w (eight p 8) (c .dim) j (omega arith)
 
-    moved : (j : ℕ) → j < live c → MovedAsTold binary64 w (eight p 8) (c .dim) j
+    moved : (j : ℕ) → j < live c → boxed (c .shape) j ≡ true → MovedAsTold binary64 w (eight p 8) (c .dim) j
     moved j here = masks.promised .moved-as-told binary64 w (eight p 8) (c .dim) j (omega arith) (omega (arith, length-eight p 8))
 
     module _ (out : List Float) (eo : out ≡ over (at (setpoint binary64 w p (c .dim) .value)) l (c .dim)) where
@@ -108,17 +110,26 @@ module _ (c : FuseConfig) (p l : List Float) (m : WallMasks) (narrow : c .dim �
 
       low-wall : (j : ℕ) → j < live c → bit (m .low) j ≡ true → at out j ≡ at (w .lo) j
       unfolding setpoint
-      low-wall j here e = written j here ∙ moved j here .low (told-of-all j here .low-bit ∙ sym (told j here .low-bit) ∙ e)
+      low-wall j here e = written j here ∙ moved j here (and-left (boxed (c .shape) j) _ (sym (told j here .low-bit) ∙ e)) .low (told-of-all j here .low-bit ∙ sym (told j here .low-bit) ∙ e)
 
       high-wall : (j : ℕ) → j < live c → bit (m .high) j ≡ true → at out j ≡ at (w .hi) j
       unfolding setpoint
-      high-wall j here e = written j here ∙ moved j here .high (told-of-all j here .high-bit ∙ sym (told j here .high-bit) ∙ e)
+      high-wall j here e = written j here ∙ moved j here (and-left (boxed (c .shape) j) _ (sym (told j here .high-bit) ∙ e)) .high (told-of-all j here .high-bit ∙ sym (told j here .high-bit) ∙ e)
 
-      neither-wall : (j : ℕ) → j < live c → bit (m .low) j ≡ false → bit (m .high) j ≡ false → at out j ≡ at (eight p 8) j
+      neither-wall : (j : ℕ) → j < live c → boxed (c .shape) j ≡ true → bit (m .low) j ≡ false → bit (m .high) j ≡ false → at out j ≡ at (eight p 8) j
       unfolding setpoint
-      neither-wall j here e h =
+      neither-wall j here has e h =
           written j here
-          ∙ moved j here .neither (told-of-all j here .low-bit ∙ sym (told j here .low-bit) ∙ e) (told-of-all j here .high-bit ∙ sym (told j here .high-bit) ∙ h)
+          ∙ moved j here has .neither (told-of-all j here .low-bit ∙ sym (told j here .low-bit) ∙ e) (told-of-all j here .high-bit ∙ sym (told j here .high-bit) ∙ h)
+
+      on-disc : (j : ℕ) → j < live c → boxed (c .shape) j ≡ false → at out j ≡ at (ontoDisc binary64 (c .shape) (eight p 8) .value) j
+      unfolding setpoint
+      on-disc j here has = written j here ∙ inward-on binary64 w (eight p 8) (c .dim) j (omega arith) (omega (arith, length-eight p 8)) has
+
+  -- without a box there is no bit, whichever the kind
+  no-bit : (j : ℕ) → j < live c → boxed (c .shape) j ≡ false → (b : Bool) → isPosition (c .kind) ≡ b → (bit (m .low) j ≡ false) × (bit (m .high) j ≡ false)
+  no-bit j here has true is = let t = told is j here in (t .low-bit ∙ rw has, t .high-bit ∙ rw has)
+  no-bit j here has false is = let e = sent-masks ∙ of-velocity w p (live c) (c .kind) is in rw e (no-bits j, no-bits j)
 
   sent-walls : (out : List Float) → (isPosition (c .kind) ≡ true → out ≡ over (at (setpoint binary64 w p (c .dim) .value)) l (c .dim)) → SentWalls c p m out
   sent-walls out eo = record {
@@ -127,6 +138,8 @@ module _ (c : FuseConfig) (p l : List Float) (m : WallMasks) (narrow : c .dim �
     none-past = rw sent-masks (none-past w p (live c) (c .kind));
     where-it-has = has p;
     where-it-lacks = lacks p;
+    no-bit-without-a-box = λ j here has. no-bit j here has (isPosition (c .kind)) refl;
+    where-the-disc-puts-it = λ is. on-disc is out (eo is);
     at-low-wall = λ is. low-wall is out (eo is);
     at-high-wall = λ is. high-wall is out (eo is);
     at-neither = λ is. neither-wall is out (eo is);

@@ -1,6 +1,7 @@
 -- The rules at the declared structs, and what the contracts of the private functions cite.
 use Prim.Native.Nat.{ℕ, suc, _*_, _≤_}
 use mathlib.Core.Path.{_≡_}
+use mathlib.Core.Bool.{true, false}
 use mathlib.Core.List.{List}
 use lib.Ieee.{Float, Format}
 use Rattle.chunk.specs.declared.Header.{Header}
@@ -11,18 +12,25 @@ use Rattle.envelope.specs.declared.BrakeKind.the-variants.{PdSecondOrder, First
 use Rattle.envelope.specs.declared.BrakeModel.{BrakeModel}
 use Rattle.envelope.specs.declared.Derived.{Derived}
 use Rattle.envelope.specs.declared.FuseConfig.{FuseConfig}
+use Rattle.workspace.specs.declared.Shape.{Shape}
 use Rattle.workspace.specs.declared.Workspace.{Workspace}
 use Rattle.course.specs.declared.Course.{Course}
 use Rattle.course.specs.declared.Plant.{Plant}
+use Rattle.course.specs.declared.Run.{Run}
+use Rattle.course.specs.Forecast.{Forecast, fine, slackAt, leadingIn}
 use Rattle.course.specs.Rows.{rowsLeft}
+use Rattle.checked.specs.declared.Reckoned.{Reckoned}
+use Rattle.checked.specs.Each.{all}
+use Rattle.checked.specs.Least.{least}
+use Rattle.checked.specs.Of.{reckonedFrom}
 use Rattle.checked.specs.Row.{eight}
 use Rattle.brake.specs.Rule.{live}
 
-abbrev pub workspaceFrom : Derived → Workspace
-workspaceFrom d = record { lo = d .«box_lo»; hi = d .«box_hi» }
+abbrev pub workspaceFrom : Shape → Derived → Workspace
+workspaceFrom s d = record { shape = s; lo = d .«box_lo»; hi = d .«box_hi» }
 
 abbrev pub workspaceFor : Format → FuseConfig → Workspace
-workspaceFor f c = workspaceFrom (derived f c)
+workspaceFor f c = workspaceFrom (c .shape) (derived f c)
 
 abbrev pub courseFor : FuseConfig → Header → ℕ → Course
 courseFor c k from = record {
@@ -46,9 +54,19 @@ countFor b (BoundedAccel kp kv dt) from = suc (rowsLeft (b .commit) from .0)
 countFor b (JerkLimited kp kv dt) from = suc (rowsLeft (b .commit) from .0)
 countFor b (ZeroVelocityHold kp kv dt) from = suc (rowsLeft (b .commit) from .0)
 
+-- a run and the stop distance at its end come to a forecast: its entries up to the first that isn't finite, all of them where it is sound, and where it is not
+-- although they are finite, a stop distance that is not
+pub record Settles (t : Forecast) (run : Run) (stop : Reckoned) : Type 0 where
+  pub written : run .done ≡ leadingIn t
+  pub least : run .margin ≡ least (slackAt t) (leadingIn t)
+  pub whole : run .sound ≡ true → all (fine t) (t .count) ≡ true
+  pub stops : run .sound ≡ true → stop ≡ reckonedFrom (t .stop)
+  pub unsound : run .sound ≡ false → all (fine t) (t .count) ≡ true → t .stop .sound ≡ false
+
 -- what is known of a call where nothing is refused: rows that are all there and as wide as the configuration says, and room for the entries
 pub record Planned (c : FuseConfig) (len : ℕ) (k : Header) (from room : ℕ) : Type 0 where
   pub narrow : c .dim ≤ 8
+  pub moves : 1 ≤ live c
   pub wide : k .dim ≡ c .dim
   pub rowed : 1 ≤ k .horizon
   pub there : len ≡ k .horizon * k .dim

@@ -1,11 +1,12 @@
 -- What is promised of one call of `brake_feasible` with the second-order brake, said of its own answer and of the entries that were lent to it; that the rows of brake and
--- hold lie in the box, and what their masks say. The proofs are `proofs/Promises.antt`, `proofs/Boxed.antt` and `proofs/Walled.antt`.
+-- hold lie in the box of each axis that has one, and what their masks say. The proofs are `proofs/Promises.antt`, `proofs/Boxed.antt` and `proofs/Walled.antt`.
 use Prim.Native.Nat.{ℕ, suc, _+_, _-_, _*_, _≤_, _<_}
 use mathlib.Core.Path.{_≡_}
-use mathlib.Core.Bool.{Bool, true, false}
+use mathlib.Core.Bool.{Bool, true, false, _&&_}
 use mathlib.Core.List.{List}
+use lib.Dec.{T}
 use lib.ListN.{length}
-use lib.Ieee.{Float, binary64, inf, lt, le}
+use lib.Ieee.{Float, binary64, inf, lt, le, sub, fits}
 use Rattle.refusal.specs.declared.Refusal.{Refusal}
 use Rattle.checked.specs.Each.{at}
 use Rattle.checked.specs.Finite.{+0}
@@ -17,19 +18,23 @@ use Rattle.envelope.specs.declared.ActionKind.{ActionKind}
 use Rattle.envelope.specs.declared.ActionKind.the-variants.{EePosition, EeDelta, JointPosition, JointVelocity, Other}
 use Rattle.envelope.specs.declared.BrakeKind.the-variants.{PdSecondOrder}
 use Rattle.envelope.specs.declared.ControlSteps.{ControlSteps}
-use Rattle.envelope.specs.Promises.{brakedBy}
+use Rattle.envelope.specs.Promises.{brakedBy, marginedBy}
 use Rattle.envelope.specs.declared.FuseConfig.{FuseConfig}
 use Rattle.workspace.specs.declared.WallMasks.{WallMasks}
-use Rattle.workspace.specs.Rule.{slack, unmoved}
+use Rattle.workspace.specs.declared.Shape.the-variants.{Box, Disc}
+use Rattle.workspace.specs.Shape.{boxed}
+use Rattle.workspace.specs.Rule.{fromCentre, ontoDisc, inward, gap, slack, unmoved}
+use Rattle.workspace.specs.AtBox.{boxInward, boxSlack}
 use Rattle.workspace.specs.Promises.{AxisTold, NoBitPast}
-use Rattle.rollout.specs.Plant.{Gains}
+use Rattle.rollout.specs.Plant.{Gains, substep}
 use Rattle.course.specs.Plant.{State}
-use Rattle.rollout.specs.Rule.{Task, after, entry, stop}
+use Rattle.rollout.specs.Rule.{Task, followed, setpoint, aim, after, entry, stopDistance, stop}
 use Rattle.brake.specs.declared.BrakeOut.{BrakeOut}
 use Rattle.brake.specs.declared.BrakeOut.the-variants.{Accepted, Refused}
+use Rattle.brake.specs.declared.Sent.the-variants as Sent
 use Rattle.brake.specs.declared.Sent.the-variants.{Done}
-use Rattle.brake.specs.Rule.{live, wallsAt, secondOrder}
-use Rattle.brake.specs.Answer.{forecastAnswer, forecastSlacks, brakeAnswer, brakeOutput, holdAnswer, holdOutput}
+use Rattle.brake.specs.Rule.{live, wallsAt, secondOrder, forecastOf}
+use Rattle.brake.specs.Answer.{forecastAnswer, forecastSlacks, masksSent, brakeSent, holdSent, brakeAnswer, brakeOutput, holdAnswer, holdOutput}
 
 -- ---- a call
 
@@ -74,11 +79,11 @@ plantAfter x g k = after binary64 (task x g) k
 abbrev pub slackAfter : Call → Gains → ℕ → Float
 slackAfter x g k = slack binary64 (wallsAt binary64 (x .config)) (plantAfter x g k .p) (live (x .config)) .value
 
--- every number that substep k + 1 computes is finite, its slack's included
+-- every number that substep k + 1 computes is finite, its slack's included and, at a braking one, those of the setpoint
 abbrev pub finiteIn : Call → Gains → ℕ → Bool
 finiteIn x g k = entry binary64 (task x g) k .sound
 
--- every number that the stop distance computes is finite
+-- every number that the setpoint, which is made in any case, and the stop distance compute is finite
 abbrev pub stopFinite : Call → Gains → Bool
 stopFinite x g = stop binary64 (task x g) .sound
 
@@ -129,6 +134,56 @@ pub record Demand3 (x : Call) (g : Gains) : Type 0 where
   -- a stop distance that isn't finite has the place after the last entry, and all entries are written
   pub refuses-the-stop : ((k : ℕ) → k < N x → finiteIn x g k ≡ true) → stopFinite x g ≡ false → RefusedAt x (suc (N x)) × Wrote x g (N x)
 
+-- ---- the setpoint
+
+-- the substeps under committed rows, and whether each number of the setpoint that is made after them is finite
+abbrev pub rowsBefore : Call → ℕ
+rowsBefore x = (x .config .brake .commit .0 - x .from) * x .config .brake .substeps .0
+
+abbrev pub setpointFinite : Call → Gains → Bool
+setpointFinite x g = setpoint binary64 (task x g) .sound
+
+-- a number of the setpoint that isn't finite has the place of the first substep after the rows, also where no step brakes, and all entries before it are written
+abbrev pub SetpointPlaced : Call → Gains → Type 0
+SetpointPlaced x g = ((k : ℕ) → k < rowsBefore x → finiteIn x g k ≡ true) → setpointFinite x g ≡ false → RefusedAt x (suc (rowsBefore x)) × Wrote x g (rowsBefore x)
+
+-- with nothing left to run: no committed row, no braking step. The forecast computes the setpoint and the stop distance, and where they are finite it is feasible, with
+-- infinite slack, wherever the arm stands
+pub record NothingLeft (x : Call) (g : Gains) : Type 0 where
+  pub feasible-anywhere : stopFinite x g ≡ true → answer x ≡ Accepted 0 (inf false) true (stop binary64 (task x g) .value)
+  pub refused-at-one : stopFinite x g ≡ false → RefusedAt x 1
+  -- the setpoint is made from the given start; with a box nothing is computed for it
+  pub of-the-start : setpoint binary64 (task x g) ≡ inward binary64 (wallsAt binary64 (x .config)) (plantAfter x g 0 .p) (live (x .config))
+  pub box-computes-none : x .config .shape ≡ Box → setpointFinite x g ≡ true
+
+-- ---- a box
+
+-- with a box the setpoint is the plant that the rows leave, each live axis clamped, and the forecast is that of a guard that knows no other shape: nothing of the setpoint is judged
+pub record BoxForecast (x : Call) (g : Gains) : Type 0 where
+  pub clamped-setpoint : setpoint binary64 (task x g) ≡ boxInward (wallsAt binary64 (x .config) .lo) (wallsAt binary64 (x .config) .hi) (followed binary64 (task x g) (rowsBefore x) .p) (live (x .config))
+  pub substep-as-before : (k : ℕ) → finiteIn x g k ≡ (substep binary64 g (aim binary64 (task x g) k) (live (x .config)) (plantAfter x g k) .sound && boxSlack binary64 (wallsAt binary64 (x .config) .lo) (wallsAt binary64 (x .config) .hi) (plantAfter x g (suc k) .p) (live (x .config)) .sound)
+  pub slack-as-before : (k : ℕ) → slackAfter x g k ≡ boxSlack binary64 (wallsAt binary64 (x .config) .lo) (wallsAt binary64 (x .config) .hi) (plantAfter x g k .p) (live (x .config)) .value
+  pub stop-as-before : stop binary64 (task x g) ≡ stopDistance binary64 (plantAfter x g 0) (plantAfter x g (N x)) (live (x .config))
+
+-- ---- a disc
+
+-- the computed distance from the centre after k substeps
+abbrev pub distanceAfter : Call → Gains → Float → Float → ℕ → Float
+distanceAfter x g cx cy k = fromCentre binary64 cx cy (plantAfter x g k .p) .value
+
+-- an accepted forecast on a disc: what each entry says of the computed distance
+pub record DiscForecast (x : Call) (g : Gains) (cx cy radius : Float) (k : ℕ) : Type 0 where
+  -- with two live axes it is radius - distance, and not negative exactly where the distance is at most the radius
+  pub radius-less-distance : live (x .config) ≡ 2 → slackAfter x g (suc k) ≡ sub binary64 radius (distanceAfter x g cx cy (suc k))
+  pub not-negative-exactly : live (x .config) ≡ 2 → le +0 (slackAfter x g (suc k)) ≡ le (distanceAfter x g cx cy (suc k)) radius
+  -- with more, it is not negative exactly where the distance is at most the radius and no further axis' distance to its walls is negative
+  pub within-radius : lt (slackAfter x g (suc k)) +0 ≡ false → le (distanceAfter x g cx cy (suc k)) radius ≡ true
+  pub axes-inside : lt (slackAfter x g (suc k)) +0 ≡ false → (j : ℕ) → 2 ≤ j → j < live (x .config) → lt (gap binary64 (wallsAt binary64 (x .config)) (plantAfter x g (suc k) .p) j .value) +0 ≡ false
+  pub within-all :
+      le (distanceAfter x g cx cy (suc k)) radius ≡ true
+      → ((j : ℕ) → 2 ≤ j → j < live (x .config) → lt (gap binary64 (wallsAt binary64 (x .config)) (plantAfter x g (suc k) .p) j .value) +0 ≡ false)
+      → lt (slackAfter x g (suc k)) +0 ≡ false
+
 -- the call with another number of braking steps and other lent entries
 abbrev pub withBraking : FuseConfig → ControlSteps → FuseConfig
 withBraking c b = brakedBy c (record {
@@ -170,12 +225,12 @@ isPosition JointPosition = true
 isPosition JointVelocity = false
 isPosition Other = true
 
--- each coordinate that brake writes, or hold, lies in its box
+-- each coordinate that brake writes, or hold, lies in its box, where it has one
 abbrev pub BrakesInside : FuseConfig → Tables → List Float → List Float → List Float → Type 0
-BrakesInside c t p v l = (m : WallMasks) → brakeAnswer binary64 c t p v (length l) ≡ Done m → (j : ℕ) → j < c .dim → InBox c j (at (brakeOutput binary64 c t p v l) j)
+BrakesInside c t p v l = (m : WallMasks) → brakeAnswer binary64 c t p v (length l) ≡ Done m → (j : ℕ) → j < c .dim → boxed (c .shape) j ≡ true → InBox c j (at (brakeOutput binary64 c t p v l) j)
 
 abbrev pub HoldsInside : FuseConfig → Tables → List Float → List Float → Type 0
-HoldsInside c t p l = (m : WallMasks) → holdAnswer binary64 c t p (length l) ≡ Done m → (j : ℕ) → j < c .dim → InBox c j (at (holdOutput binary64 c t p l) j)
+HoldsInside c t p l = (m : WallMasks) → holdAnswer binary64 c t p (length l) ≡ Done m → (j : ℕ) → j < c .dim → boxed (c .shape) j ≡ true → InBox c j (at (holdOutput binary64 c t p l) j)
 
 -- ---- which walls moved the row of brake or hold
 
@@ -190,16 +245,28 @@ pub record SentWalls (c : FuseConfig) (p : List Float) (m : WallMasks) (out : Li
   -- a coordinate that the position lacks counts as 0.0
   pub where-it-has : (j : ℕ) → j < length p → j < 8 → at (eight p 8) j ≡ at p j
   pub where-it-lacks : (j : ℕ) → length p ≤ j → j < 8 → at (eight p 8) j ≡ +0
-  -- the row stands on the wall whose bit is set, else where the position stood
+  -- an axis without a box has no bit, and stands where the pull onto the disc puts the position
+  pub no-bit-without-a-box : (j : ℕ) → j < live c → boxed (c .shape) j ≡ false → (bit (m .low) j ≡ false) × (bit (m .high) j ≡ false)
+  pub where-the-disc-puts-it : isPosition (c .kind) ≡ true → (j : ℕ) → j < live c → boxed (c .shape) j ≡ false → at out j ≡ at (ontoDisc binary64 (c .shape) (eight p 8) .value) j
+  -- one with a box stands on the wall whose bit is set, else where the position stood
   pub at-low-wall : isPosition (c .kind) ≡ true → (j : ℕ) → j < live c → bit (m .low) j ≡ true → at out j ≡ at (wallsAt binary64 c .lo) j
   pub at-high-wall : isPosition (c .kind) ≡ true → (j : ℕ) → j < live c → bit (m .high) j ≡ true → at out j ≡ at (wallsAt binary64 c .hi) j
-  pub at-neither : isPosition (c .kind) ≡ true → (j : ℕ) → j < live c → bit (m .low) j ≡ false → bit (m .high) j ≡ false → at out j ≡ at (eight p 8) j
+  pub at-neither : isPosition (c .kind) ≡ true → (j : ℕ) → j < live c → boxed (c .shape) j ≡ true → bit (m .low) j ≡ false → bit (m .high) j ≡ false → at out j ≡ at (eight p 8) j
 
 -- ---- a feasible forecast is inside as numbers, and not only by rounded differences
 
--- after each substep that counts, each live axis lies in its box
-abbrev pub StaysInside : Call → Gains → Type 0
-StaysInside x g = (k : ℕ) → k < N x → (j : ℕ) → j < live (x .config) → InBox (x .config) j (at (plantAfter x g (suc k) .p) j)
+-- after each substep that counts, each live axis that has a box lies in it, and on a disc the computed distance is at most the radius
+pub record StaysInside (x : Call) (g : Gains) : Type 0 where
+  pub in-its-box : (k : ℕ) → k < N x → (j : ℕ) → j < live (x .config) → boxed (x .config .shape) j ≡ true → InBox (x .config) j (at (plantAfter x g (suc k) .p) j)
+  pub on-its-disc : (k : ℕ) → k < N x → (cx cy radius : Float) → x .config .shape ≡ Disc cx cy radius → T (fits binary64 radius) → le (distanceAfter x g cx cy (suc k)) radius ≡ true
+
+-- ---- the margin of a round table without further axes: with another one the forecast, brake and hold compute what they did
+
+pub record MarginUnread (c : FuseConfig) (m : Float) : Type 0 where
+  pub same-forecast : (p v rows : List Float) (k : Header) (from : ℕ) → forecastOf binary64 (marginedBy c m) p v rows k from ≡ forecastOf binary64 c p v rows k from
+  pub same-brake : (p v : List Float) → brakeSent binary64 (marginedBy c m) p v ≡ brakeSent binary64 c p v
+  pub same-hold : (p : List Float) → holdSent binary64 (marginedBy c m) p ≡ holdSent binary64 c p
+  pub same-masks : (p : List Float) → masksSent binary64 (marginedBy c m) p ≡ masksSent binary64 c p
 
 -- ---- all of it
 
@@ -220,10 +287,20 @@ FeasibleExactly =
 
 pub record Promised : Type 0 where
   pub demand-3-holds : (x : Call) (g : Gains) → SecondOrder x g → OnlyThirteen x → Demand3 x g
+  pub setpoint-placed : (x : Call) (g : Gains) → SecondOrder x g → OnlyThirteen x → SetpointPlaced x g
+  -- the margin, which moves walls, does not move a disc
+  pub margin-leaves-the-disc : (c : FuseConfig) (x y radius m : Float) → c .shape ≡ Disc x y radius → c .«pos_dim» ≤ 2 → MarginUnread c m
+  pub nothing-left : (x : Call) (g : Gains) → SecondOrder x g → OnlyThirteen x → N x ≡ 0 → NothingLeft x g
+  pub box-forecast : (x : Call) (g : Gains) → x .config .shape ≡ Box → BoxForecast x g
+  pub disc-forecast :
+      (x : Call) (g : Gains) → SecondOrder x g → (n : ℕ) (margin : Float) (feasible : Bool) (stop : Float) → answer x ≡ Accepted n margin feasible stop
+      → (cx cy radius : Float) → x .config .shape ≡ Disc cx cy radius → T (fits binary64 radius) → (k : ℕ) → k < N x → DiscForecast x g cx cy radius k
   pub shorter-begins-longer : ShorterBegins
   pub feasible-exactly-where : FeasibleExactly
   pub feasible-is-inside : (x : Call) (g : Gains) → SecondOrder x g → (n : ℕ) (margin stop : Float) → answer x ≡ Accepted n margin true stop → StaysInside x g
   pub brakes-inside : (c : FuseConfig) (t : Tables) → isPosition (c .kind) ≡ true → (p v l : List Float) → BrakesInside c t p v l
   pub holds-inside : (c : FuseConfig) (t : Tables) → isPosition (c .kind) ≡ true → (p l : List Float) → HoldsInside c t p l
+  -- with a box hold computes nothing, and is never refused with 13
+  pub box-holds : (c : FuseConfig) (t : Tables) → c .shape ≡ Box → (p : List Float) (room : ℕ) (r : Refusal) → holdAnswer binary64 c t p room ≡ Sent.Refused r → r .number ≡ 13 → ⊥
   pub brake-walls : (c : FuseConfig) (t : Tables) (p v l : List Float) (m : WallMasks) → brakeAnswer binary64 c t p v (length l) ≡ Done m → SentWalls c p m (brakeOutput binary64 c t p v l)
   pub hold-walls : (c : FuseConfig) (t : Tables) (p l : List Float) (m : WallMasks) → holdAnswer binary64 c t p (length l) ≡ Done m → SentWalls c p m (holdOutput binary64 c t p l)

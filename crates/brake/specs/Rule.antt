@@ -32,9 +32,9 @@ use Rattle.stopping.specs.Rule as stopping
 abbrev pub live : FuseConfig → ℕ
 live c = min (c .dim) (c .«pos_dim»)
 
--- the walls that are derived (R4)
+-- the shape, and the walls that are derived (R4)
 abbrev pub wallsAt : Format → FuseConfig → Walls
-wallsAt f c = record { lo = derived f c .«box_lo»; hi = derived f c .«box_hi» }
+wallsAt f c = record { shape = c .shape; lo = derived f c .«box_lo»; hi = derived f c .«box_hi» }
 
 -- ---- the forecast
 
@@ -127,7 +127,7 @@ brakeRow f EePosition a dt w p v n = setpoint f w p n
 brakeRow f JointPosition a dt w p v n = setpoint f w p n
 brakeRow f Other a dt w p v n = setpoint f w p n
 
--- the row that holds: no velocity, or the latched position inside its walls
+-- the row that holds: no velocity, or the latched position moved inside
 unfoldable pub holdRow : Format → ActionKind → Walls → List Float → ℕ → Checked (List Float)
 holdRow f JointVelocity w p n = pure (replicate 8 +0)
 holdRow f EeDelta w p n = pure (replicate 8 +0)

@@ -1,5 +1,6 @@
--- Worked rows, by computation: a position beyond its wall is sent to the wall, one that is missing to 0.0, and an arm that brakes harder than it moves stops; and
--- the walls that moved a row.
+-- Worked rows, by computation: a position beyond its wall is sent to the wall, one that is missing to 0.0, and an arm that brakes harder than it moves stops; the
+-- walls that moved a row; and the place of a setpoint that is not finite.
+use Prim.Native.Nat.{ℕ}
 use mathlib.Core.Path.{_≡_, refl}
 use mathlib.Core.Bool.{true, false}
 use mathlib.Core.List.{[], _∷_}
@@ -8,27 +9,34 @@ use lib.ListN.{replicate}
 use lib.Ieee.{fin, binary64, round, add, sub, mul, div, lt, le, eq}
 use Rattle.root.specs.Root.{floorRoot, nearRoot, half, rootExponent, scaled, number, rootOf}
 use Rattle.checked.specs.Constants.{1!, 2! }
-use Rattle.checked.specs.Each.{over}
+use Rattle.checked.specs.Each.{all, over}
 use Rattle.checked.specs.Finite.{finite, +0}
-use Rattle.checked.specs.Least.{greater}
+use Rattle.checked.specs.Least.{lesser, greater, least}
 use Rattle.fmath.specs.Clamp.{clamped, side}
-use Rattle.checked.specs.Checked.{sumFrom, each, pure}
-use Rattle.fmath.specs.Norm.{squareAt, norm}
+use Rattle.checked.specs.Checked.{sumFrom, each, leastOf, pure}
+use Rattle.fmath.specs.Norm.{squareAt, norm, squaredGap, dist}
+use Rattle.pull.specs.Rule.{pulled}
 use Rattle.envelope.specs.declared.ActionKind.the-variants.{EePosition, EeDelta, JointVelocity}
 use Rattle.bits.specs.Bits.{bitsWhere}
-use Rattle.workspace.specs.Rule.{Walls, inward, wallMasks, unmoved, setpoint, setpointMasks}
+use Rattle.workspace.specs.declared.Shape.{Shape}
+use Rattle.workspace.specs.declared.Shape.the-variants.{Box, Disc}
+use Rattle.workspace.specs.Rule.{Walls, ontoDisc, inward, wallMasks, unmoved, setpointMasks, between, toEdge, slackIn}
+use Rattle.workspace.specs.Rule as workspace
+use Rattle.course.specs.Forecast.{leading, placeOf}
+use Rattle.rollout.specs.Plant.{axis, substep}
+use Rattle.rollout.specs.Rule.{Task, followed, setpoint, aimed, after, entry, stopDistance, stop, forecast}
 use Rattle.checked.specs.Row.{padded, eight}
 use Rattle.brake.specs.Rule.{ramp, scaledAt, slowed, slower, shorter, brakeRow, holdRow, sentMasks}
 
 abbrev walls : Walls
-walls = record { lo = fin true 1 (pos 0) ∷ fin true 1 (pos 0) ∷ []; hi = 2! ∷ 2! ∷ [] }
+walls = record { shape = Box; lo = fin true 1 (pos 0) ∷ fin true 1 (pos 0) ∷ []; hi = 2! ∷ 2! ∷ [] }
 
 sent-to-the-wall : holdRow binary64 EePosition walls (fin false 5 (pos 0) ∷ []) 2 ≡ pure (2! ∷ replicate 7 +0)
-unfolding holdRow setpoint eight padded inward over clamped lt
+unfolding holdRow workspace.setpoint eight padded inward ontoDisc over clamped lt
 sent-to-the-wall = refl
 
 braked-like-held : brakeRow binary64 EePosition 1! 1! walls (fin false 5 (pos 0) ∷ []) [] 2 ≡ pure (2! ∷ replicate 7 +0)
-unfolding brakeRow setpoint eight padded inward over clamped lt
+unfolding brakeRow workspace.setpoint eight padded inward ontoDisc over clamped lt
 braked-like-held = refl
 
 stops : brakeRow binary64 JointVelocity 2! 1! walls [] (1! ∷ []) 2 ≡ pure (replicate 8 +0)
@@ -41,7 +49,7 @@ stops-in-place = refl
 
 -- axis 1 has its low wall at 1, so that the 0.0 of a position with one coordinate is raised; 5 is lowered on axis 0
 abbrev above : Walls
-above = record { lo = fin true 1 (pos 0) ∷ 1! ∷ []; hi = 2! ∷ 2! ∷ [] }
+above = record { shape = Box; lo = fin true 1 (pos 0) ∷ 1! ∷ []; hi = 2! ∷ 2! ∷ [] }
 
 walls-of-a-short-position : sentMasks EePosition above (fin false 5 (pos 0) ∷ []) 2 ≡ record { low = 2; high = 1 }
 unfolding sentMasks setpointMasks wallMasks bitsWhere eight padded over side lt
@@ -55,3 +63,25 @@ walls-cut = refl
 no-wall-for-a-velocity : sentMasks JointVelocity above (fin false 5 (pos 0) ∷ []) 2 ≡ unmoved
 unfolding sentMasks
 no-wall-for-a-velocity = refl
+
+-- ---- nothing left to run on a round table: from is at commit, and the arm stands at (1e200, 0)
+
+abbrev farAway : Shape → ℕ → Task
+farAway shape steps = record {
+  gains = record { kp = 1!; kv = 1!; dt = 1! };
+  walls = record { shape = shape; lo = replicate 8 +0; hi = replicate 8 +0 };
+  n = 2;
+  start = record { p = fin false 0xa738c6bebb12d (pos 613) ∷ +0 ∷ []; v = +0 ∷ +0 ∷ [] };
+  rows = +0 ∷ +0 ∷ [];
+  horizon = 1;
+  dim = 2;
+  from = 1;
+  commit = record { 0 = 1 };
+  brake = record { 0 = steps };
+  per = record { 0 = 1 };
+}
+
+-- its distance is not finite, so the setpoint is not: place 1, with no step that brakes and with one; with a box nothing is computed for it
+place-of-the-setpoint : (placeOf (forecast binary64 (farAway (Disc +0 +0 1!) 0)) ≡ 1) × (placeOf (forecast binary64 (farAway (Disc +0 +0 1!) 1)) ≡ 1) × (placeOf (forecast binary64 (farAway Box 0)) ≡ 0)
+unfolding placeOf leading all stop entry aimed setpoint followed after stopDistance substep axis slackIn leastOf least lesser toEdge between inward ontoDisc pulled over clamped dist squaredGap sumFrom rootOf round lt le eq add sub mul finite
+place-of-the-setpoint = (refl, refl, refl)

@@ -2,7 +2,7 @@
 ghost use mathlib.Core.Path.{_≡_};
 ghost use mathlib.Core.Bool.{true};
 ghost use mathlib.Core.List.{_++_};
-ghost use Prim.Native.Nat.{ℕ, suc, _≤_};
+ghost use Prim.Native.Nat.{suc, _≤_};
 ghost use lib.ListN.{length};
 ghost use lib.Ieee.{binary64};
 ghost use Rattle.refusal.specs.Order.{refusal};
@@ -12,16 +12,15 @@ ghost use Rattle.conformal.specs.Of.{tables};
 ghost use Rattle.envelope.specs.Refusals.{configJudged};
 ghost use Rattle.envelope.specs.Steps.{substepsIn};
 ghost use Rattle.workspace.specs.Of.{wallsOf};
-ghost use Rattle.course.specs.Plant.{State};
 ghost use Rattle.course.specs.Forecast.{Forecast, writtenOf};
 ghost use Rattle.rollout.specs.Rule as rolling;
-ghost use Rattle.course.specs.Of.{leftOf, runOf};
+ghost use Rattle.course.specs.Of.{leftOf};
 ghost use Rattle.rollout.specs.Of as rolled;
 ghost use Rattle.stopping.specs.Rule as stopping-rule;
 ghost use Rattle.stopping.specs.Of as stopped;
 ghost use Rattle.brake.specs.Rule.{live, armOf, forecastOf, ramp, scaledAt, slowed, slower, shorter, brakeRow, holdRow, sentMasks};
 ghost use Rattle.brake.specs.Answer.{tooShort, outcome, lentJudged, forecastAnswer, forecastSlacks, rowLent, brakeAnswer, brakeOutput, holdAnswer, holdOutput};
-ghost use Rattle.brake.specs.Of.{workspaceFrom, workspaceFor, courseFor, startFor, countFor, Planned};
+ghost use Rattle.brake.specs.Of.{workspaceFrom, workspaceFor, courseFor, startFor, countFor, Settles, Planned};
 ghost use Rattle.checked.specs.Of.{rowFrom, reckonedFrom};
 use checked::Reckoned;
 use checked::Row;
@@ -37,6 +36,7 @@ use envelope::FuseConfig;
 use refusal::Refusal;
 use rollout::Law;
 use stopping::Arm;
+use workspace::Shape;
 use workspace::WallMasks;
 use workspace::Workspace;
 
@@ -57,13 +57,13 @@ pub enum Sent {
     Refused(Refusal),
 }
 
-// The walls that are derived (R4).
-fn workspace_of(d: Derived) -> Workspace
-    ensures { λ r. ⌜ r ≡ workspaceFrom d ⌝ }
+// The shape, and the walls that are derived (R4).
+fn workspace_of(shape: Shape, d: Derived) -> Workspace
+    ensures { λ r. ⌜ r ≡ workspaceFrom shape d ⌝ }
 {
     let lo = d.box_lo;
     let hi = d.box_hi;
-    Workspace { lo, hi }
+    Workspace { shape, lo, hi }
 }
 
 // ---- the forecast
@@ -116,7 +116,7 @@ fn start_of(c: FuseConfig, pos: &[f64], vel: &[f64]) -> Plant
 // What a run and the stop distance at its end come to: the first number that isn't finite has the place after the entries.
 fn settled(run: Run, stop: Reckoned) -> BrakeOut
     requires { ⌜ run .done ≤ 4096 ⌝ }
-    ensures { λ r. ⌜ ((t : Forecast) (stand : ℕ → State) → run ≡ runOf t stand → (run .sound ≡ true → stop ≡ reckonedFrom (t .stop)) → r ≡ outcome t) ⌝ }
+    ensures { λ r. ⌜ ((t : Forecast) → Settles t run stop → r ≡ outcome t) ⌝ }
 {
     if !run.sound | !stop.sound {
         return BrakeOut::Refused(Refusal {
@@ -258,7 +258,7 @@ fn forecast_refusal(
     Refusal::or_later(number, Refusal::or_later(sizes, lent))
 }
 
-// Whether the arm can still stop inside its walls: from row `from` through the committed rows and the braking after them. The slack
+// Whether the arm can still stop inside its workspace: from row `from` through the committed rows and the braking after them. The slack
 // entries are filled in order and the rest stays. A computed number that isn't finite is refused with its place, the entries before it
 // being written; any other refusal, by the first number of the order that applies, writes nothing.
 pub fn brake_feasible(
@@ -280,7 +280,8 @@ pub fn brake_feasible(
     if number != 0 {
         return BrakeOut::Refused(Refusal::of(number));
     }
-    let w = workspace_of(compiled.derived);
+    let shape = c.shape;
+    let w = workspace_of(shape, compiled.derived);
     forecast(c, w, pos, vel, rows, header, from, slack)
 }
 
@@ -426,7 +427,8 @@ pub fn brake_action(
     if number != 0 {
         return Sent::Refused(Refusal::of(number));
     }
-    let w = workspace_of(compiled.derived);
+    let shape = c.shape;
+    let w = workspace_of(shape, compiled.derived);
     let kind = c.kind;
     let row = brake_row(kind, c.limits.a_max, c.limits.dt, w, pos, vel, c.dim);
     if !row.sound {
@@ -453,7 +455,8 @@ pub fn hold_action(
     if number != 0 {
         return Sent::Refused(Refusal::of(number));
     }
-    let w = workspace_of(compiled.derived);
+    let shape = c.shape;
+    let w = workspace_of(shape, compiled.derived);
     let kind = c.kind;
     let held = hold_row(kind, w, pos, c.dim);
     if !held.sound {

@@ -23,6 +23,7 @@ use Rattle.envelope.specs.declared.Norm.{Norm}
 use Rattle.envelope.specs.declared.Box.{Box}
 use Rattle.envelope.specs.declared.BrakeModel.{BrakeModel}
 use Rattle.envelope.specs.declared.FuseConfig.{FuseConfig}
+use Rattle.workspace.specs.declared.Shape.the-variants as shapes
 use Rattle.brake.specs.Answer.{forecastAnswer, forecastSlacks}
 use Rattle.brake.specs.declared.BrakeOut.{BrakeOut}
 use Rattle.brake.specs.declared.BrakeOut.the-variants.{Accepted, Refused}
@@ -72,6 +73,7 @@ configOf c = record {
   limits = limitsOf;
   norm = normOf;
   walls = wallsOf c;
+  shape = shapes.Box;
   zones = noZones;
   «absent_camera» = Slow;
   brake = brakeOf c;

@@ -27,6 +27,7 @@ use envelope::Zones;
 use refusal::Refusal;
 use words::float_of;
 use words::pattern;
+use workspace::Shape;
 
 // What a line says: the answer's number, the count and, where it is accepted, the bits of the margin and of the stop distance.
 pub struct Answer {
@@ -129,6 +130,7 @@ pub fn configure(c: Card) -> FuseConfig
         limits,
         norm,
         walls,
+        shape: Shape::Box,
         zones,
         absent_camera: AbsentCamera::Slow,
         brake,

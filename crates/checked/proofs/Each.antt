@@ -9,7 +9,7 @@ use native.Mathlib.Numerals.{add-one}
 use native.Mathlib.Omega.{arith}
 use borrow.Author.Count.{below-more}
 use lib.ListN.{length, getD, take, set, length-append, length-set, List·getD-append, List·getD-eq-default}
-use lib.Seq.{take-suc-set, take-all, set-out, getD-append-seam, getD-set-same, getD-set-other}
+use lib.Seq.{take-suc-set, take-all, set-out, set-getD, getD-append-seam, getD-set-same, getD-set-other}
 use lib.Ieee.{Float, nan}
 use Rattle.checked.specs.Each.{at, all, some, every, every-from, table, over}
 
@@ -118,6 +118,12 @@ some-cut p (suc n) m h = go (decLe m n) (some-cut p n m h)
     go (yes l) e = let k : min (suc n) m ≡ min n m = omega arith in rw (h n l, k) (or-false (some p n) ∙ e)
     go (no l) e = let k : min (suc n) m ≡ suc n = omega (arith, lt-of-not-le l) in rw k
 
+-- tests that agree
+pub some-same : (p q : ℕ → Bool) (n : ℕ) → ((i : ℕ) → i < n → p i ≡ q i) → some p n ≡ some q n
+unfolding some
+some-same p q zero e = refl
+some-same p q (suc n) e = rw (some-same p q n (λ i l. e i (omega arith)), e n (omega arith))
+
 -- none holds: each fails, and the other way round
 pub some-none : (p : ℕ → Bool) (n : ℕ) → ((j : ℕ) → j < n → p j ≡ false) → some p n ≡ false
 unfolding some
@@ -185,6 +191,12 @@ unfolding table
 table-long g zero = refl
 table-long g (suc n) = let e = table-long g n in length-append (table g n) (g n ∷ []) ∙ omega arith
 
+-- of numbers that agree
+pub table-same : (g h : ℕ → Float) (n : ℕ) → ((j : ℕ) → j < n → g j ≡ h j) → table g n ≡ table h n
+unfolding table
+table-same g h zero e = refl
+table-same g h (suc n) e = rw (table-same g h n (λ j b. e j (omega arith)), e n (omega arith))
+
 -- entry j of a table
 pub table-at : (g : ℕ → Float) (n j : ℕ) → j < n → at (table g n) j ≡ g j
 unfolding table
@@ -205,6 +217,12 @@ pub over-same : (g h : ℕ → Float) (l : List Float) (n : ℕ) → ((j : ℕ) 
 unfolding over
 over-same g h l zero e = refl
 over-same g h l (suc n) e = rw (over-same g h l n (λ j b. e j (omega arith)), e n (omega arith))
+
+-- entries put over themselves change nothing
+pub over-itself : (g : ℕ → Float) (l : List Float) (n : ℕ) → ((j : ℕ) → j < n → g j ≡ at l j) → over g l n ≡ l
+unfolding over
+over-itself g l zero e = refl
+over-itself g l (suc n) e = rw (over-itself g l n (λ j b. e j (omega arith)), e n (omega arith)) (set-getD l n nan)
 
 pub length-over : (g : ℕ → Float) (l : List Float) (n : ℕ) → length (over g l n) ≡ length l
 unfolding over

@@ -5,7 +5,7 @@ use Prim.Native.Nat.{ℕ, zero, suc, _+_, _≤_, _<_}
 use native.Mathlib.Numerals.{add-one}
 use native.Mathlib.Omega.{arith}
 use borrow.Author.Count.{below-more}
-use mathlib.Core.Logic.{_⊎_, inl, inr}
+use mathlib.Core.Logic.{_⊎_, inl, inr, ⊎-elim}
 use lib.Ieee.{Float, nan, inf, fin, lt, isNan}
 use Rattle.checked.specs.Least.{lesser, greater, least, greatest}
 use Rattle.checked.proofs.Ordered.{Real, lt-not-below, lt-asymmetric, lt-irrefl, lt-transitive, below-nan}
@@ -113,6 +113,13 @@ module _ (g : ℕ → Float) where
   unfolding least isNan
   least-real zero w = tt
   least-real (suc n) w = lesser-real (least g n) (g n) (least-real n (λ j h. w j (omega arith))) (w n (omega arith))
+
+  -- where infinity and no member is below x, nor is the least
+  pub least-not-below : (x : Float) → lt (inf false) x ≡ false → (n : ℕ) → ((j : ℕ) → j < n → lt (g j) x ≡ false) → lt (least g n) x ≡ false
+  unfolding least
+  least-not-below x start zero w = start
+  least-not-below x start (suc n) w =
+      ⊎-elim (λ e. rw e (least-not-below x start n (λ j h. w j (omega arith)))) (λ e. rw e (w n (omega arith))) (lesser-either (least g n) (g n))
 
   -- no member is below the least
   pub least-bounds : (n : ℕ) → ((j : ℕ) → j < n → Real (g j)) → (j : ℕ) → j < n → lt (g j) (least g n) ≡ false

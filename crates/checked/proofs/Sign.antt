@@ -1,21 +1,25 @@
--- The sign of a difference is the order of its numbers: where x < y, both of the format f, x - y is below zero, and no rounding makes it zero.
+-- The sign of a difference is the order of its numbers: of two numbers of the format f, x - y is below zero exactly where x < y. No rounding makes it zero there, nor
+-- turns its sign elsewhere.
 use mathlib.Core.Path.{_≡_, refl, sym, ap, _∙_, subst}
 use mathlib.Core.Bool.{Bool, true, false, _&&_, not, cond}
 use mathlib.Core.Logic.{_⊎_, inl, inr, ⊎-elim}
 use Prim.Native.Nat.{ℕ, zero, suc, _+_, _-_, _*_, _/_, _%_, _^_, _≤_, _<_, compare}
 use native.Mathlib.Nat.{le-trans, le-of-lt, add-mul, mul-sub, mul-comm, mul-assoc, mul-pos, one-mul, mul-le-mul-left, mul-le-mul-right, le-mul-of-pos-right, mul-div-le, le-div-iff-mul-le}
 use native.Mathlib.Omega.{arith}
-use borrow.Author.Tests.{ltb-true, lt-ltb, le-ltb, leb-true, leb-false}
+use borrow.Author.Tests.{ltb-true, ltb-false, lt-ltb, le-ltb, leb-true, leb-false}
 use lib.Dec.{T, ltb, leb, eqb, leb→le, eqb→eq}
 use lib.IntN.{ℤ, pos, negsuc}
 use lib.Pow.{pow-add, pow-pos}
-use lib.Ieee.{Float, Format, nan, inf, fin, prec, emax, low, up, down, size, nearest, odd, units, round, sum, add, sub, neg, lt, below, fits}
+use lib.Ieee.{Float, Format, binary32, binary64, nan, inf, fin, prec, emax, low, up, down, size, nearest, odd, units, round, sum, add, sub, neg, lt, le, below, fits}
 use lib.Ieee.Digits.{size-lt, size-reaches}
 use lib.Ieee.Exact.{HasValue, odd-sign}
 use lib.Ieee.Fits.{round-is, two, up-pos, down-pos, and-l, and-r}
 use lib.Ieee.Nearest.{nearest-ge}
 use lib.Ieee.Positive.{first-pos}
+use lib.Ieee.Scale.{round-same}
 use Rattle.checked.specs.Finite.{finite, +0}
+use Rattle.checked.proofs.Absorbing.{fine-sub-left, fine-sub-right}
+use Rattle.checked.proofs.Ordered.{finite-real, le-not-above}
 
 abbrev Down : Float → Type 0
 Down x = lt x +0 ≡ true
@@ -123,7 +127,40 @@ fits-down f s (suc m) e h =
     let b : Bool = leb (down e) (2 ^ low f) in
     leb→le (down e) (2 ^ low f) (and-r a b (and-l (a && b) (ltb (suc m * up e) (2 ^ suc (emax f) * down e)) h))
 
--- ---- the law
+-- ---- what is rounded with a plus, or from nothing, is not below zero
+
+abbrev NotDown : Float → Type 0
+NotDown x = lt x +0 ≡ false
+
+value-not-down : (x : Float) (a c : ℕ) → HasValue x false a c → NotDown x
+unfolding lt
+value-not-down nan a c h = absurd h
+value-not-down (inf s) a c h = absurd h
+value-not-down (fin true m e) a c h = absurd (subst T (h .0) tt)
+value-not-down (fin false m e) a c h = le-ltb (m * up e * 1) (0 * down e) (omega arith)
+
+units-not-down : (f : Format) (q k : ℕ) → NotDown (units f false q k)
+unfolding units lt
+units-not-down f q k = go (ltb (q * 2 ^ k) (2 ^ (low f + suc (emax f))))
+  where
+    go : (b : Bool) → NotDown (cond b (odd (suc (prec f)) false q k (low f)) (inf false))
+    go true = value-not-down (odd (suc (prec f)) false q k (low f)) (q * 2 ^ k) (2 ^ low f) (odd-sign (suc (prec f)) false q k (low f))
+    go false = refl
+
+round-not-down : (f : Format) (num den : ℕ) → NotDown (round f false num den)
+unfolding round
+round-not-down f num den = units-not-down f _ _
+
+-- nothing, rounded with a minus, is -0, which is not below zero
+minus-zero : (f : Format) → NotDown (round f true 0 1)
+unfolding lt round size units odd
+minus-zero binary32 = refl
+minus-zero binary64 = refl
+
+nothing-not-down : (f : Format) (num den : ℕ) → 0 < den → num ≡ 0 → NotDown (round f true num den)
+nothing-not-down f num den h z = rw (z, round-same f true 0 den 0 1 h (pow-pos 0) (omega arith)) (minus-zero f)
+
+-- ---- the laws
 
 pub difference-below-zero : (f : Format) (x y : Float) → T (fits f x) → T (fits f y) → finite x ≡ true → finite y ≡ true → lt x y ≡ true → lt (sub f x y) +0 ≡ true
 unfolding finite sub add neg sum lt
@@ -153,3 +190,48 @@ difference-below-zero f (fin s m e) (fin t n d) p q a b h = go s t h
     go false true h = absurd (subst T (sym h) tt)
     go true false h = round-down f (A + B) C c (of-sum w (ltb-true 0 (A + B) h))
     go true true h = rw (le-ltb A B (le-of-lt (ltb-true B A h)), h) (round-down f (A - B) C c (of-less w (omega (arith, ltb-true B A h))))
+
+-- where x is not below y, it is not below zero; here neither has to be of the format
+pub difference-not-below : (f : Format) (x y : Float) → finite x ≡ true → finite y ≡ true → lt x y ≡ false → lt (sub f x y) +0 ≡ false
+unfolding finite sub add neg sum lt
+difference-not-below f nan y a b h = absurd (subst T (sym a) tt)
+difference-not-below f (inf s) y a b h = absurd (subst T (sym a) tt)
+difference-not-below f (fin s m e) nan a b h = absurd (subst T (sym b) tt)
+difference-not-below f (fin s m e) (inf t) a b h = absurd (subst T (sym b) tt)
+difference-not-below f (fin s m e) (fin t n d) a b h = go s t h
+  where
+    A : ℕ
+    A = m * up e * down d
+
+    B : ℕ
+    B = n * up d * down e
+
+    C : ℕ
+    C = down e * down d
+
+    either : (b : Bool) → NotDown (cond b (round f false (B - A) C) (round f false (A - B) C))
+    either true = round-not-down f (B - A) C
+    either false = round-not-down f (A - B) C
+
+    go : (s t : Bool) → below s A t B ≡ false → NotDown (sum f s A (not t) B C)
+    go false false h = rw h (round-not-down f (A - B) C)
+    go false true h = round-not-down f (A + B) C
+    go true false h =
+        let l : A + B ≤ 0 = ltb-false 0 (A + B) h in
+        nothing-not-down f (A + B) C (mul-pos (down-pos e) (down-pos d)) (omega arith)
+    go true true h = rw h (either (ltb A B))
+
+pub difference-sign : (f : Format) (x y : Float) → T (fits f x) → T (fits f y) → finite x ≡ true → finite y ≡ true → lt (sub f x y) +0 ≡ lt x y
+difference-sign f x y p q a b = go (lt x y) refl
+  where
+    go : (c : Bool) → lt x y ≡ c → lt (sub f x y) +0 ≡ c
+    go true h = difference-below-zero f x y p q a b h
+    go false h = difference-not-below f x y a b h
+
+-- so a finite difference is zero or above exactly where its numbers are in order
+pub difference-not-negative : (f : Format) (x y : Float) → T (fits f x) → T (fits f y) → finite (sub f x y) ≡ true → le +0 (sub f x y) ≡ le y x
+unfolding finite
+difference-not-negative f x y p q h =
+    let a : finite x ≡ true = fine-sub-left f x y h in
+    let b : finite y ≡ true = fine-sub-right f x y h in
+    le-not-above +0 (sub f x y) (finite-real +0 refl) (finite-real (sub f x y) h) ∙ ap not (difference-sign f x y p q a b) ∙ sym (le-not-above y x (finite-real y b) (finite-real x a))

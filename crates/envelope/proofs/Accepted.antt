@@ -4,7 +4,7 @@ use mathlib.Core.Path.{_≡_, ap}
 use mathlib.Core.Bool.{true, false, not}
 use borrow.Author.Tests.{leb-true, not-true, not-false}
 use lib.Ieee.{Format, lt}
-use Rattle.refusal.specs.Order.{size, number, steps, channels, withdrawn, among, refusal}
+use Rattle.refusal.specs.Order.{size, number, steps, channels, shape, withdrawn, among, refusal}
 use Rattle.refusal.specs.Exactly.{exactly-none}
 use Rattle.checked.specs.Each.{at}
 use Rattle.checked.specs.Finite.{finite, allFinite}
@@ -12,7 +12,7 @@ use Rattle.checked.proofs.Each.{all-at, every-at}
 use Rattle.conformal.specs.Rule.{Tables}
 use Rattle.envelope.specs.Derive.{derived}
 use Rattle.envelope.specs.Steps.{substepsIn}
-use Rattle.envelope.specs.Refusals.{sizesOk, ordered, scalarsOk, derivedOk, numbersFrom, numbersOk, countsOk, stepsOk, channelsFit, featuresOk, configJudged}
+use Rattle.envelope.specs.Refusals.{sizesOk, ordered, scalarsOk, derivedOk, numbersFrom, numbersOk, countsOk, stepsOk, channelsFit, shapeFits, featuresOk, configJudged}
 use Rattle.envelope.specs.Promises.{Fit}
 use Rattle.envelope.specs.declared.Compiled.{Compiled}
 use Rattle.envelope.specs.declared.FuseConfig.{FuseConfig}
@@ -35,6 +35,7 @@ accepted f c t h =
       numbers = not-false (numbersOk f c t) (passed number);
       counts = not-false (stepsOk c) (passed steps);
       apart = not-false (channelsFit c) (passed channels);
+      spanned = not-false (shapeFits c) (passed shape);
       features = not-false (featuresOk c) (passed withdrawn);
     }
 
@@ -45,11 +46,19 @@ module _ (f : Format) (c : FuseConfig) (t : Tables) (fit : Fit f c t) where
   unfolding sizesOk
   dim-most = leb-true _ _ (every-at _ 1 (fit .sizes))
 
+  pub dim-least : 1 ≤ c .dim
+  unfolding sizesOk
+  dim-least = leb-true _ _ (every-at _ 0 (fit .sizes))
+
+  pub pos-dim-least : 1 ≤ c .«pos_dim»
+  unfolding sizesOk
+  pos-dim-least = leb-true _ _ (every-at _ 2 (fit .sizes))
+
   -- ---- the derived numbers
 
   derived-fit : derivedOk (derived f c) ≡ true
   unfolding numbersFrom
-  derived-fit = every-at _ 5 (fit .numbers)
+  derived-fit = every-at _ 6 (fit .numbers)
 
   -- the longest step is a finite number
   pub step-max-finite : finite (derived f c .«step_max») ≡ true

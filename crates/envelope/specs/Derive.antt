@@ -1,6 +1,6 @@
 -- What is derived from a configuration (R4), over the format, in the source's operation order.
 use Prim.Native.Nat.{ℕ, min}
-use mathlib.Core.Bool.{Bool}
+use mathlib.Core.Bool.{Bool, _&&_}
 use mathlib.Core.List.{List}
 use lib.Dec.{ltb}
 use lib.Ieee.{Float, Format, add, sub, mul, div}
@@ -9,6 +9,8 @@ use Rattle.checked.specs.Constants.{1! }
 use Rattle.checked.specs.Each.{at, table}
 use Rattle.checked.specs.Finite.{+0}
 use Rattle.checked.specs.Least.{least}
+use Rattle.workspace.specs.declared.Shape.{Shape}
+use Rattle.workspace.specs.Shape.{boxed}
 use Rattle.envelope.specs.declared.Limits.{Limits}
 use Rattle.envelope.specs.declared.Norm.{Norm}
 use Rattle.envelope.specs.declared.Box.{Box}
@@ -35,13 +37,13 @@ invDt3 f dt = mul f (invDt2 f dt) (invDt f dt)
 unfoldable pub stepMax : Format → Float → Float → Float
 stepMax f v dt = mul f v dt
 
--- ---- the workspace: the box moved inward by the margin on the first n axes, 0..0 past them
+-- ---- the workspace: the box moved inward by the margin on those of the first n axes that have one, 0..0 on the others
 
-unfoldable pub lowWalls : Format → List Float → Float → ℕ → List Float
-lowWalls f lo margin n = table (λ (i : ℕ). kept (ltb i n) (add f (at lo i) margin)) 8
+unfoldable pub lowWalls : Format → Shape → List Float → Float → ℕ → List Float
+lowWalls f s lo margin n = table (λ (i : ℕ). kept (boxed s i && ltb i n) (add f (at lo i) margin)) 8
 
-unfoldable pub highWalls : Format → List Float → Float → ℕ → List Float
-highWalls f hi margin n = table (λ (i : ℕ). kept (ltb i n) (sub f (at hi i) margin)) 8
+unfoldable pub highWalls : Format → Shape → List Float → Float → ℕ → List Float
+highWalls f s hi margin n = table (λ (i : ℕ). kept (boxed s i && ltb i n) (sub f (at hi i) margin)) 8
 
 -- ---- the norm
 
@@ -55,17 +57,17 @@ isotropic scale n = least (at scale) (min n 8)
 
 -- ---- all of it
 
-unfoldable pub derivedFrom : Format → Limits → Norm → Box → ℕ → ℕ → Derived
-derivedFrom f l norm walls dim pos-dim = record {
+unfoldable pub derivedFrom : Format → Limits → Norm → Shape → Box → ℕ → ℕ → Derived
+derivedFrom f l norm s walls dim pos-dim = record {
   «inv_dt» = invDt f (l .dt);
   «inv_dt2» = invDt2 f (l .dt);
   «inv_dt3» = invDt3 f (l .dt);
   «step_max» = stepMax f (l .«v_max») (l .dt);
-  «box_lo» = lowWalls f (walls .lo) (l .margin) pos-dim;
-  «box_hi» = highWalls f (walls .hi) (l .margin) pos-dim;
+  «box_lo» = lowWalls f s (walls .lo) (l .margin) pos-dim;
+  «box_hi» = highWalls f s (walls .hi) (l .margin) pos-dim;
   «inv_norm_scale» = inverses f (norm .scale) dim;
   «norm_scale_iso» = isotropic (norm .scale) dim;
 }
 
 abbrev pub derived : Format → FuseConfig → Derived
-derived f c = derivedFrom f (c .limits) (c .norm) (c .walls) (c .dim) (c .«pos_dim»)
+derived f c = derivedFrom f (c .limits) (c .norm) (c .shape) (c .walls) (c .dim) (c .«pos_dim»)

@@ -4,11 +4,13 @@ use mathlib.Core.Bool.{Bool, true, false, not, _&&_, _||_}
 use mathlib.Core.List.{List, [], _∷_}
 use lib.Dec.{leb, ltb, eqb}
 use lib.Ieee.{Float, Format, lt}
-use Rattle.refusal.specs.Order.{Judged, size, number, steps, channels, withdrawn, _when_, refusal}
+use Rattle.refusal.specs.Order.{Judged, size, number, steps, channels, shape, withdrawn, _when_, refusal}
 use Rattle.checked.specs.Each.{at, all, every}
 use Rattle.checked.specs.Finite.{finite, aboveZero, notBelowZero, allFinite, allAboveZero}
 use Rattle.conformal.specs.Refusals as calibration
 use Rattle.conformal.specs.Rule.{Tables}
+use Rattle.workspace.specs.declared.Shape.{Shape}
+use Rattle.workspace.specs.Shape.{boxed, shapeOk, spans}
 use Rattle.envelope.specs.Derive.{derived}
 use Rattle.envelope.specs.Steps.{substepsIn}
 use Rattle.envelope.specs.Slots.{counted, zoneAt}
@@ -67,9 +69,13 @@ zonesOk z = all (λ (k : ℕ). zoneOk (zoneAt z k)) (counted z)
 unfoldable pub normOk : Norm → ℕ → Bool
 normOk norm dim = every (allFinite (norm .center) dim ∷ allAboveZero (norm .scale) dim ∷ [])
 
--- the walls of the first pos_dim axes are finite
-unfoldable pub boxOk : Box → ℕ → Bool
-boxOk walls pos-dim = every (allFinite (walls .lo) pos-dim ∷ allFinite (walls .hi) pos-dim ∷ [])
+-- those of the first n walls whose axis has a box are finite
+unfoldable pub wallsFinite : Shape → List Float → ℕ → Bool
+wallsFinite s walls n = all (λ (i : ℕ). not (boxed s i) || finite (at walls i)) n
+
+-- so are the walls of the first pos_dim axes
+unfoldable pub boxOk : Shape → Box → ℕ → Bool
+boxOk s walls pos-dim = every (wallsFinite s (walls .lo) pos-dim ∷ wallsFinite s (walls .hi) pos-dim ∷ [])
 
 -- no low wall exceeds its high wall
 unfoldable pub ordered : List Float → List Float → Bool
@@ -97,7 +103,7 @@ unfoldable pub numbersFrom : FuseConfig → Derived → Tables → Bool
 numbersFrom c d t =
     every
     (limitsOk (c .limits) ∷ brakeOk (c .brake .kind) ∷ zonesOk (c .zones) ∷ normOk (c .norm) (c .dim)
-    ∷ boxOk (c .walls) (c .«pos_dim») ∷ derivedOk d ∷ calibrationOk c t ∷ [])
+    ∷ shapeOk (c .shape) ∷ boxOk (c .shape) (c .walls) (c .«pos_dim») ∷ derivedOk d ∷ calibrationOk c t ∷ [])
 
 abbrev pub numbersOk : Format → FuseConfig → Tables → Bool
 numbersOk f c t = numbersFrom c (derived f c) t
@@ -136,6 +142,12 @@ pairIsOwn z k = all (λ (m : ℕ). not (samePair (zoneAt z m) (zoneAt z k))) k
 unfoldable pub zonesFit : Zones → ℕ → Bool
 zonesFit z aux = all (λ (k : ℕ). channelsOk (zoneAt z k) aux && pairIsOwn z k) (counted z)
 
+-- ---- 15
+
+-- the action and the position have the coordinates that a disc lies over
+abbrev pub shapeFits : FuseConfig → Bool
+shapeFits c = spans (c .shape) (c .dim) (c .«pos_dim»)
+
 -- ---- 17
 
 -- where the flag is set, the calibration's features are right
@@ -153,6 +165,7 @@ configJudged f c t =
     ∷ (number when not (numbersOk f c t))
     ∷ (steps when not (stepsOk c))
     ∷ (channels when not (channelsFit c))
+    ∷ (shape when not (shapeFits c))
     ∷ (withdrawn when not (featuresOk c)) ∷ []
 
 -- the number that it is refused with, and what is derived from it

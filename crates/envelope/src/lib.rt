@@ -6,9 +6,10 @@ ghost use Rattle.conformal.specs.Of.{tables};
 ghost use Rattle.envelope.specs.Derive.{kept, lowWalls, highWalls, inverses, isotropic, derived};
 ghost use Rattle.envelope.specs.Steps.{substepsIn};
 ghost use Rattle.envelope.specs.Slots.{counted};
-ghost use Rattle.envelope.specs.Refusals.{sizesOk, limitsOk, gainsOk, brakeOk, zoneOk, zonesOk, normOk, boxOk, scalarsOk, ordered, derivedOk, calibrationOk, numbersFrom, countsOk, stepsOk, channelsOk, samePair, pairIsOwn, zonesFit, featuresOk, compiled};
+ghost use Rattle.envelope.specs.Refusals.{sizesOk, limitsOk, gainsOk, brakeOk, zoneOk, zonesOk, normOk, wallsFinite, boxOk, scalarsOk, ordered, derivedOk, calibrationOk, numbersFrom, countsOk, stepsOk, channelsOk, samePair, pairIsOwn, zonesFit, featuresOk, compiled};
 use conformal::Calibration;
 use refusal::Refusal;
+use workspace::Shape;
 
 // What an action row commands.
 pub enum ActionKind {
@@ -104,7 +105,7 @@ pub struct Norm {
     pub scale: [f64; 8],
 }
 
-// The walls of each position axis.
+// The walls of each position axis that has a box.
 pub struct Box {
     pub lo: [f64; 8],
     pub hi: [f64; 8],
@@ -127,6 +128,7 @@ pub struct FuseConfig {
     pub limits: Limits,
     pub norm: Norm,
     pub walls: Box,
+    pub shape: Shape,
     pub zones: Zones,
     pub absent_camera: AbsentCamera,
     pub brake: BrakeModel,
@@ -175,27 +177,29 @@ fn keep(t: bool, x: f64) -> f64
     if t { x } else { 0.0 }
 }
 
-// The low walls moved inward on the first n axes, 0.0 past them.
-fn low_walls(lo: &[f64; 8], margin: f64, n: usize) -> [f64; 8]
-    ensures { λ r. ⌜ r ≡ lowWalls binary64 (now (lo .entry)) margin n ⌝ }
+// The low walls moved inward on those of the first n axes that have a box, 0.0 on the others.
+fn low_walls(shape: Shape, lo: &[f64; 8], margin: f64, n: usize) -> [f64; 8]
+    ensures { λ r. ⌜ r ≡ lowWalls binary64 shape (now (lo .entry)) margin n ⌝ }
 {
+    let first = workspace::first_boxed(shape);
     let mut walls = [0.0; 8];
     let mut i = 0usize;
     while i < 8 {
-        walls[i] = keep(i < n, lo[i] + margin);
+        walls[i] = keep((first <= i) & (i < n), lo[i] + margin);
         i += 1;
     }
     walls
 }
 
 // The high walls moved inward likewise.
-fn high_walls(hi: &[f64; 8], margin: f64, n: usize) -> [f64; 8]
-    ensures { λ r. ⌜ r ≡ highWalls binary64 (now (hi .entry)) margin n ⌝ }
+fn high_walls(shape: Shape, hi: &[f64; 8], margin: f64, n: usize) -> [f64; 8]
+    ensures { λ r. ⌜ r ≡ highWalls binary64 shape (now (hi .entry)) margin n ⌝ }
 {
+    let first = workspace::first_boxed(shape);
     let mut walls = [0.0; 8];
     let mut i = 0usize;
     while i < 8 {
-        walls[i] = keep(i < n, hi[i] - margin);
+        walls[i] = keep((first <= i) & (i < n), hi[i] - margin);
         i += 1;
     }
     walls
@@ -242,8 +246,9 @@ fn derive(c: FuseConfig) -> Derived
 {
     let inv_dt = 1.0 / c.limits.dt;
     let inv_dt2 = inv_dt * inv_dt;
-    let box_lo = low_walls(&c.walls.lo, c.limits.margin, c.pos_dim);
-    let box_hi = high_walls(&c.walls.hi, c.limits.margin, c.pos_dim);
+    let shape = c.shape;
+    let box_lo = low_walls(shape, &c.walls.lo, c.limits.margin, c.pos_dim);
+    let box_hi = high_walls(shape, &c.walls.hi, c.limits.margin, c.pos_dim);
     let inv_norm_scale = inverses(&c.norm.scale, c.dim);
     let norm_scale_iso = isotropic(&c.norm.scale, c.dim);
     Derived {
@@ -356,12 +361,31 @@ fn norm_ok(norm: Norm, dim: usize) -> bool
     a & b
 }
 
-// Entries past pos_dim are not judged.
-fn box_ok(walls: Box, pos_dim: usize) -> bool
-    ensures { λ r. ⌜ r ≡ boxOk walls «pos_dim» ⌝ }
+// Each wall of those of the first n axes that have a box is finite.
+fn walls_finite(shape: Shape, walls: [f64; 8], n: usize) -> bool
+    ensures { λ r. ⌜ r ≡ wallsFinite shape walls n ⌝ }
 {
-    let a = fmath::all_finite(&walls.lo, pos_dim);
-    let b = fmath::all_finite(&walls.hi, pos_dim);
+    if 8 < n {
+        return false;
+    }
+    let first = workspace::first_boxed(shape);
+    let mut ok = true;
+    let mut i = 0usize;
+    while i < n {
+        ok = ok & (!(first <= i) | fmath::finite(walls[i]));
+        i += 1;
+    }
+    ok
+}
+
+// Entries past pos_dim, and those of an axis without a box, are not judged.
+fn box_ok(shape: Shape, walls: Box, pos_dim: usize) -> bool
+    ensures { λ r. ⌜ r ≡ boxOk shape walls «pos_dim» ⌝ }
+{
+    let lo = walls.lo;
+    let hi = walls.hi;
+    let a = walls_finite(shape, lo, pos_dim);
+    let b = walls_finite(shape, hi, pos_dim);
     a & b
 }
 
@@ -420,14 +444,16 @@ fn numbers_ok(c: FuseConfig, d: Derived, center: &[f64; 192], scale: &[f64; 192]
     let brake = c.brake;
     let kind = brake.kind;
     let zones = c.zones;
+    let shape = c.shape;
     let e = limits_ok(c.limits);
     let f = brake_ok(kind);
     let g = zones_ok(zones);
     let h = norm_ok(c.norm, c.dim);
-    let i = box_ok(c.walls, c.pos_dim);
-    let j = derived_ok(d);
-    let k = calibration_ok(c, center, scale);
-    e & f & g & h & i & j & k
+    let i = workspace::shape_ok(shape);
+    let j = box_ok(shape, c.walls, c.pos_dim);
+    let k = derived_ok(d);
+    let l = calibration_ok(c, center, scale);
+    e & f & g & h & i & j & k & l
 }
 
 // ---- 3: steps
@@ -551,14 +577,17 @@ pub fn compile(c: FuseConfig, center: &[f64; 192], scale: &[f64; 192]) -> Compil
     ensures { λ r. ⌜ r ≡ compiled binary64 c (tables (now (center .entry)) (now (scale .entry))) ⌝ }
 {
     let zones = c.zones;
+    let shape = c.shape;
     let derived = derive(c);
     let a = sizes_ok(c);
     let b = numbers_ok(c, derived, center, scale);
     let d = steps_ok(c);
     let e = zones_fit(zones, c.aux_count);
-    let f = features_ok(c);
-    let of_features = Refusal::when(Refusal::WITHDRAWN, !f, 0);
-    let of_channels = Refusal::when(Refusal::CHANNELS, !e, of_features);
+    let f = workspace::spans(shape, c.dim, c.pos_dim);
+    let g = features_ok(c);
+    let of_features = Refusal::when(Refusal::WITHDRAWN, !g, 0);
+    let of_shape = Refusal::when(Refusal::SHAPE, !f, of_features);
+    let of_channels = Refusal::when(Refusal::CHANNELS, !e, of_shape);
     let of_steps = Refusal::when(Refusal::STEPS, !d, of_channels);
     let of_numbers = Refusal::when(Refusal::NUMBER, !b, of_steps);
     let number = Refusal::when(Refusal::SIZE, !a, of_numbers);

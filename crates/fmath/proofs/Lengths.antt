@@ -1,20 +1,24 @@
--- norm and dist: they tell of each number on the way, they are a NaN where a coordinate is missing, and the loops that sum up end in them.
+-- norm and dist: they tell of each number on the way, they are a NaN where a coordinate is missing, and the loops that sum up end in them. A distance is a number of
+-- the format.
 use Prim.Native.Nat.{ℕ, _≤_, _<_}
 use mathlib.Core.Path.{_≡_, refl, sym, ap, _∙_}
-use mathlib.Core.Bool.{Bool, true, false, false≢true}
+use mathlib.Core.Bool.{Bool, true, false≢true}
 use mathlib.Core.List.{List}
 use native.Mathlib.Nat.{le-refl, lt-of-not-le}
 use native.Mathlib.Decide.{decLe}
+use lib.Dec.{T}
 use lib.ListN.{length, List·getD-eq-default}
-use lib.Ieee.{Float, Format, nan, lt, sub}
+use lib.Ieee.{Float, Format, nan, lt, sub, fits}
 use Rattle.root.specs.Root.{rootOf}
 use Rattle.checked.specs.Each.{at}
 use Rattle.checked.specs.Finite.{finite, +0}
 use Rattle.checked.specs.Checked.{sumFrom}
 use Rattle.fmath.specs.Norm.{squareAt, norm, squaredGap, dist}
-use Rattle.checked.proofs.Absorbing.{fine-mul-left, fine-root, sub-nan, nan-sub, nan-mul, root-nan}
+use Rattle.root.proofs.Nearest.{root-fits}
+use Rattle.checked.proofs.Each.{and-left}
+use Rattle.checked.proofs.Absorbing.{fine-sub-left, fine-mul-left, fine-root, sub-nan, nan-sub, nan-mul, root-nan}
 use Rattle.checked.proofs.Ordered.{below-nan}
-use Rattle.checked.proofs.Sums.{sum-nan, sum-same}
+use Rattle.checked.proofs.Sums.{sum-fits, sum-nan, sum-sees, sum-same}
 use Rattle.checked.proofs.Told.{Tells, implied, told, sum-tells}
 
 -- the entry after the last
@@ -33,6 +37,11 @@ module _ (f : Format) where
   pub dist-tells : (a b : List Float) (n : ℕ) → Tells (dist f a b n)
   unfolding dist finite
   dist-tells a b n = told _ _ _ (sum-tells f +0 (squaredGap f a b) refl (gap-tells a b) n) (fine-root f (sumFrom f +0 (squaredGap f a b) n .value))
+
+  -- a distance is a number of the format
+  pub dist-fits : (a b : List Float) (n : ℕ) → T (fits f (dist f a b n .value))
+  unfolding dist fits
+  dist-fits a b n = root-fits f (sumFrom f +0 (squaredGap f a b) n .value) (sum-fits f +0 (squaredGap f a b) tt n)
 
   -- of points that agree on the coordinates that are read
   pub dist-same : (a b c d : List Float) (n : ℕ) → ((j : ℕ) → j < n → at a j ≡ at c j) → ((j : ℕ) → j < n → at b j ≡ at d j) → dist f a b n ≡ dist f c d n
@@ -63,6 +72,14 @@ module _ (f : Format) where
   -- the test of a distance is that of each number on its way
   pub dist-sound : (a b : List Float) (n : ℕ) {d : Float} {k : Bool} → d ≡ dist f a b n .value → k ≡ finite d → k ≡ dist f a b n .sound
   dist-sound a b n e h = h ∙ ap finite e ∙ sym (dist-tells a b n)
+
+  -- a distance that is sound is one of finite coordinates
+  pub dist-sees : (a b : List Float) (n j : ℕ) → j < n → dist f a b n .sound ≡ true → finite (at a j) ≡ true
+  unfolding dist squaredGap
+  dist-sees a b n j l h =
+      let d = sub f (at a j) (at b j) in
+      let e = sum-sees f +0 (squaredGap f a b) n j l (and-left (sumFrom f +0 (squaredGap f a b) n .sound) _ h) in
+      fine-sub-left f (at a j) (at b j) (and-left (finite d) _ e)
 
   -- where a distance exceeds something, both have all n coordinates
   pub dist-there : (most : Float) (a b : List Float) (n : ℕ) {d : Float} → d ≡ dist f a b n .value → lt most d ≡ true → (n ≤ length a) × (n ≤ length b)

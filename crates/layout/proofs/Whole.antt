@@ -18,8 +18,9 @@ use Rattle.envelope.specs.declared.Norm.{Norm}
 use Rattle.envelope.specs.declared.Box.{Box}
 use Rattle.envelope.specs.declared.BrakeModel.{BrakeModel}
 use Rattle.envelope.specs.declared.FuseConfig.{FuseConfig}
+use Rattle.workspace.specs.declared.Shape.{Shape}
 use Rattle.layout.specs.Places.{count, in8, in16, in32}
-use Rattle.layout.specs.Config.{kindOf, clampOf, absentCameraOf, brakeKindOf, limitsOf, brakeOf, zoneOf, zonesOf, normOf, wallsOf, gateOf, calibrationOf, configOf}
+use Rattle.layout.specs.Config.{kindOf, clampOf, absentCameraOf, shapeOf, brakeKindOf, limitsOf, brakeOf, zoneOf, zonesOf, normOf, wallsOf, gateOf, calibrationOf, configOf}
 
 pub whole-brake : (n : List Float) (c : List ℕ) {kind : BrakeKind} {per rows steps ticks : ℕ}
     → kind ≡ brakeKindOf (count c 4) (at n 6) (at n 7) (at n 8)
@@ -57,11 +58,12 @@ pub whole-zones : (n : List Float) (c : List ℕ) {k : ℕ} {z0 z1 z2 z3 : ZoneS
 unfolding zonesOf
 whole-zones n c e e0 e1 e2 e3 = rw (e, e0, e1, e2, e3)
 
-pub whole-config : (n : List Float) (c : List ℕ) {kind : ActionKind} {limits : Limits} {norm : Norm} {walls : Box} {zones : Zones} {brake : BrakeModel} {clamp : ClampMode} {calib : Calibration} {armed ticks : ℕ} {absent : AbsentCamera}
+pub whole-config : (n : List Float) (c : List ℕ) {kind : ActionKind} {limits : Limits} {norm : Norm} {walls : Box} {shape : Shape} {zones : Zones} {brake : BrakeModel} {clamp : ClampMode} {calib : Calibration} {armed ticks : ℕ} {absent : AbsentCamera}
     → kind ≡ kindOf (count c 2)
     → limits ≡ limitsOf n
     → norm ≡ normOf n
     → walls ≡ wallsOf n
+    → shape ≡ shapeOf (count c 33) (at n 50) (at n 51) (at n 52)
     → zones ≡ zonesOf n c
     → brake ≡ brakeOf n c
     → clamp ≡ clampOf (count c 3)
@@ -77,6 +79,7 @@ pub whole-config : (n : List Float) (c : List ℕ) {kind : ActionKind} {limits :
       limits = limits;
       norm = norm;
       walls = walls;
+      shape = shape;
       zones = zones;
       «absent_camera» = absent;
       brake = brake;
@@ -89,4 +92,4 @@ pub whole-config : (n : List Float) (c : List ℕ) {kind : ActionKind} {limits :
     })
     (configOf n c)
 unfolding configOf
-whole-config n c e1 e2 e3 e4 e5 e6 e7 e8 e9 e10 e11 = rw (e1, e2, e3, e4, e5, e6, e7, e8, e9, e10, e11)
+whole-config n c e1 e2 e3 e4 e5 e6 e7 e8 e9 e10 e11 e12 = rw (e1, e2, e3, e4, e5, e6, e7, e8, e9, e10, e11, e12)

@@ -1,4 +1,4 @@
--- The configuration in flat arrays: 50 numbers and 33 counts and codes. The calibration's two tables of 192 are lent as they are.
+-- The configuration in flat arrays: 53 numbers and 34 counts and codes. The calibration's two tables of 192 are lent as they are.
 use Prim.Native.Nat.{ℕ, zero, suc}
 use mathlib.Core.Bool.{Bool, _&&_, _||_}
 use Rattle.bits.specs.Choice.{if_then_else_}
@@ -25,6 +25,8 @@ use Rattle.envelope.specs.declared.Box.{Box}
 use Rattle.envelope.specs.declared.BrakeModel.{BrakeModel}
 use Rattle.envelope.specs.declared.Derived.{Derived}
 use Rattle.envelope.specs.declared.FuseConfig.{FuseConfig}
+use Rattle.workspace.specs.declared.Shape.{Shape}
+use Rattle.workspace.specs.declared.Shape.the-variants as S
 use Rattle.layout.specs.Places.{count, part, in8, in16, in32, short, long}
 
 -- ---- codes
@@ -44,6 +46,11 @@ unfoldable pub absentCameraOf : ℕ → AbsentCamera
 absentCameraOf zero = A.Slow
 absentCameraOf (suc zero) = A.NoZone
 absentCameraOf (suc (suc k)) = A.Slow
+
+unfoldable pub shapeOf : ℕ → Float → Float → Float → Shape
+shapeOf zero x y radius = S.Box
+shapeOf (suc zero) x y radius = S.Disc x y radius
+shapeOf (suc (suc k)) x y radius = S.Box
 
 unfoldable pub brakeKindOf : ℕ → Float → Float → Float → BrakeKind
 brakeKindOf zero kp kv dt = B.PdSecondOrder kp kv dt
@@ -117,6 +124,7 @@ configOf n c = record {
   limits = limitsOf n;
   norm = normOf n;
   walls = wallsOf n;
+  shape = shapeOf (count c 33) (at n 50) (at n 51) (at n 52);
   zones = zonesOf n c;
   «absent_camera» = absentCameraOf (count c 26);
   brake = brakeOf n c;
@@ -131,7 +139,7 @@ configOf n c = record {
 -- ---- what fits, field by field of the table (R0)
 -- Fields as wide as the array: dim, pos_dim and aux_count (counts 0, 1 and 21).
 -- Cut, since row 1 or 3 refuses all that does not fit: the count of zones (5), substeps, commit and brake_steps (8 to 10), the counted terms (12 to 19), mask and n_terms (23, 24).
--- Judged here: codes and flags (2 to 4, 22 and 26), the channels of each zone that counts (6, 7 and 27 to 32), react_ticks (11), armed (20) and, with a calibration, horizon_ticks (25).
+-- Judged here: codes and flags (2 to 4, 22, 26 and 33), the channels of each zone that counts (6, 7 and 27 to 32), react_ticks (11), armed (20) and, with a calibration, horizon_ticks (25).
 
 -- a zone's channels fit, or row 4 refuses them by themselves: they are equal, or one is at or above aux_count
 unfoldable pub zoneHeld : ℕ → ℕ → ℕ → Bool
@@ -148,7 +156,7 @@ zonesHeld c =
 
 -- each code and each flag is one of its kind
 unfoldable pub codesFit : List ℕ → Bool
-codesFit c = every (leb (count c 2) 4 ∷ leb (count c 3) 1 ∷ leb (count c 4) 4 ∷ leb (count c 22) 1 ∷ leb (count c 26) 1 ∷ [])
+codesFit c = every (leb (count c 2) 4 ∷ leb (count c 3) 1 ∷ leb (count c 4) 4 ∷ leb (count c 22) 1 ∷ leb (count c 26) 1 ∷ leb (count c 33) 1 ∷ [])
 
 -- react_ticks and armed fit their fields
 unfoldable pub fieldsFit : List ℕ → Bool

@@ -1,8 +1,8 @@
-// The configuration: 50 numbers and 33 counts and codes. The calibration's two tables of 192 are lent as they are.
+// The configuration: 53 numbers and 34 counts and codes. The calibration's two tables of 192 are lent as they are.
 ghost use mathlib.Core.Path.{_≡_};
 ghost use Prim.Native.Nat.{_+_, _≤_};
 ghost use Rattle.layout.specs.Places.{part};
-ghost use Rattle.layout.specs.Config.{kindOf, clampOf, absentCameraOf, brakeKindOf, channelOf, limitsOf, brakeOf, zoneOf, zonesOf, normOf, wallsOf, gateOf, calibrationOf, configOf, zoneHeld, zonesHeld, codesFit, fieldsFit, countsFit, derivedFlat};
+ghost use Rattle.layout.specs.Config.{kindOf, clampOf, absentCameraOf, shapeOf, brakeKindOf, channelOf, limitsOf, brakeOf, zoneOf, zonesOf, normOf, wallsOf, gateOf, calibrationOf, configOf, zoneHeld, zonesHeld, codesFit, fieldsFit, countsFit, derivedFlat};
 use crate::places::to_u8;
 use crate::places::to_u16;
 use crate::places::to_u32;
@@ -23,8 +23,9 @@ use envelope::Norm;
 use envelope::Substeps;
 use envelope::ZoneSlot;
 use envelope::Zones;
+use workspace::Shape;
 
-// ---- codes: one that is none gives the last kind, and of the choices for an absent camera the slow one
+// ---- codes: one that is none gives the last kind, of the choices for an absent camera the slow one, and of the shapes the box
 
 fn kind_of(k: u64) -> ActionKind
     ensures { λ r. ⌜ r ≡ kindOf k ⌝ }
@@ -56,6 +57,15 @@ fn absent_camera_of(k: u64) -> AbsentCamera
     }
 }
 
+fn shape_of(k: u64, x: f64, y: f64, radius: f64) -> Shape
+    ensures { λ r. ⌜ r ≡ shapeOf k x y radius ⌝ }
+{
+    match k {
+        1 => Shape::Disc { x, y, radius },
+        _ => Shape::Box,
+    }
+}
+
 fn brake_kind_of(k: u64, k_p: f64, k_v: f64, dt: f64) -> BrakeKind
     ensures { λ r. ⌜ r ≡ brakeKindOf k «k_p» «k_v» dt ⌝ }
 {
@@ -70,7 +80,7 @@ fn brake_kind_of(k: u64, k_p: f64, k_v: f64, dt: f64) -> BrakeKind
 
 // ---- the parts
 
-fn limits_of(n: &[f64; 50]) -> Limits
+fn limits_of(n: &[f64; 53]) -> Limits
     ensures { λ r. ⌜ r ≡ limitsOf (now (n .entry)) ⌝ }
 {
     Limits {
@@ -83,7 +93,7 @@ fn limits_of(n: &[f64; 50]) -> Limits
     }
 }
 
-fn brake_of(n: &[f64; 50], c: &[u64; 33]) -> BrakeModel
+fn brake_of(n: &[f64; 53], c: &[u64; 34]) -> BrakeModel
     ensures { λ r. ⌜ r ≡ brakeOf (now (n .entry)) (now (c .entry)) ⌝ }
 {
     let kind = brake_kind_of(c[4], n[6], n[7], n[8]);
@@ -123,7 +133,7 @@ fn zone_of(radius: f64, v_max: f64, first: u64, second: u64) -> ZoneSlot
 }
 
 // The first zone stands among the other fields, the further ones at the arrays' ends.
-fn zones_of(n: &[f64; 50], c: &[u64; 33]) -> Zones
+fn zones_of(n: &[f64; 53], c: &[u64; 34]) -> Zones
     ensures { λ r. ⌜ r ≡ zonesOf (now (n .entry)) (now (c .entry)) ⌝ }
 {
     let count = to_u8(c[5]);
@@ -136,8 +146,8 @@ fn zones_of(n: &[f64; 50], c: &[u64; 33]) -> Zones
     Zones { count, list }
 }
 
-fn eight(n: &[f64; 50], start: usize) -> [f64; 8]
-    requires { ⌜ start + 8 ≤ 50 ⌝ }
+fn eight(n: &[f64; 53], start: usize) -> [f64; 8]
+    requires { ⌜ start + 8 ≤ 53 ⌝ }
     ensures { λ r. ⌜ r ≡ part (now (n .entry)) start 8 ⌝ }
 {
     [
@@ -152,7 +162,7 @@ fn eight(n: &[f64; 50], start: usize) -> [f64; 8]
     ]
 }
 
-fn norm_of(n: &[f64; 50]) -> Norm
+fn norm_of(n: &[f64; 53]) -> Norm
     ensures { λ r. ⌜ r ≡ normOf (now (n .entry)) ⌝ }
 {
     let center = eight(n, 11);
@@ -160,7 +170,7 @@ fn norm_of(n: &[f64; 50]) -> Norm
     Norm { center, scale }
 }
 
-fn walls_of(n: &[f64; 50]) -> Box
+fn walls_of(n: &[f64; 53]) -> Box
     ensures { λ r. ⌜ r ≡ wallsOf (now (n .entry)) ⌝ }
 {
     let lo = eight(n, 27);
@@ -168,7 +178,7 @@ fn walls_of(n: &[f64; 50]) -> Box
     Box { lo, hi }
 }
 
-fn gate_of(c: &[u64; 33]) -> GateSpec
+fn gate_of(c: &[u64; 34]) -> GateSpec
     ensures { λ r. ⌜ r ≡ gateOf (now (c .entry)) ⌝ }
 {
     let n_terms = to_u8(c[24]);
@@ -185,7 +195,7 @@ fn gate_of(c: &[u64; 33]) -> GateSpec
     GateSpec { n_terms, terms }
 }
 
-fn calibration_of(n: &[f64; 50], c: &[u64; 33]) -> Calibration
+fn calibration_of(n: &[f64; 53], c: &[u64; 34]) -> Calibration
     ensures { λ r. ⌜ r ≡ calibrationOf (now (n .entry)) (now (c .entry)) ⌝ }
 {
     let mask = to_u32(c[23]);
@@ -200,13 +210,14 @@ fn calibration_of(n: &[f64; 50], c: &[u64; 33]) -> Calibration
 // ---- all of it
 
 // The configuration that the arrays stand for.
-pub fn config_of(n: &[f64; 50], c: &[u64; 33]) -> FuseConfig
+pub fn config_of(n: &[f64; 53], c: &[u64; 34]) -> FuseConfig
     ensures { λ r. ⌜ r ≡ configOf (now (n .entry)) (now (c .entry)) ⌝ }
 {
     let kind = kind_of(c[2]);
     let limits = limits_of(n);
     let norm = norm_of(n);
     let walls = walls_of(n);
+    let shape = shape_of(c[33], n[50], n[51], n[52]);
     let zones = zones_of(n, c);
     let brake = brake_of(n, c);
     let clamp = clamp_of(c[3]);
@@ -221,6 +232,7 @@ pub fn config_of(n: &[f64; 50], c: &[u64; 33]) -> FuseConfig
         limits,
         norm,
         walls,
+        shape,
         zones,
         absent_camera,
         brake,
@@ -243,7 +255,7 @@ fn zone_held(first: u64, second: u64, aux: u64) -> bool
 }
 
 // Those of each zone that counts.
-fn zones_held(c: &[u64; 33]) -> bool
+fn zones_held(c: &[u64; 34]) -> bool
     ensures { λ r. ⌜ r ≡ zonesHeld (now (c .entry)) ⌝ }
 {
     let n = c[5];
@@ -256,21 +268,21 @@ fn zones_held(c: &[u64; 33]) -> bool
 }
 
 // Each code and each flag is one of its kind.
-fn codes_fit(c: &[u64; 33]) -> bool
+fn codes_fit(c: &[u64; 34]) -> bool
     ensures { λ r. ⌜ r ≡ codesFit (now (c .entry)) ⌝ }
 {
-    (c[2] <= 4) & (c[3] <= 1) & (c[4] <= 4) & (c[22] <= 1) & (c[26] <= 1)
+    (c[2] <= 4) & (c[3] <= 1) & (c[4] <= 4) & (c[22] <= 1) & (c[26] <= 1) & (c[33] <= 1)
 }
 
 // The ticks to react and the trip bits fit their fields.
-fn fields_fit(c: &[u64; 33]) -> bool
+fn fields_fit(c: &[u64; 34]) -> bool
     ensures { λ r. ⌜ r ≡ fieldsFit (now (c .entry)) ⌝ }
 {
     (c[11] <= 65535) & (c[20] <= 4294967295)
 }
 
 // All that the table has no row for fits, as far as it is read.
-pub fn counts_fit(c: &[u64; 33]) -> bool
+pub fn counts_fit(c: &[u64; 34]) -> bool
     ensures { λ r. ⌜ r ≡ countsFit (now (c .entry)) ⌝ }
 {
     let codes = codes_fit(c);

@@ -10,8 +10,8 @@ use chunk::Header;
 
 #[no_mangle]
 pub extern "C" fn lictor_brake_feasible(
-    numbers: &[f64; 50],
-    counts: &[u64; 33],
+    numbers: &[f64; 53],
+    counts: &[u64; 34],
     center: &[f64; 192],
     scale: &[f64; 192],
     pos: &[f64],
@@ -46,8 +46,8 @@ pub extern "C" fn lictor_brake_feasible(
 
 #[no_mangle]
 pub extern "C" fn lictor_brake_action(
-    numbers: &[f64; 50],
-    counts: &[u64; 33],
+    numbers: &[f64; 53],
+    counts: &[u64; 34],
     center: &[f64; 192],
     scale: &[f64; 192],
     pos: &[f64],
@@ -68,8 +68,8 @@ pub extern "C" fn lictor_brake_action(
 
 #[no_mangle]
 pub extern "C" fn lictor_hold_action(
-    numbers: &[f64; 50],
-    counts: &[u64; 33],
+    numbers: &[f64; 53],
+    counts: &[u64; 34],
     center: &[f64; 192],
     scale: &[f64; 192],
     pos: &[f64],

@@ -10,8 +10,8 @@ use chunk::Header;
 
 #[no_mangle]
 pub extern "C" fn lictor_check_chunk(
-    numbers: &[f64; 50],
-    counts: &[u64; 33],
+    numbers: &[f64; 53],
+    counts: &[u64; 34],
     center: &[f64; 192],
     scale: &[f64; 192],
     pos: &[f64],
@@ -44,8 +44,8 @@ pub extern "C" fn lictor_check_chunk(
 
 #[no_mangle]
 pub extern "C" fn lictor_check_action(
-    numbers: &[f64; 50],
-    counts: &[u64; 33],
+    numbers: &[f64; 53],
+    counts: &[u64; 34],
     center: &[f64; 192],
     scale: &[f64; 192],
     pos: &[f64],

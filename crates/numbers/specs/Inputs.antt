@@ -25,6 +25,7 @@ use Rattle.envelope.specs.declared.ClampMode.the-variants.{Project}
 use Rattle.envelope.specs.declared.AbsentCamera.the-variants.{Slow}
 use Rattle.envelope.specs.Slots.{noZones}
 use Rattle.envelope.specs.declared.FuseConfig.{FuseConfig}
+use Rattle.workspace.specs.declared.Shape.the-variants.{Box}
 use Rattle.tier0.specs.Rule.{SPEED}
 use Rattle.tier0.specs.Of.{chunkAnswer, chunkOut}
 use Rattle.tier0.specs.declared.Tier0Out.{Tier0Out}
@@ -102,6 +103,7 @@ plane = record {
   limits = record { dt = one; «v_max» = num 0x4014_0000_0000_0000; «a_max» = one; «j_max» = one; «reach_max» = one; margin = +0 };
   norm = normOf;
   walls = wallsOf (card 0 2! 0 1);
+  shape = Box;
   zones = noZones;
   «absent_camera» = Slow;
   brake = brakeOf (card 0 2! 0 1);

@@ -2,7 +2,7 @@
 use Prim.Native.Nat.{ℕ, zero, suc, _+_, _*_, _≤_, _<_, min}
 use mathlib.Core.Path.{_≡_, refl, sym, ap, _∙_}
 use mathlib.Core.Bool.{Bool, true, false, not, _&&_, _||_, and-false}
-use mathlib.Core.List.{List, [], _∷_}
+use mathlib.Core.List.{List}
 use native.Mathlib.Omega.{arith}
 use native.Mathlib.Nat.{min-eq-left, min-eq-right, mul-le-mul-left}
 use borrow.Author.Tests.{ltb-true, ltb-false, leb-true, leb-false, eqb-true, eqb-false, lt-ltb, le-ltb, le-leb, lt-leb, eq-eqb, ne-eqb}
@@ -24,8 +24,8 @@ use Rattle.envelope.proofs.Promises.{same-judged}
 use Rattle.layout.specs.Places.{count, in8, in16, in32}
 use Rattle.layout.specs.Chunk.{chunkOf}
 use Rattle.layout.specs.Trail.{trailOf}
-use Rattle.promises.specs.Counts.{TrailCounts, GateCounts, FeatureCounts, StepCounts, radiusAt, speedAt, firstAt, secondAt, zonesAsCame, ZoneCounts, ChannelCounts, SameCountedZones, UnreadPastTheCount, ChoiceCounts, cut, HeaderCounts, HeaderKept, HeaderLetGo}
-use Rattle.layout.specs.Config.{brakeOf, gateOf, calibrationOf, channelOf, zoneOf, zonesOf, zoneHeld, zonesHeld, absentCameraOf, configOf}
+use Rattle.promises.specs.Counts.{TrailCounts, GateCounts, FeatureCounts, StepCounts, radiusAt, speedAt, firstAt, secondAt, zonesAsCame, ZoneCounts, ChannelCounts, SameCountedZones, UnreadPastTheCount, ChoiceCounts, ShapeCounts, cut, HeaderCounts, HeaderKept, HeaderLetGo}
+use Rattle.layout.specs.Config.{brakeOf, gateOf, calibrationOf, channelOf, zoneOf, zonesOf, zoneHeld, zonesHeld, absentCameraOf, shapeOf, configOf}
 
 -- ---- a test against a number that the field holds is the same of a count x and of the cut one
 
@@ -265,6 +265,10 @@ unread-past-the-count n c m d same = record {
 pub choice-counts : (n : List Float) (c : List ℕ) → ChoiceCounts n c
 unfolding configOf absentCameraOf
 choice-counts n c = record { zero-is-slow = λ e. rw e; one-is-no-zone = λ e. rw e }
+
+pub shape-counts : (n : List Float) (c : List ℕ) → ShapeCounts n c
+unfolding configOf shapeOf
+shape-counts n c = record { zero-is-a-box = λ e. rw e; one-is-a-disc = λ e. rw e }
 
 -- ---- rows 5 to 9, and 12: a held chunk
 

@@ -51,6 +51,9 @@ use Rattle.envelope.proofs.counted.Reads as counted
 use Rattle.envelope.proofs.substeps_in.Reads as substeps-in
 use Rattle.envelope.proofs.compile.Reads as compile
 use Rattle.pull.proofs.pulled.Reads as pulled
+use Rattle.workspace.proofs.first_boxed.Reads as first-boxed
+use Rattle.workspace.proofs.shape_ok.Reads as shape-ok
+use Rattle.workspace.proofs.spans.Reads as spans
 use Rattle.workspace.proofs.outside.Reads as outside
 use Rattle.workspace.proofs.inward.Reads as inward
 use Rattle.workspace.proofs.unmoved.Reads as unmoved
@@ -298,6 +301,15 @@ one-compile l a r s x y = unique
 
 pub one-pulled : One pulled.Post (λ r x. r)
 one-pulled l a r s x y = unique
+
+pub one-first-boxed : One first-boxed.Post (λ r x. r)
+one-first-boxed l a r s x y = unique
+
+pub one-shape-ok : One shape-ok.Post (λ r x. r)
+one-shape-ok l a r s x y = unique
+
+pub one-spans : One spans.Post (λ r x. r)
+one-spans l a r s x y = unique
 
 pub one-outside : One outside.Post (λ r x. r)
 one-outside l a r s x y = unique

@@ -22,6 +22,7 @@ use Rattle.envelope.specs.declared.Contact.the-variants.{Zone}
 use Rattle.envelope.specs.declared.ZoneSlot.{ZoneSlot}
 use Rattle.envelope.specs.declared.Zones.{Zones}
 use Rattle.envelope.specs.declared.AbsentCamera.the-variants as absent
+use Rattle.workspace.specs.declared.Shape.the-variants.{Box, Disc}
 use Rattle.layout.specs.Places.{count, in16}
 use Rattle.layout.specs.Chunk.{chunkOf, headerFlat, unheld}
 use Rattle.layout.specs.Trail.{trailOf}
@@ -90,6 +91,11 @@ pub record UnreadPastTheCount (n : List Float) (c : List ℕ) (m : List Float) (
 pub record ChoiceCounts (n : List Float) (c : List ℕ) : Type 0 where
   pub zero-is-slow : count c 26 ≡ 0 → configOf n c .«absent_camera» ≡ absent.Slow
   pub one-is-no-zone : count c 26 ≡ 1 → configOf n c .«absent_camera» ≡ absent.NoZone
+
+-- the shape: 0, which a struct of zeros has, is the box, whatever stands for the centre and the radius, and 1 the disc that they give
+pub record ShapeCounts (n : List Float) (c : List ℕ) : Type 0 where
+  pub zero-is-a-box : count c 33 ≡ 0 → configOf n c .shape ≡ Box
+  pub one-is-a-disc : count c 33 ≡ 1 → configOf n c .shape ≡ Disc (at n 50) (at n 51) (at n 52)
 
 -- a held chunk: its sizes, each cut to its field
 abbrev pub cut : Header → Header

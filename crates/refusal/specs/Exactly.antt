@@ -5,7 +5,7 @@ use mathlib.Core.Bool.{Bool, true, false}
 use mathlib.Core.List.{List, [], _∷_}
 use native.Mathlib.Omega.{arith}
 use lib.Dec.{eqb}
-use Rattle.refusal.specs.Order.{Reason, size, number, steps, channels, withdrawn, empty, tooLong, tooWide, execExceedsHorizon, lenMismatch, width, short, notFinite, computed, leftover, numberOf, order, firstOf, given}
+use Rattle.refusal.specs.Order.{Reason, size, number, steps, channels, shape, withdrawn, empty, tooLong, tooWide, execExceedsHorizon, lenMismatch, width, short, notFinite, computed, leftover, numberOf, order, firstOf, given}
 use Rattle.bits.specs.Choice.{if_then_else_}
 
 -- k is the first of some reasons that applies
@@ -24,6 +24,7 @@ back size = refl
 back number = refl
 back steps = refl
 back channels = refl
+back shape = refl
 back withdrawn = refl
 back empty = refl
 back tooLong = refl

@@ -7,7 +7,7 @@ use Rattle.bits.specs.Choice.{if_then_else_}
 use Rattle.refusal.specs.declared.Refusal.{Refusal}
 
 pub data Reason : Type 0 where
-  size number steps channels withdrawn : Reason
+  size number steps channels shape withdrawn : Reason
   empty tooLong tooWide execExceedsHorizon lenMismatch width : Reason
   short notFinite computed leftover : Reason
 
@@ -16,6 +16,7 @@ numberOf size = 1
 numberOf number = 2
 numberOf steps = 3
 numberOf channels = 4
+numberOf shape = 15
 numberOf withdrawn = 17
 numberOf empty = 5
 numberOf tooLong = 6
@@ -28,10 +29,10 @@ numberOf notFinite = 12
 numberOf computed = 13
 numberOf leftover = 14
 
--- the order of judging, which is not that of the numbers: 17 stands after 4
+-- the order of judging, which is not that of the numbers: 15 and 17 stand after 4
 abbrev pub order : List Reason
 order =
-    size ∷ number ∷ steps ∷ channels ∷ withdrawn
+    size ∷ number ∷ steps ∷ channels ∷ shape ∷ withdrawn
     ∷ empty ∷ tooLong ∷ tooWide ∷ execExceedsHorizon ∷ lenMismatch ∷ width
     ∷ short ∷ notFinite ∷ computed ∷ leftover ∷ []
 

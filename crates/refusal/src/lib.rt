@@ -17,6 +17,8 @@ impl Refusal {
 
     pub const CHANNELS: u8 = 4;
 
+    pub const SHAPE: u8 = 15;
+
     pub const WITHDRAWN: u8 = 17;
 
     pub const EMPTY: u8 = 5;
@@ -72,6 +74,7 @@ impl Refusal {
             Refusal::NUMBER,
             Refusal::STEPS,
             Refusal::CHANNELS,
+            Refusal::SHAPE,
             Refusal::WITHDRAWN,
             Refusal::EMPTY,
             Refusal::TOO_LONG,
@@ -85,7 +88,7 @@ impl Refusal {
             Refusal::LEFTOVER,
         ];
         let mut i = 0usize;
-        while i < 15 {
+        while i < 16 {
             let n = order[i];
             if (a == n) | (b == n) {
                 return n;

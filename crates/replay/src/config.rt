@@ -6,9 +6,9 @@ use envelope::FuseConfig;
 use fmath::put;
 use sample::agrees;
 
-// The numbers of a flat configuration: limits, brake and the first zone, then the norm, then the box; tau and the further zones are not in the record and stay 0.
-fn numbers(x: &Numbers) -> [f64; 50] {
-    let mut n = [0.0; 50];
+// The numbers of a flat configuration: limits, brake and the first zone, then the norm, then the box; tau, the further zones and the disc are not in the record and stay 0.
+fn numbers(x: &Numbers) -> [f64; 53] {
+    let mut n = [0.0; 53];
     let all: &mut [f64] = &mut n;
     put(part(x, 14, 11), 11, all);
     put(part(x, 41, 16), 16, &mut all[11..]);
@@ -16,8 +16,8 @@ fn numbers(x: &Numbers) -> [f64; 50] {
     n
 }
 
-// Its counts and codes; those of a calibration and of further zones are 0. The choice for an absent camera is the one that answers as the Rust does: no zone.
-fn counts(w: &Words) -> [u64; 33] {
+// Its counts and codes; those of a calibration and of further zones are 0, and so is the shape's, which is the box. The choice for an absent camera is the one that answers as the Rust does: no zone.
+fn counts(w: &Words) -> [u64; 34] {
     [
         w[0],
         w[1],
@@ -46,6 +46,7 @@ fn counts(w: &Words) -> [u64; 33] {
         0,
         0,
         1,
+        0,
         0,
         0,
         0,

@@ -10,6 +10,7 @@ use lib.ListN.{length, set}
 use lib.Ieee.{Float, Format}
 use Rattle.checked.specs.Each.{all}
 use Rattle.checked.specs.Least.{lesser}
+use Rattle.checked.specs.Checked.{Checked, pure}
 use Rattle.checked.proofs.Each.{all-at, all-from}
 use Rattle.workspace.specs.declared.Workspace.{Workspace}
 use Rattle.checked.specs.declared.Reckoned.{Reckoned}
@@ -22,17 +23,17 @@ use Rattle.course.specs.declared.Run.{Run}
 use Rattle.rollout.specs.Plant.{Gains, substep}
 use Rattle.course.specs.Plant.{State}
 use Rattle.course.specs.Forecast.{fine}
-use Rattle.rollout.specs.Rule.{Task, aim, after, entry, forecast}
+use Rattle.rollout.specs.Rule.{Task, aimed, after, entry, forecast}
 use Rattle.rollout.specs.Of.{gainsOf, Along, Towards, Under}
 use Rattle.course.specs.Of.{stateOf}
 use Rattle.rollout.proofs.Told.{slack-tells}
 use Rattle.course.proofs.Along.{along-fails, along-advances, stands-at}
 
 -- the next substep, where the run goes towards a from where it stands
-module _ (f : Format) (t : Task) (k : ℕ) (a : List Float) (s : State) (aims : aim f t k ≡ a) (from : s ≡ after f t k) where
+module _ (f : Format) (t : Task) (k : ℕ) (a : List Float) (s : State) (aims : aimed f t k ≡ pure a) (from : s ≡ after f t k) where
   pub next-state : substep f (t .gains) a (t .n) s .value ≡ after f t (k + 1)
   unfolding after
-  next-state = rw (← aims, from) (sym (ap (after f t) (add-one k)))
+  next-state = rw (← ap (λ (x : Checked (List Float)). x .value) aims, from) (sym (ap (after f t) (add-one k)))
 
   pub next-slack : slack f (t .walls) (substep f (t .gains) a (t .n) s .value .p) (t .n) .value ≡ entry f t k .value
   unfolding entry
@@ -48,8 +49,8 @@ module _
     (u : Under t g w n) (h : Along f t l k r out) (go : Towards f t k 1 a r) (s : r .sound ≡ true) (axes : n ≤ length (r .plant .p))
     (next : Plant) (e : stateOf next ≡ substep f (gainsOf g) a n (stateOf (r .plant)) .value)
     (d : Reckoned) (v : d ≡ reckonedFrom (slack f (wallsOf w) (next .p) n)) where
-  aims : aim f t k ≡ a
-  aims = ap (aim f t) (sym (add-zero k)) ∙ go s 0 (omega arith)
+  aims : aimed f t k ≡ pure a
+  aims = ap (aimed f t) (sym (add-zero k)) ∙ go s 0 (omega arith)
 
   from : stateOf (r .plant) ≡ after f t k
   from = stands-at (forecast f t) (after f t) l k r out h s
@@ -83,4 +84,4 @@ pub towards-next : (f : Format) (t : Task) (l : List Float) (k count i : ℕ) (a
 towards-next f t l k count i a r₀ r out₀ out h₀ go h b s j c =
     let ok = fine (forecast f t) in
     let all₀ : all ok k ≡ true = all-from ok k (λ m d. all-at ok (k + i) (sym (h .whole) ∙ s) m (omega arith)) in
-    ap (aim f t) (add-assoc k i j) ∙ go (h₀ .whole ∙ all₀) (i + j) (omega arith)
+    ap (aimed f t) (add-assoc k i j) ∙ go (h₀ .whole ∙ all₀) (i + j) (omega arith)

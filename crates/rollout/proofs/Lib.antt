@@ -1,5 +1,6 @@
 pub mod Told
 pub mod Along
+pub mod Setpoint
 pub mod Wide
 pub mod Rows
 pub mod Room

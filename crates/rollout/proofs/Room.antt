@@ -9,6 +9,6 @@ use Rattle.course.specs.declared.Course.{Course}
 use Rattle.course.specs.Of.{leftOf, shaped}
 use Rattle.rollout.specs.Of.{roomy}
 
-pub room-of : (c : Course) (len room : ℕ) → roomy c len room ≡ true → (shaped c len ≡ true) × (substepsIn (leftOf c) (c .brake) (c .per) ≤ room)
+pub room-of : (c : Course) (len room : ℕ) → roomy c len room ≡ true → (shaped c len ≡ true) × (substepsIn (leftOf c) (c .brake) (c .per) ≤ room) × (1 ≤ c .live)
 unfolding roomy
-room-of c len room h = (every-at _ 0 h, leb-true _ _ (every-at _ 2 h))
+room-of c len room h = (every-at _ 0 h, leb-true _ _ (every-at _ 2 h), leb-true _ _ (every-at _ 3 h))

@@ -1,5 +1,5 @@
 -- The test of a substep's slack tells of every number that the substep computes: sums, differences and products absorb what isn't finite.
-use mathlib.Core.Path.{_≡_, refl, sym, ap, _∙_}
+use mathlib.Core.Path.{_≡_, refl, ap, _∙_}
 use mathlib.Core.Bool.{Bool, true, _&&_, and-true}
 use mathlib.Core.List.{List}
 use Prim.Native.Nat.{ℕ, zero, suc, _+_, _≤_, _<_}
@@ -11,14 +11,13 @@ use lib.Seq.{getD-set-same, getD-set-other}
 use lib.Ieee.{Float, Format, nan, add, sub, mul}
 use Rattle.checked.specs.Each.{at, all}
 use Rattle.checked.specs.Finite.{finite, +0}
-use Rattle.checked.specs.Checked.{leastOf}
 use Rattle.fmath.specs.Norm.{dist}
-use Rattle.checked.proofs.Each.{_&&≡_, and-left, all-at, all-from}
+use Rattle.checked.proofs.Each.{_&&≡_, all-from}
 use Rattle.checked.proofs.Absorbing.{fine-add-left, fine-add-right, fine-sub-left, fine-sub-right, fine-mul-left, fine-mul-right}
 use Rattle.checked.proofs.Told.{Tells, implied}
 use Rattle.fmath.proofs.Lengths.{dist-tells}
-use Rattle.workspace.specs.Rule.{Walls, between, gap, slack}
-use Rattle.workspace.proofs.Gaps.{between-tells}
+use Rattle.workspace.specs.Rule.{Walls, slack}
+use Rattle.workspace.proofs.Slacks.{slack-sees}
 use Rattle.rollout.specs.Plant.{Gains, Motion, axis, motionAt, substep}
 use Rattle.course.specs.Plant.{State}
 use Rattle.rollout.specs.Rule.{stopDistance}
@@ -102,21 +101,13 @@ module _ (f : Format) (g : Gains) where
     -- the slack's test tells of the substep before it
     pub slack-tells : (w : Walls) (n : ℕ) → n ≤ length (s .p)
         → substep f g a n s .sound && slack f w (substep f g a n s .value .p) n .sound ≡ slack f w (substep f g a n s .value .p) n .sound
-    unfolding slack leastOf
-    slack-tells w n l = implied _ _ told
-      where
-        p : List Float
-        p = substep f g a n s .value .p
-
-        told : all (λ (j : ℕ). gap f w p j .sound) n ≡ true → substep f g a n s .sound ≡ true
-        told h =
-            substep-sound n
-            ∙ all-from (λ (j : ℕ). axis f g (at a j) (motionAt s j) .sound) n
-            (λ j b.
-            let q : between f (at (w .lo) j) (at (w .hi) j) (at p j) .sound ≡ true = all-at (λ (j : ℕ). gap f w p j .sound) n h j b in
-            let d : finite (sub f (at p j) (at (w .lo) j)) ≡ true = and-left _ _ (sym (between-tells f (at (w .lo) j) (at (w .hi) j) (at p j)) ∙ q) in
-            let y : finite (at p j) ≡ true = fine-sub-left f (at p j) (at (w .lo) j) d in
-            axis-told (at a j) (motionAt s j) (rw (substep-at n j b l) at y))
+    slack-tells w n l =
+        implied _ _
+        (λ h. substep-sound n
+        ∙ all-from (λ (j : ℕ). axis f g (at a j) (motionAt s j) .sound) n
+        (λ j b.
+        let y : finite (at (substep f g a n s .value .p) j) ≡ true = slack-sees f w (substep f g a n s .value .p) (w .shape) n j b h in
+        axis-told (at a j) (motionAt s j) (rw (substep-at n j b l) at y)))
 
 -- how far the plant has moved tells of each number on the way to it
 pub stop-tells : (f : Format) (start end : State) (n : ℕ) → Tells (stopDistance f start end n)

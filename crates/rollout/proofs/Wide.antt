@@ -12,7 +12,7 @@ use lib.Seq.{ext-getD}
 use lib.Ieee.{Float, Format, nan}
 use Rattle.checked.specs.Each.{at, over}
 use Rattle.checked.specs.Least.{lesser}
-use Rattle.checked.proofs.Each.{length-over, over-at, over-keeps}
+use Rattle.checked.proofs.Each.{length-over, over-at, over-keeps, over-itself}
 use Rattle.workspace.specs.declared.Workspace.{Workspace}
 use Rattle.checked.specs.declared.Reckoned.{Reckoned}
 use Rattle.workspace.specs.Rule.{slack}
@@ -47,16 +47,8 @@ over-twice g h l n =
     go i b (yes k) = over-keeps g (over h l n) n i k ∙ over-keeps h l n i k ∙ sym (over-keeps g l n i k)
     go i b (no k) = over-at g (over h l n) n i (lt-of-not-le k) b ∙ sym (over-at g l n i (lt-of-not-le k) (rw (length-over h l n) at b))
 
--- a list put over itself
-over-itself : (l : List Float) (n : ℕ) → over (at l) l n ≡ l
-over-itself l n = ext-getD nan (over (at l) l n) l (length-over (at l) l n) (λ i b. go i (rw (length-over (at l) l n) at b) (decLe n i))
-  where
-    go : (i : ℕ) → i < length l → Dec (n ≤ i) → at (over (at l) l n) i ≡ at l i
-    go i b (yes k) = over-keeps (at l) l n i k
-    go i b (no k) = over-at (at l) l n i (lt-of-not-le k) b
-
 pub joined-itself : (q : Plant) (n : ℕ) → joinedOf q q n ≡ q
-joined-itself q n = λ i. record { p = over-itself (q .p) n i; v = over-itself (q .v) n i }
+joined-itself q n = λ i. record { p = over-itself (at (q .p)) (q .p) n (λ j b. refl) i; v = over-itself (at (q .v)) (q .v) n (λ j b. refl) i }
 
 -- ---- a substep of m axes, and of the first n
 
@@ -105,7 +97,7 @@ running moved still n margin done = endedOf moved still n margin done true
 
 module _
     (f : Format) (t : Task) (l : List Float) (k : ℕ) (moved still : Plant) (n : ℕ) (margin : Float) (done : ℕ) (out : List Float) (g : Law) (w : Workspace) (a aim : List Float)
-    (u : Under t g w n) (h : Along f t l k (running moved still n margin done) out) (go : Towards f t k 1 a (running moved still n margin done)) (axes : n ≤ 8)
+    (u : Under t g w n) (h : Along f t l k (running moved still n margin done) out) (go : Towards f t k 1 a (running moved still n margin done)) (axes : n ≤ 8) (two : 2 ≤ n)
     (lp : length (moved .p) ≡ 8) (lv : length (moved .v) ≡ 8) (sp : length (still .p) ≡ 8) (sv : length (still .v) ≡ 8) (same : (j : ℕ) → j < n → at aim j ≡ at a j)
     (next : Plant) (e : stateOf next ≡ substep f (gainsOf g) aim 8 (stateOf moved) .value)
     (d : Reckoned) (v : d ≡ reckonedFrom (slack f (wallsOf w) (next .p) n)) where
@@ -115,7 +107,7 @@ module _
       ∙ abreast-moves f (gainsOf g) a aim (stateOf moved) (stateOf still) 8 n axes same (omega (arith, lp)) (omega (arith, lv)) (omega (arith, sp)) (omega (arith, sv))
 
   measures : d ≡ reckonedFrom (slack f (wallsOf w) (joinedOf next still n .p) n)
-  measures = v ∙ ap reckonedFrom (slack-same f (wallsOf w) (next .p) (over (at (next .p)) (still .p) n) n (λ j b. sym (over-at (at (next .p)) (still .p) n j b (omega (arith, sp)))))
+  measures = v ∙ ap reckonedFrom (slack-same f (w .shape) (wallsOf w) (next .p) (over (at (next .p)) (still .p) n) n two (λ j b. sym (over-at (at (next .p)) (still .p) n j b (omega (arith, sp)))))
 
   long : n ≤ length (joinedOf moved still n .p)
   long = omega (arith, length-over (at (moved .p)) (still .p) n, sp)

@@ -1,11 +1,12 @@
 -- The rules at the declared structs, and what the contracts of the run cite.
 use mathlib.Core.Path.{_≡_}
-use mathlib.Core.Bool.{Bool, true}
+use mathlib.Core.Bool.{Bool, true, _&&_}
 use mathlib.Core.List.{List, [], _∷_}
 use Prim.Native.Nat.{ℕ, _+_, _<_}
 use lib.Dec.{leb}
 use lib.Ieee.{Float, Format}
 use Rattle.checked.specs.Each.{at, over, every}
+use Rattle.checked.specs.Checked.{pure}
 use Rattle.envelope.specs.Steps.{substepsIn}
 use Rattle.workspace.specs.declared.Workspace.{Workspace}
 use Rattle.workspace.specs.Of.{wallsOf}
@@ -15,8 +16,8 @@ use Rattle.rollout.specs.declared.Law.{Law}
 use Rattle.course.specs.declared.Plant.{Plant}
 use Rattle.course.specs.declared.Run.{Run}
 use Rattle.rollout.specs.Plant.{Gains, Motion}
-use Rattle.course.specs.Of.{stateOf, CameAlong, leftOf, shaped}
-use Rattle.rollout.specs.Rule.{Task, aim, after, forecast}
+use Rattle.course.specs.Of.{stateOf, CameAlong, leftOf, shaped, runOf}
+use Rattle.rollout.specs.Rule.{Task, setpoint, aimed, after, forecast}
 
 abbrev pub gainsOf : Law → Gains
 gainsOf g = record { kp = g .«k_p»; kv = g .«k_v»; dt = g .dt }
@@ -53,7 +54,13 @@ Along f t l k r out = CameAlong (forecast f t) (after f t) l k r out
 
 -- a run goes towards one setpoint for some substeps more, if it still runs
 abbrev pub Towards : Format → Task → ℕ → ℕ → List Float → Run → Type 0
-Towards f t k count a r = r .sound ≡ true → (j : ℕ) → j < count → aim f t (k + j) ≡ a
+Towards f t k count a r = r .sound ≡ true → (j : ℕ) → j < count → aimed f t (k + j) ≡ pure a
+
+-- the whole run: as far as its entries are finite, and sound where all are and the setpoint is
+abbrev pub rolledOf : Format → Task → Run
+rolledOf f t =
+    let r = runOf (forecast f t) (after f t) in
+    record { plant = r .plant; margin = r .margin; done = r .done; sound = r .sound && setpoint f t .sound }
 
 -- the law, the walls and the live axes are the task's
 pub record Under (t : Task) (g : Law) (w : Workspace) (n : ℕ) : Type 0 where
@@ -61,6 +68,6 @@ pub record Under (t : Task) (g : Law) (w : Workspace) (n : ℕ) : Type 0 where
   pub walls : t .walls ≡ wallsOf w
   pub live : t .n ≡ n
 
--- what the second-order run needs of it: its shape, a substep or more, and room for its entries
+-- what the second-order run needs of it: its shape, a substep or more, room for its entries, and an axis or more
 unfoldable pub roomy : Course → ℕ → ℕ → Bool
-roomy c len room = every (shaped c len ∷ leb 1 (c .per .0) ∷ leb (substepsIn (leftOf c) (c .brake) (c .per)) room ∷ [])
+roomy c len room = every (shaped c len ∷ leb 1 (c .per .0) ∷ leb (substepsIn (leftOf c) (c .brake) (c .per)) room ∷ leb 1 (c .live) ∷ [])

@@ -1,11 +1,11 @@
--- The second-order brake: the committed rows, then the setpoint clamp(p), each held for its substeps; the slack after each substep.
+-- The second-order brake: the committed rows, then the setpoint inside the workspace, each held for its substeps; the slack after each substep.
 use Prim.Native.Nat.{ℕ, zero, suc, _+_, _/_}
 use mathlib.Core.List.{List}
 use lib.Dec.{ltb}
 use lib.Ieee.{Float, Format}
 use Rattle.bits.specs.Choice.{if_then_else_}
 use Rattle.checked.specs.Finite.{+0}
-use Rattle.checked.specs.Checked.{Checked, _>>=_, plus}
+use Rattle.checked.specs.Checked.{Checked, _>>=_, pure, plus}
 use Rattle.fmath.specs.Norm.{dist}
 use Rattle.chunk.specs.Rule.{rowOf}
 use Rattle.envelope.specs.declared.ControlSteps.{ControlSteps}
@@ -57,13 +57,16 @@ module _ (f : Format) (t : Task) where
   followed zero = t .start
   followed (suc k) = substep f (t .gains) (rowAt t k) (t .n) (followed k) .value
 
-  -- the braking setpoint: clamp(p), with p as the committed rows leave it. Whether it was computed soundly has no place yet: at a box nothing is computed.
-  unfoldable pub setpoint : List Float
-  setpoint = inward f (t .walls) (followed (rowSubsteps t) .p) (t .n) .value
+  -- the braking setpoint: where the committed rows leave the plant, moved inside
+  unfoldable pub setpoint : Checked (List Float)
+  setpoint = inward f (t .walls) (followed (rowSubsteps t) .p) (t .n)
 
   -- what substep k, counted from 0, goes towards
-  unfoldable pub aim : ℕ → List Float
-  aim k = if ltb k (rowSubsteps t) then rowAt t k else setpoint
+  unfoldable pub aimed : ℕ → Checked (List Float)
+  aimed k = if ltb k (rowSubsteps t) then pure (rowAt t k) else setpoint
+
+  abbrev pub aim : ℕ → List Float
+  aim k = aimed k .value
 
   -- the plant after k substeps from the given start
   unfoldable pub after : ℕ → State
@@ -73,11 +76,15 @@ module _ (f : Format) (t : Task) where
   -- entry k: substep k + 1 and its slack
   unfoldable pub entry : ℕ → Checked Float
   entry k = do
-    s ← substep f (t .gains) (aim k) (t .n) (after k)
+    a ← aimed k
+    s ← substep f (t .gains) a (t .n) (after k)
     slack f (t .walls) (s .p) (t .n)
 
-  abbrev pub stop : Checked Float
-  stop = stopDistance f (t .start) (after (total t)) (t .n)
+  -- the setpoint is made also where no braking step goes towards it
+  unfoldable pub stop : Checked Float
+  stop = do
+    a ← setpoint
+    stopDistance f (t .start) (after (total t)) (t .n)
 
   abbrev pub forecast : Forecast
   forecast = record { count = total t; entry = entry; stop = stop }

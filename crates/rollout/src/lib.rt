@@ -9,16 +9,17 @@ ghost use Rattle.bits.specs.Choice.{if_then_else_};
 ghost use Rattle.envelope.specs.Steps.{substepsOf};
 ghost use Rattle.rollout.specs.Plant.{axis, substep};
 ghost use Rattle.course.specs.Forecast.{writtenOf};
-ghost use Rattle.rollout.specs.Rule.{Task, after, stopDistance, forecast};
+ghost use Rattle.rollout.specs.Rule.{Task, stopDistance, forecast};
 ghost use Rattle.course.specs.declared.Plant.{Plant};
-ghost use Rattle.rollout.specs.Of.{gainsOf, movedFrom, joinedOf, endedOf, taskOf, Along, Towards, Under, roomy};
-ghost use Rattle.course.specs.Of.{stateOf, leftOf, shaped, noRun, runOf};
+ghost use Rattle.rollout.specs.Of.{gainsOf, movedFrom, joinedOf, endedOf, taskOf, Along, Towards, Under, rolledOf, roomy};
+ghost use Rattle.course.specs.Of.{stateOf, leftOf, shaped, noRun};
 ghost use Rattle.checked.specs.Of.{reckonedFrom};
 use checked::Reckoned;
 use course::Course;
 use course::Plant;
 use course::Run;
 use envelope::ControlSteps;
+use workspace::Bounds;
 use workspace::Workspace;
 
 // The gains, and the length of a substep.
@@ -145,7 +146,7 @@ fn stepwise(
 }
 
 // The same with all eight axes abreast, so that the compiled plant stays in registers. What the axes past the first n come to is neither
-// judged nor kept.
+// judged nor kept; a disc looks at two, so n is two or more.
 fn abreast(
     g: Law,
     w: Workspace,
@@ -155,7 +156,7 @@ fn abreast(
     run: Run,
     slack: &mut [f64],
 ) -> Run
-    requires { ⌜ (n ≤ 8) × (n ≤ length (now a)) × (run .done + count ≤ length (now slack)) ⌝ }
+    requires { ⌜ (n ≤ 8) × (n ≤ length (now a)) × (run .done + count ≤ length (now slack)) × (2 ≤ n) ⌝ }
     ensures { λ r. ⌜ (r .done ≤ run .done + count) × ((t : Task) (l : List Float) (k : ℕ) → Under t g w n → Along binary64 t l k run (now (slack .entry)) → Towards binary64 t k count (now (a .entry)) run → Along binary64 t l (k + count) r (now (slack .exit))) ⌝ }
 {
     if !run.sound {
@@ -185,7 +186,7 @@ fn abreast(
 
 // One setpoint, held for so many substeps. A single axis is quicker alone.
 fn hold(g: Law, w: Workspace, n: usize, a: &[f64], count: usize, run: Run, slack: &mut [f64]) -> Run
-    requires { ⌜ (n ≤ 8) × (n ≤ length (now a)) × (run .done + count ≤ length (now slack)) ⌝ }
+    requires { ⌜ (n ≤ 8) × (n ≤ length (now a)) × (run .done + count ≤ length (now slack)) × (1 ≤ n) ⌝ }
     ensures { λ r. ⌜ (r .done ≤ run .done + count) × ((t : Task) (l : List Float) (k : ℕ) → Under t g w n → Along binary64 t l k run (now (slack .entry)) → Towards binary64 t k count (now (a .entry)) run → Along binary64 t l (k + count) r (now (slack .exit))) ⌝ }
 {
     if n == 1 {
@@ -196,7 +197,7 @@ fn hold(g: Law, w: Workspace, n: usize, a: &[f64], count: usize, run: Run, slack
 
 // The committed rows, each held for its substeps.
 fn follow(g: Law, w: Workspace, c: Course, rows: &[f64], run: Run, slack: &mut [f64]) -> Run
-    requires { ⌜ (shaped c (length (now rows)) ≡ true) × (run .done + substepsOf (leftOf c) (c .per) ≤ length (now slack)) ⌝ }
+    requires { ⌜ (shaped c (length (now rows)) ≡ true) × (run .done + substepsOf (leftOf c) (c .per) ≤ length (now slack)) × (1 ≤ c .live) ⌝ }
     ensures { λ r. ⌜ (r .done ≤ run .done + substepsOf (leftOf c) (c .per)) × ((s : Plant) (l : List Float) → Along binary64 (taskOf g w c s (now (rows .entry))) l 0 run (now (slack .entry)) → Along binary64 (taskOf g w c s (now (rows .entry))) l (substepsOf (leftOf c) (c .per)) r (now (slack .exit))) ⌝ }
 {
     let left = course::rows_left(c.commit, c.from).0 as usize;
@@ -223,9 +224,11 @@ fn roomy(c: Course, len: usize, room: usize) -> bool
         & (len == shape)
         & (1 <= c.per.0)
         & (n <= room)
+        & (1 <= c.live)
 }
 
-// The whole run, its slacks written in order up to the first number that isn't finite; none where the course has no room.
+// The whole run, its slacks written in order up to the first number that isn't finite; none where the course has no room. The setpoint is
+// made also where no step brakes towards it.
 pub fn rollout(
     g: Law,
     w: Workspace,
@@ -234,7 +237,7 @@ pub fn rollout(
     rows: &[f64],
     slack: &mut [f64],
 ) -> Run
-    ensures { λ r. ⌜ r ≡ (if roomy c (length (now (rows .entry))) (length (now (slack .entry))) then runOf (forecast binary64 (taskOf g w c start (now (rows .entry)))) (after binary64 (taskOf g w c start (now (rows .entry)))) else noRun start) ⌝ }
+    ensures { λ r. ⌜ r ≡ (if roomy c (length (now (rows .entry))) (length (now (slack .entry))) then rolledOf binary64 (taskOf g w c start (now (rows .entry))) else noRun start) ⌝ }
     ensures { λ r. ⌜ now (slack .exit) ≡ (if roomy c (length (now (rows .entry))) (length (now (slack .entry))) then writtenOf (forecast binary64 (taskOf g w c start (now (rows .entry)))) (now (slack .entry)) else now (slack .entry)) ⌝ }
 {
     let inf = 1.0 / 0.0;
@@ -255,7 +258,18 @@ pub fn rollout(
     let followed = follow(g, w, c, rows, first, slack);
     let plant = followed.plant;
     let p = plant.p;
-    let inside = workspace::inward(w, p, c.live);
+    let shape = w.shape;
+    let lo = w.lo;
+    let hi = w.hi;
+    let inside = workspace::inward(shape, Bounds { lo, hi }, p, c.live);
+    if !inside.sound {
+        return Run {
+            plant,
+            margin: followed.margin,
+            done: followed.done,
+            sound: false,
+        };
+    }
     let setpoint = inside.at;
     let count = envelope::substeps_in(ControlSteps(0), c.brake, c.per);
     hold(g, w, c.live, &setpoint, count, followed, slack)

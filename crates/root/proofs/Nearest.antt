@@ -7,13 +7,13 @@ use native.Mathlib.Nat.{le-trans, le-of-lt, lt-of-lt-of-le, lt-of-le-of-lt, lt-o
 use native.Mathlib.Decide.{decLe}
 use native.Mathlib.Omega.{arith}
 use borrow.Author.Tests.{ltb-true}
-use lib.Dec.{T, ltb, leb, eqb, ltb→lt}
+use lib.Dec.{T, ltb, leb, eqb, ltb→lt, lt→ltb}
 use lib.IntN.{ℤ}
 use lib.Pow.{pow-add, pow-pos, pow-mono}
 use lib.Ieee.{Float, nan, inf, fin, Format, binary32, binary64, prec, emax, low, up, down, size, odd, fits, lt}
 use lib.Ieee.Digits.{size-le}
 use lib.Ieee.Exact.{HasValue, odd-sign}
-use lib.Ieee.Fits.{odd-fits, and-r}
+use lib.Ieee.Fits.{odd-fits, nan-fits, and-r}
 use lib.Ieee.Positive.{num, den, den-pos, positive, value→cross, positive-of-value}
 use Rattle.root.specs.Root.{nearRoot, rootOf}
 use Rattle.root.specs.Rule.{Near, notNegative, NearestRoot, MidBelow, MidAbove}
@@ -295,3 +295,12 @@ module _ (f : Format) (x : Float) (h : T (fits f x)) (p : T (positive x)) where
   -- THE SENTENCE: the root of a number above zero is the number of the format that is nearest to the exact root
   pub root-nearest : NearestRoot f x (rootOf f x)
   root-nearest = record { held = holds; above = root-pos; under = farther-below; over = farther-above }
+
+-- the root of any number of the format is held by the format: of a zero it is that zero, and where there is none it is a NaN
+pub root-fits : (f : Format) (x : Float) → T (fits f x) → T (fits f (rootOf f x))
+unfolding rootOf
+root-fits f nan h = nan-fits f
+root-fits f (inf s) h = nan-fits f
+root-fits f (fin s zero e) h = h
+root-fits f (fin true (suc m) e) h = nan-fits f
+root-fits f (fin false (suc m) e) h = holds f (fin false (suc m) e) h (lt→ltb 0 (suc m) (omega arith))

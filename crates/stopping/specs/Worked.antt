@@ -14,7 +14,8 @@ use Rattle.fmath.specs.Norm.{squareAt, norm, squaredGap, dist}
 use Rattle.chunk.specs.Rule.{rowOf}
 use Rattle.envelope.specs.declared.ActionKind.the-variants.{JointVelocity}
 use Rattle.envelope.specs.declared.BrakeKind.the-variants.{BoundedAccel}
-use Rattle.workspace.specs.Rule.{betweenR, slackR}
+use Rattle.workspace.specs.declared.Shape.the-variants.{Box}
+use Rattle.workspace.specs.Rule.{betweenR, slackInR}
 use Rattle.course.specs.Forecast.{slackAt, leading, placeOf, marginOf, feasibleOf}
 use Rattle.stopping.specs.Rule.{Task, ratio, ramp, dStop, radius, commanded, command, moved, step, reaction, after, entry, stopDistance, forecast}
 
@@ -22,7 +23,7 @@ abbrev sample : Task
 sample = record {
   arm = record { kind = JointVelocity; brake = BoundedAccel 1! 1! 1!; dt = 1!; «a_max» = 1!; «j_max» = 1! };
   reactTicks = 1;
-  walls = record { lo = fin true 1 (pos 2) ∷ []; hi = fin false 1 (pos 2) ∷ [] };
+  walls = record { shape = Box; lo = fin true 1 (pos 2) ∷ []; hi = fin false 1 (pos 2) ∷ [] };
   n = 1;
   start = record { p = +0 ∷ []; v = 1! ∷ [] };
   rows = fin false 1 (pos 1) ∷ [];
@@ -36,5 +37,5 @@ touching : (table (slackAt (forecast binary64 sample)) (forecast binary64 sample
     × (placeOf (forecast binary64 sample) ≡ 0)
     × (feasibleOf (forecast binary64 sample) ≡ true)
     × (forecast binary64 sample .stop .value ≡ fin false 3 (pos 1))
-unfolding table entry stopDistance placeOf marginOf all least lesser leading slackR leastOf betweenR after command commanded step moved each radius dStop ramp ratio reaction ofInt round rowOf over norm squareAt dist squaredGap sumFrom rootOf nearRoot floorRoot scaled rootExponent half number lt le eq add sub mul div finite
+unfolding table entry stopDistance placeOf marginOf all least lesser leading slackInR leastOf betweenR after command commanded step moved each radius dStop ramp ratio reaction ofInt round rowOf over norm squareAt dist squaredGap sumFrom rootOf nearRoot floorRoot scaled rootExponent half number lt le eq add sub mul div finite
 touching = (refl, refl, refl, refl)

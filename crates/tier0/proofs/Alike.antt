@@ -27,8 +27,8 @@ use Rattle.envelope.specs.declared.FuseConfig.{FuseConfig}
 use Rattle.tier0.specs.declared.Checks.{Checks}
 use Rattle.tier0.specs.declared.Difference.{Difference}
 use Rattle.tier0.specs.declared.Difference.the-variants.{Accel, Jerk}
-use Rattle.tier0.specs.Rule.{WORKSPACE, SPEED, ACCEL, JERK, REACH, arms, boxDims, Slow, slowZone, outOfBox, outOfReach, boxed, leashed, reached, moves, project, projection, boxesRows, rowMasks, checkAction}
-use Rattle.tier0.specs.Chunk.{rawRow, startRow, someOutOfBox, someOf, largeAt, tooLarge, nextRow, runRows, projectedRows, rowsMasks, checkChunk}
+use Rattle.tier0.specs.Rule.{WORKSPACE, SPEED, ACCEL, JERK, REACH, arms, boxDims, Slow, slowZone, outOfWorkspace, outOfReach, movedInside, leashed, reached, moves, project, projection, movesInside, rowMasks, checkAction}
+use Rattle.tier0.specs.Chunk.{rawRow, startRow, someOutOfWorkspace, someOf, largeAt, tooLarge, nextRow, runRows, projectedRows, rowsMasks, checkChunk}
 use Rattle.tier0.specs.Refusals.{tooShort, chunkTooShort}
 use Rattle.tier0.specs.Of.{checksOf, actionRuling, actionRefusal, actionAnswer, actionOut, chunkRuling, chunkRefusal, chunkAnswer, chunkOut}
 use Rattle.tier0.specs.Promises.{raised, SameChecks}
@@ -61,6 +61,7 @@ rearmed s bits w choice = record {
   «inv_dt2» = s .«inv_dt2»;
   «inv_dt3» = s .«inv_dt3»;
   «step_max» = s .«step_max»;
+  shape = s .shape;
   walls = s .walls;
 }
 
@@ -90,21 +91,21 @@ module _ (f : Format) (s : Checks) (bits : ℕ) (w : Zones) (choice : AbsentCame
   unfolding arms
   reach-alike = alike .reach
 
-  same-box : (a : List Float) → outOfBox f other a ≡ outOfBox f s a
-  unfolding outOfBox
-  same-box a = rw workspace-alike
+  same-outside : (a : List Float) → outOfWorkspace f other a ≡ outOfWorkspace f s a
+  unfolding outOfWorkspace
+  same-outside a = rw workspace-alike
 
-  same-boxes : (rows : List Float) (h : ℕ) → someOutOfBox f other rows h ≡ someOutOfBox f s rows h
-  unfolding someOutOfBox
-  same-boxes rows h = λ i. someOf (λ (k : ℕ). same-box (rawRow rows (s .dim) k) i) h
+  same-outside-rows : (rows : List Float) (h : ℕ) → someOutOfWorkspace f other rows h ≡ someOutOfWorkspace f s rows h
+  unfolding someOutOfWorkspace
+  same-outside-rows rows h = λ i. someOf (λ (k : ℕ). same-outside (rawRow rows (s .dim) k) i) h
 
   same-large : (d : Difference) (q rows : List Float) (h : ℕ) → tooLarge f other d q rows h ≡ tooLarge f s d q rows h
   unfolding tooLarge largeAt
   same-large Accel q rows h = rw accel-alike
   same-large Jerk q rows h = rw jerk-alike
 
-  same-mode : (m : ClampMode) → boxesRows other m ≡ boxesRows s m
-  unfolding boxesRows
+  same-mode : (m : ClampMode) → movesInside other m ≡ movesInside s m
+  unfolding movesInside
   same-mode Off = refl
   same-mode Project = workspace-alike
 
@@ -116,9 +117,9 @@ module _ (f : Format) (s : Checks) (bits : ℕ) (w : Zones) (choice : AbsentCame
   unfolding rowsMasks
   same-rows-masks rows h = rw (same-mode (s .clamp))
 
-  same-boxed : (a : List Float) → boxed f other a ≡ boxed f s a
-  unfolding boxed
-  same-boxed a = rw workspace-alike
+  same-moved-inside : (a : List Float) → movedInside f other a ≡ movedInside f s a
+  unfolding movedInside
+  same-moved-inside a = rw workspace-alike
 
   same-leashed : (z : Slow) (prev a : List Float) → leashed f other z prev a ≡ leashed f s z prev a
   unfolding leashed
@@ -141,8 +142,8 @@ module _ (f : Format) (s : Checks) (bits : ℕ) (w : Zones) (choice : AbsentCame
       same-moves : (first : Bool) (prev a : List Float) → moves f other z q first prev a ≡ moves f s z p first prev a
       unfolding moves
       same-moves first prev a =
-          let b = boxed f s a .value in
-          rw (same-boxed a, same-leashed z prev b, same-reached (leashed f s z prev b .value))
+          let b = movedInside f s a .value in
+          rw (same-moved-inside a, same-leashed z prev b, same-reached (leashed f s z prev b .value))
 
       same-projection : (m : ClampMode) (prev a : List Float) → projection f other m z q prev a ≡ projection f s m z p prev a
       unfolding projection project
@@ -166,7 +167,7 @@ module _ (f : Format) (s : Checks) (bits : ℕ) (w : Zones) (choice : AbsentCame
           rw (
             zone,
             speed-alike,
-            same-box a,
+            same-outside a,
             same-reach a,
             same-projection (slowZone f s p aux .value) (s .clamp) prev (padded a (s .dim)),
             same-row-masks a,
@@ -180,7 +181,7 @@ module _ (f : Format) (s : Checks) (bits : ℕ) (w : Zones) (choice : AbsentCame
             same-start rows,
             zone,
             speed-alike,
-            same-boxes rows h,
+            same-outside-rows rows h,
             same-large Accel start rows h,
             same-large Jerk start rows h,
             same-reach (rawRow rows (s .dim) 0),
@@ -193,7 +194,7 @@ module _ (f : Format) (s : Checks) (bits : ℕ) (w : Zones) (choice : AbsentCame
 module _ (f : Format) (t : Tables) (c : FuseConfig) (bits : ℕ) (w : Zones) (choice : AbsentCamera) where
   -- the configuration of the other call
   abbrev changed : FuseConfig
-  changed = altered c w choice (c .norm) (c .walls) (c .brake) bits (c .calib) (c .«horizon_ticks»)
+  changed = altered c (c .limits) (c .shape) w choice (c .norm) (c .walls) (c .brake) bits (c .calib) (c .«horizon_ticks»)
 
   checks-rearmed : checksOf f changed ≡ rearmed (checksOf f c) bits w choice
   unfolding checksOf

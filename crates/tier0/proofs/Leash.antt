@@ -1,15 +1,12 @@
 -- CONTACT and the leash of an accepted call: by the zones that the arm is inside, one by one, since each of their steps is finite.
-use Prim.Native.Nat.{ℕ, zero, suc, _<_}
+use Prim.Native.Nat.{ℕ, _<_}
 use mathlib.Core.Path.{_≡_, refl, sym, ap, _∙_}
-use mathlib.Core.Bool.{Bool, true, false, not, _&&_, _||_, false≢true, and-false}
+use mathlib.Core.Bool.{Bool, true, false, _&&_, _||_, false≢true, and-false}
 use mathlib.Core.Logic.{_⊎_, inl, inr, ⊎-elim}
-use mathlib.Core.List.{List, [], _∷_, _++_}
+use mathlib.Core.List.{List}
 use native.Mathlib.Omega.{arith}
-use borrow.Author.Tests.{not-false}
-use lib.ListN.{length, replicate}
+use lib.ListN.{replicate}
 use lib.Ieee.{Float, Format, lt, le}
-use Rattle.refusal.specs.Order.{computed, _when_, among}
-use Rattle.refusal.specs.Exactly.{exactly-none}
 use Rattle.bits.specs.Choice.{if_then_else_}
 use Rattle.checked.specs.Each.{some, Among}
 use Rattle.checked.specs.Finite.{+0, finite}
@@ -20,27 +17,24 @@ use Rattle.checked.proofs.Ordered.{Real, finite-real, le-not-above, lt-irrefl, 
 use Rattle.checked.proofs.Extremes.{lesser-either, lesser-left, lesser-right, lesser-real}
 use Rattle.fmath.specs.Norm.{dist}
 use Rattle.workspace.specs.declared.WallMasks.{WallMasks}
-use Rattle.chunk.specs.Refusals.{chunkReasons}
 use Rattle.chunk.specs.declared.Header.{Header}
 use Rattle.conformal.specs.Rule.{Tables}
 use Rattle.envelope.specs.Slots.{counted, zoneAt}
-use Rattle.envelope.specs.Refusals.{configJudged}
 use Rattle.envelope.specs.Promises.{Fit, zonedBy}
 use Rattle.envelope.specs.declared.Contact.{Contact}
 use Rattle.envelope.specs.declared.Contact.the-variants.{None}
 use Rattle.envelope.specs.declared.Zones.{Zones}
 use Rattle.envelope.specs.declared.FuseConfig.{FuseConfig}
-use Rattle.envelope.proofs.Accepted.{accepted, step-max-finite}
-use Rattle.refusal.specs.Chain.{both-pass}
+use Rattle.envelope.proofs.Accepted.{step-max-finite}
 use Rattle.tier0.specs.declared.Checks.{Checks}
 use Rattle.tier0.specs.declared.Tier0Out.the-variants.{Passed}
-use Rattle.tier0.specs.Rule.{SPEED, CONTACT, arms, Slow, clear, zoneIn, slowest, slowZone, leash, Judgement, checkAction}
+use Rattle.tier0.specs.Rule.{SPEED, CONTACT, arms, Slow, clear, zoneIn, slowest, slowZone, leash, checkAction}
 use Rattle.tier0.specs.Chunk.{someLonger, checkChunk}
-use Rattle.tier0.specs.Refusals.{answerAt}
-use Rattle.tier0.specs.Of.{checksOf, lentToAction, actionRuling, actionRefusal, actionAnswer, lentToChunk, chunkRuling, chunkRefusal, chunkAnswer}
-use Rattle.tier0.specs.Promises.{accepts, raised, beforeFirst, zoneFound, insideAt, leashArmed, leashNow, LeashTold, HasZonesOf, MoreAtTheEnd, LeashNotLonger}
+use Rattle.tier0.specs.Of.{checksOf, actionRuling, actionRefusal, actionAnswer, chunkRuling, chunkRefusal, chunkAnswer}
+use Rattle.tier0.specs.Promises.{accepts, raised, beforeFirst, zoneFound, insideAt, leashNow, LeashTold, HasZonesOf, MoreAtTheEnd, LeashNotLonger}
 use Rattle.tier0.proofs.Slowest.{Firm, OfLesser, inside-some, all-firm, each-firm, all-tested, is-one, step-longer, some-step-longer}
 use Rattle.tier0.proofs.Promises.{by-place, empty-place, chunk-raised, action-raised}
+use Rattle.tier0.proofs.Accepted.{chunk-passes, action-passes}
 use Rattle.tier0.proofs.Walled.{from-rule}
 
 -- ---- the zones, armed or not
@@ -168,10 +162,6 @@ leash-told f s p aux sound real =
 
 -- ---- an accepted call
 
-by-zero : (n : ℕ) (j : Judgement) → accepts (answerAt n j) ≡ true → n ≡ 0
-by-zero zero j e = refl
-by-zero (suc n) j e = absurd (false≢true e)
-
 module _ (f : Format) (c : FuseConfig) (t : Tables) (p aux : List Float) where
   -- the configuration is accepted, and the slow zones computed finite numbers alone
   record Taken : Type 0 where
@@ -179,26 +169,16 @@ module _ (f : Format) (c : FuseConfig) (t : Tables) (p aux : List Float) where
     pub zones-sound : slowZone f (checksOf f c) p aux .sound ≡ true
 
   chunk-taken : (rows : List Float) (k : Header) (room : ℕ) → accepts (chunkAnswer f c t p aux rows k room) ≡ true → Taken
-  unfolding chunkAnswer chunkRefusal chunkRuling checkChunk
+  unfolding chunkRuling checkChunk
   chunk-taken rows k room e =
-      let none = by-zero (chunkRefusal f c t p aux rows k room) (chunkRuling f c p aux rows (k .horizon) .value) e in
-      let ruling = chunkRuling f c p aux rows (k .horizon) in
-      let rest = chunkReasons k (length rows) ++ lentToChunk c p aux rows k room ((computed when not (ruling .sound)) ∷ []) in
-      record {
-        fit = accepted f c t (both-pass (configJudged f c t) rest none .0);
-        zones-sound = and-left (slowZone f (checksOf f c) p aux .sound) _ (not-false (ruling .sound) (exactly-none (among (configJudged f c t ++ rest)) .1 none computed));
-      }
+      let passes = chunk-passes f c t p aux rows k room e in
+      record { fit = passes .fit; zones-sound = and-left (slowZone f (checksOf f c) p aux .sound) _ (passes .all-finite) }
 
   action-taken : (prev a : List Float) (room : ℕ) → accepts (actionAnswer f c t p aux prev a room) ≡ true → Taken
-  unfolding actionAnswer actionRefusal actionRuling checkAction
+  unfolding actionRuling checkAction
   action-taken prev a room e =
-      let none = by-zero (actionRefusal f c t p aux prev a room) (actionRuling f c p aux prev a .value) e in
-      let ruling = actionRuling f c p aux prev a in
-      let rest = lentToAction c p aux prev a room ((computed when not (ruling .sound)) ∷ []) in
-      record {
-        fit = accepted f c t (both-pass (configJudged f c t) rest none .0);
-        zones-sound = and-left (slowZone f (checksOf f c) p aux .sound) _ (not-false (ruling .sound) (exactly-none (among (configJudged f c t ++ rest)) .1 none computed));
-      }
+      let passes = action-passes f c t p aux prev a room e in
+      record { fit = passes .fit; zones-sound = and-left (slowZone f (checksOf f c) p aux .sound) _ (passes .all-finite) }
 
   longest-finite : Taken → finite (checksOf f c .«step_max») ≡ true
   unfolding checksOf

@@ -1,12 +1,15 @@
+pub mod Masks
+pub mod Stays
 pub mod Steps
 pub mod Refused
-pub mod Masks
 pub mod Rows
 pub mod ChunkRefused
+pub mod Accepted
 pub mod Slowest
 pub mod Promises
 pub mod Walled
 pub mod Leash
 pub mod Within
+pub mod Inside
 pub mod Alike
 pub mod Zones

@@ -2,7 +2,7 @@
 -- unarmed checks move nothing.
 use Prim.Native.Nat.{ℕ, zero, suc, _+_, _*_, _≤_, _<_}
 use mathlib.Core.Path.{_≡_, refl, sym, ap, _∙_}
-use mathlib.Core.Bool.{Bool, true, false, not, _&&_, _||_, false≢true, and-true, or-false}
+use mathlib.Core.Bool.{Bool, true, false, not, _&&_, _||_, false≢true, and-true, and-false, or-false}
 use mathlib.Core.List.{List, [], _∷_}
 use native.Mathlib.Omega.{arith}
 use borrow.Author.Tests.{eq-eqb}
@@ -18,6 +18,7 @@ use Rattle.checked.specs.Checked.{Checked, pure}
 use Rattle.fmath.specs.Norm.{dist}
 use Rattle.checked.proofs.Copy.{padded-at}
 use Rattle.checked.proofs.Ordered.{lt-irrefl}
+use Rattle.workspace.specs.Shape.{boxed}
 use Rattle.workspace.specs.Rule.{Walls}
 use Rattle.bits.specs.Bits.{bit, bitsWhere}
 use Rattle.bits.proofs.Bits.{bit-where, bits-none}
@@ -29,7 +30,7 @@ use Rattle.envelope.specs.declared.AbsentCamera.{AbsentCamera}
 use Rattle.envelope.specs.Slots.{counted, zoneAt}
 use Rattle.chunk.proofs.Rows.{row-fits}
 use Rattle.tier0.specs.declared.Checks.{Checks}
-use Rattle.tier0.specs.Rule.{WORKSPACE, SPEED, ACCEL, JERK, REACH, CONTACT, arms, Slow, clear, seen, insideSeen, insideZone, insideUnseen, zoneStep, zoneIn, slowest, slowZone, tripBits, leash, boxed, leashed, reached, moves, movedDims, project, projection, checkAction}
+use Rattle.tier0.specs.Rule.{WORKSPACE, SPEED, ACCEL, JERK, REACH, CONTACT, arms, Slow, clear, seen, insideSeen, insideZone, insideUnseen, zoneStep, zoneIn, slowest, slowZone, tripBits, leash, movedInside, leashed, reached, moves, movedDims, project, projection, checkAction}
 use Rattle.tier0.specs.Promises.{raised, chunkTrips, actionTrips, ChunkRaised, ActionRaised, WallsTouched, NoZones, NoContact, SeenOutside, OutsideRadius, OneZone, zoneFinite, ZoneTold, EachAsked, NoZoneNoLeash, UnarmedAction, UnarmedChunk}
 use Rattle.tier0.proofs.Slowest.{slowest-clear, slowest-outside, each-sound}
 use Rattle.tier0.specs.Chunk.{startRow, someLonger, rawRow, putRow, nextRow, runRows, projectedRows, checkChunk}
@@ -80,8 +81,8 @@ action-raised f s p aux prev a = record {
 
 pub walls-touched : (w : Walls) (a : List Float) (j : ℕ) → WallsTouched w a j
 walls-touched w a j = record {
-  low = λ o e. rw (e, lt-irrefl (at (w .lo) j), o);
-  high = λ o e. rw (e, lt-irrefl (at (w .hi) j), o);
+  low = λ o e. rw (e, lt-irrefl (at (w .lo) j), o) (and-false (boxed (w .shape) j));
+  high = λ o e. rw (e, lt-irrefl (at (w .hi) j), o) (and-false (boxed (w .shape) j));
 }
 
 -- ---- no slow zone
@@ -230,7 +231,7 @@ none-armed s e = rw e (refl, (refl, (refl, refl)))
 
 -- a row comes out as it went in
 pub unarmed-stays : (f : Format) (s : Checks) (p prev a : List Float) (isFirst : Bool) → s .armed ≡ 0 → moves f s clear p isFirst prev a ≡ pure a
-unfolding moves boxed leashed reached
+unfolding moves movedInside leashed reached
 unarmed-stays f s p prev a true e = let w = none-armed s e in rw (w .0, w .1 .0, w .1 .1 .0)
 unarmed-stays f s p prev a false e = let w = none-armed s e in rw (w .0, w .1 .0)
 

@@ -19,7 +19,9 @@ use Rattle.checked.proofs.Copy.{all-put}
 use Rattle.checked.specs.Checked.{Checked}
 use Rattle.checked.proofs.Each.{and-left, and-right, neither}
 use Rattle.conformal.specs.Rule.{Tables}
+use Rattle.workspace.specs.Shape.{spans}
 use Rattle.envelope.specs.Derive.{derived}
+use Rattle.envelope.specs.Promises.{Fit}
 use Rattle.envelope.specs.Refusals.{configJudged}
 use Rattle.envelope.specs.declared.Derived.{Derived}
 use Rattle.envelope.specs.declared.FuseConfig.{FuseConfig}
@@ -43,6 +45,7 @@ pub record Sized (c : FuseConfig) (a : List Float) (room : ℕ) : Type 0 where
   pub narrow : c .dim ≤ 8
   pub act : c .dim ≤ length a
   pub out : c .dim ≤ room
+  pub spanned : spans (c .shape) (c .dim) (c .«pos_dim») ≡ true
 
 -- the checks read what is derived
 pub checks-are : (f : Format) (c : FuseConfig) {d : Derived} {s : Checks} → s ≡ checksFrom c d → d ≡ derived f c → s ≡ checksOf f c
@@ -50,9 +53,9 @@ unfolding checksOf
 checks-are f c es ed = es ∙ ap (checksFrom c) ed
 
 -- the same of what the checks read
-pub sized-checks : (f : Format) (c : FuseConfig) (a : List Float) (room : ℕ) {s : Checks} → s ≡ checksOf f c → Sized c a room → (s .dim ≤ 8) × (s .dim ≤ length a)
+pub sized-checks : (f : Format) (c : FuseConfig) (a : List Float) (room : ℕ) {s : Checks} → s ≡ checksOf f c → Sized c a room → (s .dim ≤ 8) × (s .dim ≤ length a) × (spans (s .shape) (s .dim) (s .«pos_dim») ≡ true)
 unfolding checksOf
-sized-checks f c a room e w = rw e (w .narrow, w .act)
+sized-checks f c a room e w = rw e (w .narrow, w .act, w .spanned)
 
 -- ---- the whole answer
 
@@ -67,7 +70,7 @@ module _ (f : Format) (c : FuseConfig) (t : Tables) (p aux prev a : List Float) 
   abbrev before : ℕ → List Judged
   before room = configJudged f c t ++ lentToAction c p aux prev a room []
 
-  sizes : (room : ℕ) → brief room ≡ false → c .dim ≤ 8 → Sized c a room
+  sizes : (room : ℕ) → brief room ≡ false → Fit f c t → Sized c a room
   unfolding tooShort
   sizes room e w =
       let x = ltb (length p) (c .«pos_dim») in
@@ -75,15 +78,16 @@ module _ (f : Format) (c : FuseConfig) (t : Tables) (p aux prev a : List Float) 
       let z = ltb (length a) (c .dim) in
       let parts = neither (x || y || z) (ltb room (c .dim)) e in
       record {
-        narrow = w;
+        narrow = dim-most f c t w;
         act = ltb-false _ _ (neither (x || y) z (parts .0) .1);
         out = ltb-false _ _ (parts .1);
+        spanned = w .spanned;
       }
 
   pub accepted-sizes : (room : ℕ) → refusal (before room) ≡ 0 → Sized c a room
   accepted-sizes room h =
       let w = both-pass (configJudged f c t) (lentToAction c p aux prev a room []) h in
-      sizes room (passes-at short (brief room) ((notFinite when unfit) ∷ []) (w .1) .0) (dim-most f c t (accepted f c t (w .0)))
+      sizes room (passes-at short (brief room) ((notFinite when unfit) ∷ []) (w .1) .0) (accepted f c t (w .0))
 
   abbrev ruling : Checked Judgement
   ruling = actionRuling f c p aux prev a

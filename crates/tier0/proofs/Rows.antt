@@ -34,8 +34,8 @@ use Rattle.checked.specs.declared.Row.{Row}
 use Rattle.checked.specs.declared.Test.{Test}
 use Rattle.tier0.specs.declared.Stride.{Stride}
 use Rattle.tier0.specs.declared.MovedRows.{MovedRows}
-use Rattle.tier0.specs.Rule.{Slow, SPEED, arms, slowZone, outOfBox, outOfReach, tripBits, moves, movedDims, Projected}
-use Rattle.tier0.specs.Chunk.{rawRow, startRow, rowBefore, stepTo, peakStep, someLonger, someOutOfBox, someOf, bend, jolt, bends, jolts, exceeds, largeAt, further, tripOf, tooLarge, putRow, Run, nextRow, runRows, projectedRows, rowsMasks, checkChunk}
+use Rattle.tier0.specs.Rule.{Slow, SPEED, arms, slowZone, outOfWorkspace, outOfReach, tripBits, moves, movedDims, Projected}
+use Rattle.tier0.specs.Chunk.{rawRow, startRow, rowBefore, stepTo, peakStep, someLonger, someOutOfWorkspace, someOf, bend, jolt, bends, jolts, exceeds, largeAt, further, tripOf, tooLarge, putRow, Run, nextRow, runRows, projectedRows, rowsMasks, checkChunk}
 use Rattle.tier0.specs.Of.{slowOf, zoneFrom, stepsFrom, runFrom, movedRowsFrom, judgedChunkFrom}
 use Rattle.checked.specs.Of.{rowFrom, testFrom}
 
@@ -181,13 +181,13 @@ pub record Strode (f : Format) (s : Checks) (slow : Float) (q rows : List Float)
   pub top : peak ≡ peakStep f q rows (s .dim) i .value
   pub fast-so : fast ≡ someLonger f q rows (s .dim) (s .«step_max») i
   pub close-so : close ≡ someLonger f q rows (s .dim) slow i
-  pub out-so : out ≡ someOutOfBox f s rows i .value
-  pub told-so : told ≡ someOutOfBox f s rows i .sound
+  pub out-so : out ≡ someOutOfWorkspace f s rows i .value
+  pub told-so : told ≡ someOutOfWorkspace f s rows i .sound
   pub ok-so : ok ≡ peakStep f q rows (s .dim) i .sound
 
 module _ (f : Format) (s : Checks) (slow : Float) (q rows : List Float) where
   pub set-out : Strode f s slow q rows 0 +0 false false false true true
-  unfolding peakStep someLonger someOutOfBox someOf greatest all some
+  unfolding peakStep someLonger someOutOfWorkspace someOf greatest all some
   set-out = record { top = refl; fast-so = refl; close-so = refl; out-so = refl; told-so = refl; ok-so = refl }
 
   pub stride : (i : ℕ) (peak : Float) (fast close out told ok : Bool) {a b : List Float} {n m : Float} {o : Test} {k : Bool}
@@ -196,12 +196,12 @@ module _ (f : Format) (s : Checks) (slow : Float) (q rows : List Float) where
       → b ≡ rowBefore q rows (s .dim) i
       → n ≡ dist f a b (s .dim) .value
       → m ≡ greater peak n
-      → o ≡ testFrom (outOfBox f s a)
+      → o ≡ testFrom (outOfWorkspace f s a)
       → k ≡ finite n
       → Strode f s slow q rows (i + 1) m (fast || lt (s .«step_max») n) (close || lt slow n) (out || o .holds) (told && o .sound) (ok && k)
-  unfolding peakStep someLonger someOutOfBox stepTo
+  unfolding peakStep someLonger someOutOfWorkspace stepTo
   stride i peak fast close out told ok {a} {b} {n} {m} {o} {k} h ea eb en em eo ek =
-      let w = some-turn (λ (j : ℕ). outOfBox f s (rawRow rows (s .dim) j)) i out told o (h .out-so, h .told-so) (eo ∙ ap (λ (l : List Float). testFrom (outOfBox f s l)) ea) in
+      let w = some-turn (λ (j : ℕ). outOfWorkspace f s (rawRow rows (s .dim) j)) i out told o (h .out-so, h .told-so) (eo ∙ ap (λ (l : List Float). testFrom (outOfWorkspace f s l)) ea) in
       let e : n ≡ stepTo f q rows (s .dim) i .value = rw (ea, eb) at en in
       record {
         top = em ∙ greatest-more +0 (λ (j : ℕ). stepTo f q rows (s .dim) j .value) i peak n (h .top) e;

@@ -1,9 +1,10 @@
 -- What each step of the check answers, as a struct of its parts: one or two laws a step, on plain values and at any format.
 use Prim.Native.Nat.{ℕ, _+_}
 use mathlib.Core.Path.{_≡_, refl, sym, ap, _∙_}
-use mathlib.Core.Bool.{Bool, true, false, _&&_, _||_, and-true}
+use mathlib.Core.Bool.{Bool, true, false, not, _&&_, _||_, and-true}
 use mathlib.Core.List.{List, [], _∷_}
 use native.Mathlib.Numerals.{add-one}
+use borrow.Author.Tests.{not-true, not-false}
 use lib.Ieee.{Float, Format, mul, lt, le}
 use Rattle.checked.specs.Each.{at}
 use Rattle.checked.specs.Finite.{finite, +0}
@@ -15,7 +16,7 @@ use Rattle.checked.proofs.Absorbing.{fine-mul-left}
 use Rattle.fmath.proofs.Lengths.{dist-tells, dist-sound}
 use Rattle.pull.specs.Rule.{pulled}
 use Rattle.workspace.specs.declared.WallMasks.{WallMasks}
-use Rattle.workspace.specs.Of.{wallsOf}
+use Rattle.workspace.specs.Of.{wallsIn}
 use Rattle.workspace.specs.Rule.{outside, inward}
 use Rattle.envelope.specs.declared.ClampMode.{ClampMode}
 use Rattle.envelope.specs.declared.ClampMode.the-variants as M
@@ -29,28 +30,31 @@ use Rattle.checked.specs.declared.Row.{Row}
 use Rattle.checked.specs.declared.Test.{Test}
 use Rattle.tier0.specs.declared.Clamped.{Clamped}
 use Rattle.tier0.specs.declared.JudgedAction.{JudgedAction}
-use Rattle.tier0.specs.Rule.{Slow, WORKSPACE, SPEED, ACCEL, JERK, REACH, CONTACT, arms, boxDims, clear, seen, insideSeen, insideUnseen, insideZone, zoneStep, zoneIn, slowest, slowZone, outOfBox, outOfReach, weight, tripBits, leash, boxed, leashed, reached, moves, movedDims, project, projection, rowMasks, checkAction}
+use Rattle.tier0.specs.Rule.{Slow, WORKSPACE, SPEED, ACCEL, JERK, REACH, CONTACT, arms, boxDims, clear, seen, insideSeen, insideUnseen, insideZone, zoneStep, zoneIn, slowest, slowZone, outOfWorkspace, outOfReach, weight, tripBits, leash, movedInside, leashed, reached, pulls, moves, movedDims, project, projection, rowMasks, checkAction}
 use Rattle.tier0.specs.Of.{slowOf, zoneFrom, slowerOf, clampedFrom, judgedActionFrom}
 use Rattle.checked.specs.Of.{rowFrom, testFrom}
+use Rattle.checked.proofs.Each.{neither}
+use Rattle.tier0.proofs.Stays.{inside-kept}
 
 -- ---- the workspace
 
 module _ (f : Format) (s : Checks) (a : List Float) {k : Bool} (e : k ≡ arms s WORKSPACE) where
-  pub out-off : k ≡ false → _≡_ {A = Test} (record { holds = false; sound = true }) (testFrom (outOfBox f s a))
-  unfolding outOfBox
+  pub out-off : k ≡ false → _≡_ {A = Test} (record { holds = false; sound = true }) (testFrom (outOfWorkspace f s a))
+  unfolding outOfWorkspace
   out-off h = rw (sym e ∙ h)
 
-  pub out-on : k ≡ true → {n : ℕ} {t : Test} → n ≡ boxDims s → t ≡ testFrom (outside f (wallsOf (s .walls)) a n) → t ≡ testFrom (outOfBox f s a)
-  unfolding outOfBox
+  pub out-on : k ≡ true → {n : ℕ} {t : Test} → n ≡ boxDims s → t ≡ testFrom (outside f (wallsIn (s .shape) (s .walls)) a n) → t ≡ testFrom (outOfWorkspace f s a)
+  unfolding outOfWorkspace
   out-on h p q = rw (sym e ∙ h) (rw p at q)
 
-  pub boxed-off : k ≡ false → _≡_ {A = Row} (record { at = a; sound = true }) (rowFrom (boxed f s a))
-  unfolding boxed
-  boxed-off h = rw (sym e ∙ h)
+  pub moved-inside-off : (inside : Bool) → (inside ≡ true → outOfWorkspace f s a ≡ pure false) → (inside || not k) ≡ true → _≡_ {A = Row} (record { at = a; sound = true }) (rowFrom (movedInside f s a))
+  unfolding movedInside
+  moved-inside-off true found h = rw (inside-kept f s a (found refl))
+  moved-inside-off false found h = rw (sym e ∙ not-true k h)
 
-  pub boxed-on : k ≡ true → {n : ℕ} {r : Row} → n ≡ boxDims s → r ≡ rowFrom (inward f (wallsOf (s .walls)) a n) → r ≡ rowFrom (boxed f s a)
-  unfolding boxed
-  boxed-on h p q = rw (sym e ∙ h) (rw p at q)
+  pub moved-inside-on : (inside : Bool) → (inside || not k) ≡ false → {n : ℕ} {r : Row} → n ≡ boxDims s → r ≡ rowFrom (inward f (wallsIn (s .shape) (s .walls)) a n) → r ≡ rowFrom (movedInside f s a)
+  unfolding movedInside
+  moved-inside-on inside h p q = rw (sym e ∙ not-false k (neither inside (not k) h .1)) (rw p at q)
 
 -- ---- the slow zones
 
@@ -145,22 +149,25 @@ module _ (f : Format) (s : Checks) (z : Slow) (prev a : List Float) {k : Bool} (
 
 -- ---- the three moves
 
-module _ (f : Format) (s : Checks) (z : Slow) (p q a : List Float) {b l : Row}
-    (eb : b ≡ rowFrom (boxed f s a)) (el : l ≡ rowFrom (leashed f s z q (b .at))) {t : Bool} where
-  pub first-row : t ≡ true → {r : Row} → r ≡ rowFrom (reached f s p (l .at)) → _≡_ {A = Row} (record { at = r .at; sound = b .sound && (l .sound && r .sound) }) (rowFrom (moves f s z p t q a))
-  unfolding moves
-  first-row e er = rw (e, er, el, eb)
+module _ (f : Format) (s : Checks) (z : Slow) (p q a : List Float) {l : Row} (el : l ≡ rowFrom (leashed f s z q a)) {t : Bool} where
+  pub first-row : t ≡ true → {r : Row} → r ≡ rowFrom (reached f s p (l .at)) → _≡_ {A = Row} (record { at = r .at; sound = l .sound && r .sound }) (rowFrom (pulls f s z p t q a))
+  first-row e er = rw (e, er, el)
 
-  pub later-row : t ≡ false → _≡_ {A = Row} (record { at = l .at; sound = b .sound && l .sound }) (rowFrom (moves f s z p t q a))
-  unfolding moves
-  later-row e = rw (e, el, eb, and-true)
+  pub later-row : t ≡ false → l ≡ rowFrom (pulls f s z p t q a)
+  later-row e = rw (e, el, and-true)
 
-pub project-is : (f : Format) (s : Checks) (z : Slow) (p prev a : List Float) {r : Row} {m : ℕ}
-    → r ≡ rowFrom (moves f s z p true prev a)
+module _ (f : Format) (s : Checks) (z : Slow) (p q a : List Float) (t : Bool) {b r : Row} (eb : b ≡ rowFrom (movedInside f s a)) (er : r ≡ rowFrom (pulls f s z p t q (b .at))) where
+  pub moved-row : _≡_ {A = Row} (record { at = r .at; sound = b .sound && r .sound }) (rowFrom (moves f s z p t q a))
+  unfolding moves
+  moved-row = rw (er, eb)
+
+pub project-is : (f : Format) (s : Checks) (z : Slow) (p prev a : List Float) {b r : Row} {m : ℕ}
+    → b ≡ rowFrom (movedInside f s a)
+    → r ≡ rowFrom (pulls f s z p true prev (b .at))
     → m ≡ movedDims a (r .at) (s .dim)
-    → _≡_ {A = Clamped} (record { at = r .at; mask = m; sound = r .sound }) (clampedFrom (project f s z p prev a))
-unfolding project
-project-is f s z p prev a er em = rw (em, er, and-true)
+    → _≡_ {A = Clamped} (record { at = r .at; mask = m; sound = b .sound && r .sound }) (clampedFrom (project f s z p prev a))
+unfolding project moves
+project-is f s z p prev a eb er em = rw (em, er, eb, and-true)
 
 module _ (f : Format) (s : Checks) (m : ClampMode) (z : Slow) (p prev a : List Float) where
   pub projection-off : m ≡ M.Off → _≡_ {A = Clamped} (record { at = a; mask = 0; sound = true }) (clampedFrom (projection f s m z p prev a))
@@ -191,7 +198,7 @@ pub judge-is : (f : Format) (s : Checks) (p aux prev a : List Float) {z : SlowZo
     → z ≡ zoneFrom (slowZone f s p aux)
     → n ≡ dist f a prev (s .dim) .value
     → k ≡ finite (mul f n (s .«inv_dt»))
-    → out ≡ testFrom (outOfBox f s a)
+    → out ≡ testFrom (outOfWorkspace f s a)
     → far ≡ testFrom (outOfReach f s p a)
     → raw ≡ padded a (s .dim)
     → speed ≡ arms s SPEED

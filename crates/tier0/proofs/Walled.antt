@@ -2,16 +2,17 @@
 -- wall moved is another number afterwards.
 use Prim.Native.Nat.{ℕ, zero, suc, _+_, _*_, _≤_, _<_}
 use mathlib.Core.Path.{_≡_, refl, sym, ap, _∙_}
-use mathlib.Core.Bool.{Bool, true, false, not, _||_, false≢true}
+use mathlib.Core.Bool.{Bool, true, false, not, _&&_, _||_, false≢true}
 use mathlib.Core.List.{List, [], _∷_, _++_}
-use native.Mathlib.Nat.{lt-of-lt-of-le}
+use native.Mathlib.Nat.{lt-of-lt-of-le, lt-of-not-le}
+use native.Mathlib.Decide.{decLe}
 use native.Mathlib.Omega.{arith}
 use borrow.Author.Count.{below-more}
 use lib.Dec.{eqb}
 use lib.ListN.{drop, length, set, replicate}
 use lib.Seq.{getD-set-same, getD-set-other}
 use lib.Ieee.{Float, Format, nan, eq, ne}
-use Rattle.bits.specs.Bits.{bitsWhere}
+use Rattle.bits.specs.Bits.{bit, bitsWhere}
 use Rattle.bits.specs.Choice.{if_then_else_}
 use Rattle.bits.proofs.Bits.{bit-where, no-bits, bits-none, bits-or}
 use Rattle.refusal.specs.Order.{computed, _when_}
@@ -21,13 +22,15 @@ use Rattle.checked.specs.Finite.{+0}
 use Rattle.checked.specs.Row.{padded}
 use Rattle.checked.specs.Checked.{Checked}
 use Rattle.checked.proofs.Copy.{padded-at, length-padded}
-use Rattle.checked.proofs.Each.{over-at, some-there}
+use Rattle.checked.proofs.Each.{over-at, some-none, some-there}
 use Rattle.pull.proofs.Steps.{pulled-same}
 use Rattle.workspace.specs.declared.WallMasks.{WallMasks}
-use Rattle.workspace.specs.Of.{wallsOf}
-use Rattle.workspace.specs.Rule.{inward, raisedAt, loweredAt, wallMasks, anyMasks, unmoved}
+use Rattle.workspace.specs.Of.{wallsIn}
+use Rattle.workspace.specs.Rule.{Walls, inward, raisedAt, loweredAt, wallMasks, anyMasks, unmoved}
+use Rattle.workspace.specs.Shape.{boxed}
 use Rattle.workspace.specs.Promises.{NoBitPast}
 use Rattle.workspace.proofs.Masks as masks
+use Rattle.workspace.proofs.Promises as shapes
 use Rattle.fmath.specs.Clamp.{raised, lowered}
 use Rattle.conformal.specs.Rule.{Tables}
 use Rattle.chunk.specs.Refusals.{chunkReasons}
@@ -39,7 +42,7 @@ use Rattle.envelope.specs.declared.FuseConfig.{FuseConfig}
 use Rattle.tier0.specs.declared.Checks.{Checks}
 use Rattle.tier0.specs.declared.Tier0Out.{Tier0Out}
 use Rattle.tier0.specs.declared.Tier0Out.the-variants.{Passed, Refused}
-use Rattle.tier0.specs.Rule.{WORKSPACE, SPEED, arms, boxDims, Slow, slowZone, leash, boxed, leashed, moves, movedDims, project, projection, boxesRows, rowMasks, Judgement, checkAction}
+use Rattle.tier0.specs.Rule.{WORKSPACE, SPEED, arms, boxDims, Slow, slowZone, leash, movedInside, leashed, moves, movedDims, project, projection, movesInside, rowMasks, Judgement, checkAction}
 use Rattle.tier0.specs.Chunk.{rawRow, rowBefore, putRow, nextRow, runRows, projectedRows, rowsMasks, checkChunk}
 use Rattle.tier0.specs.Refusals.{answerAt}
 use Rattle.tier0.specs.Of.{checksOf, lentToAction, actionRuling, actionRefusal, actionAnswer, actionOut, lentToChunk, chunkRuling, chunkRefusal, chunkAnswer, chunkOut}
@@ -55,9 +58,9 @@ abbrev dimsIn : Tier0Out → ℕ
 dimsIn (Passed trips dims speed walls) = dims
 dimsIn (Refused r) = 0
 
-abbrev wallsIn : Tier0Out → WallMasks
-wallsIn (Passed trips dims speed walls) = walls
-wallsIn (Refused r) = unmoved
+abbrev masksIn : Tier0Out → WallMasks
+masksIn (Passed trips dims speed walls) = walls
+masksIn (Refused r) = unmoved
 
 -- its number is 0, and its bits and masks are those that were judged
 pub record FromRule (n : ℕ) (j : Judgement) (trips dims : ℕ) (walls : WallMasks) : Type 0 where
@@ -67,40 +70,65 @@ pub record FromRule (n : ℕ) (j : Judgement) (trips dims : ℕ) (walls : WallMa
   pub same-walls : walls ≡ j .walls
 
 pub from-rule : (n : ℕ) (j : Judgement) (trips dims : ℕ) (speed : Float) (walls : WallMasks) → answerAt n j ≡ Passed trips dims speed walls → FromRule n j trips dims walls
-from-rule zero j trips dims speed walls e = record { accepted = refl; same-trips = sym (ap tripsIn e); same-dims = sym (ap dimsIn e); same-walls = sym (ap wallsIn e) }
+from-rule zero j trips dims speed walls e = record { accepted = refl; same-trips = sym (ap tripsIn e); same-dims = sym (ap dimsIn e); same-walls = sym (ap masksIn e) }
 from-rule (suc n) j trips dims speed walls e = absurd (false≢true (ap accepts e))
 
--- ---- where rows are moved inside the box
+-- ---- where rows are moved inside the workspace
 
 module _ (s : Checks) where
-  off : (m : ClampMode) → m ≡ Off → boxesRows s m ≡ false
-  unfolding boxesRows
+  off : (m : ClampMode) → m ≡ Off → movesInside s m ≡ false
+  unfolding movesInside
   off m e = rw e
 
-  unarmed : (m : ClampMode) → arms s WORKSPACE ≡ false → boxesRows s m ≡ false
-  unfolding boxesRows
+  unarmed : (m : ClampMode) → arms s WORKSPACE ≡ false → movesInside s m ≡ false
+  unfolding movesInside
   unarmed Off e = refl
   unarmed Project e = e
 
-  on : (m : ClampMode) → m ≡ Project → arms s WORKSPACE ≡ true → boxesRows s m ≡ true
-  unfolding boxesRows
+  on : (m : ClampMode) → m ≡ Project → arms s WORKSPACE ≡ true → movesInside s m ≡ true
+  unfolding movesInside
   on m e h = rw e h
 
--- nothing is past the axes of the box, moved or not
+-- nothing is past the shared axes, moved or not
 none-past : (b : Bool) (x : WallMasks) (n : ℕ) → NoBitPast x n → NoBitPast (if b then x else unmoved) n
 none-past true x n h = h
 none-past false x n h = λ j l. (no-bits j, no-bits j)
 
--- where the first move is made, a row goes inside the walls
-boxed-inward : (f : Format) (s : Checks) (a : List Float) → arms s WORKSPACE ≡ true → boxed f s a ≡ inward f (wallsOf (s .walls)) a (boxDims s)
-unfolding boxed
-boxed-inward f s a e = rw e
+-- nor is a bit at an axis without a box
+abbrev NoBitAt : WallMasks → ℕ → Type 0
+NoBitAt m j = (bit (m .low) j ≡ false) × (bit (m .high) j ≡ false)
 
--- a coordinate that a wall moved goes out as another number, where it equals what the box made of it
-differs : (f : Format) (s : Checks) (a : List Float) (j : ℕ) → arms s WORKSPACE ≡ true → j < boxDims s → length a ≡ 8 → s .dim ≤ 8 → (y : Float) → eq y (at (boxed f s a .value) j) ≡ true
-    → (raisedAt (wallsOf (s .walls)) a j || loweredAt (wallsOf (s .walls)) a j) ≡ true → ne (at a j) y ≡ true
+none-at : (b : Bool) (x : WallMasks) (j : ℕ) → NoBitAt x j → NoBitAt (if b then x else unmoved) j
+none-at true x j h = h
+none-at false x j h = (no-bits j, no-bits j)
+
+module _ (w : Walls) (n j : ℕ) (boxless : boxed (w .shape) j ≡ false) where
+  no-bit-at : (a : List Float) → NoBitAt (wallMasks w a n) j
+  no-bit-at a = go (decLe n j)
+    where
+      go : Dec (n ≤ j) → NoBitAt (wallMasks w a n) j
+      go (yes past) = shapes.promised .no-bit-past w a n j past
+      go (no here) = let told = shapes.promised .axis-told w a n j (lt-of-not-le here) in (told .low-bit ∙ rw boxless, told .high-bit ∙ rw boxless)
+
+  no-bit-of-any-at : (a : ℕ → List Float) (h : ℕ) → NoBitAt (anyMasks w a h n) j
+  no-bit-of-any-at a h = go (decLe n j)
+    where
+      go : Dec (n ≤ j) → NoBitAt (anyMasks w a h n) j
+      go (yes past) = shapes.promised .no-bit-of-any-past w a h n j past
+      go (no here) =
+          let told = shapes.promised .axis-of-any-told w a h n j (lt-of-not-le here) in
+          (told .low-bit ∙ some-none (λ (i : ℕ). raisedAt w (a i) j) h (λ i l. rw boxless), told .high-bit ∙ some-none (λ (i : ℕ). loweredAt w (a i) j) h (λ i l. rw boxless))
+
+-- where the first move is made, a row goes inside the walls
+pub moved-inside-inward : (f : Format) (s : Checks) (a : List Float) → arms s WORKSPACE ≡ true → movedInside f s a ≡ inward f (wallsIn (s .shape) (s .walls)) a (boxDims s)
+unfolding movedInside
+moved-inside-inward f s a e = rw e
+
+-- a coordinate that a wall moved goes out as another number, where it equals what the first move made of it
+differs : (f : Format) (s : Checks) (a : List Float) (j : ℕ) → arms s WORKSPACE ≡ true → j < boxDims s → length a ≡ 8 → s .dim ≤ 8 → (y : Float) → eq y (at (movedInside f s a .value) j) ≡ true
+    → (raisedAt (wallsIn (s .shape) (s .walls)) a j || loweredAt (wallsIn (s .shape) (s .walls)) a j) ≡ true → ne (at a j) y ≡ true
 differs f s a j armed here long narrow y e moved =
-    masks.moved-differs f (wallsOf (s .walls)) a (boxDims s) j here (omega arith) y (rw (boxed-inward f s a armed) at e) moved
+    masks.moved-differs f (wallsIn (s .shape) (s .walls)) a (boxDims s) j here (omega arith) y (rw (moved-inside-inward f s a armed) at e) moved
 
 -- ---- what is written of a row
 
@@ -176,7 +204,7 @@ moves-by-leash f s p aux isFirst prev a = refl
 -- of the row before it the first dim numbers are read
 moves-same : (f : Format) (s : Checks) (z : Slow) (p : List Float) (isFirst : Bool) (q r a : List Float) → ((j : ℕ) → j < s .dim → at q j ≡ at r j) → moves f s z p isFirst q a ≡ moves f s z p isFirst r a
 unfolding moves leashed
-moves-same f s z p isFirst q r a same = rw (pulled-same f (leash (arms s SPEED) (s .«step_max») z) q r (s .dim) (boxed f s a .value) same)
+moves-same f s z p isFirst q r a same = rw (pulled-same f (leash (arms s SPEED) (s .«step_max») z) q r (s .dim) (movedInside f s a .value) same)
 
 -- ---- check_chunk
 
@@ -249,7 +277,7 @@ module _ (f : Format) (c : FuseConfig) (t : Tables) (p aux rows : List Float) (k
       chunk-written m i j a b
       ∙ ap (λ (x : Checked (List Float)). at (x .value) j) (moves-same f s (zoneNow f c p aux rows) p (eqb i 0) last before here (last-held m i a) ∙ moves-by-leash f s p aux (eqb i 0) before here)
 
-  chunk-masks-on : c .clamp ≡ Project → arms s WORKSPACE ≡ true → walls ≡ anyMasks (wallsOf (s .walls)) (rawRow rows (s .dim)) (k .horizon) w
+  chunk-masks-on : c .clamp ≡ Project → arms s WORKSPACE ≡ true → walls ≡ anyMasks (wallsIn (s .shape) (s .walls)) (rawRow rows (s .dim)) (k .horizon) w
   unfolding rowsMasks checksOf
   chunk-masks-on m a = chunk-masks ∙ rw (on s (c .clamp) m a)
 
@@ -262,9 +290,10 @@ module _ (f : Format) (c : FuseConfig) (t : Tables) (p aux rows : List Float) (k
   chunk-walls = record {
     off-none = λ m. chunk-masks ∙ rw (off s (c .clamp) m);
     unarmed-none = λ a. chunk-masks ∙ rw (unarmed s (c .clamp) a);
-    each-axis = λ m a j here. rw (chunk-masks-on m a) (masks.promised .axis-of-any-told (wallsOf (s .walls)) (rawRow rows (s .dim)) (k .horizon) w j here);
-    none-past = rw chunk-masks (none-past (boxesRows s (s .clamp)) (anyMasks (wallsOf (s .walls)) (rawRow rows (s .dim)) (k .horizon) w) w (masks.promised .no-bit-of-any-past (wallsOf (s .walls)) (rawRow rows (s .dim)) (k .horizon) w));
-    one-row-never-both = λ one j. rw (chunk-masks, one, masks.promised .any-of-one (wallsOf (s .walls)) (rawRow rows (s .dim)) w) (masks.never-both (boxesRows s (s .clamp)) (wallsOf (s .walls)) (rawRow rows (s .dim) 0) w j);
+    each-axis = λ m a j here. rw (chunk-masks-on m a) (shapes.promised .axis-of-any-told (wallsIn (s .shape) (s .walls)) (rawRow rows (s .dim)) (k .horizon) w j here);
+    none-past = rw chunk-masks (none-past (movesInside s (s .clamp)) (anyMasks (wallsIn (s .shape) (s .walls)) (rawRow rows (s .dim)) (k .horizon) w) w (shapes.promised .no-bit-of-any-past (wallsIn (s .shape) (s .walls)) (rawRow rows (s .dim)) (k .horizon) w));
+    no-bit-without-a-box = λ j boxless. rw chunk-masks (none-at (movesInside s (s .clamp)) (anyMasks (wallsIn (s .shape) (s .walls)) (rawRow rows (s .dim)) (k .horizon) w) j (no-bit-of-any-at (wallsIn (s .shape) (s .walls)) w j boxless (rawRow rows (s .dim)) (k .horizon)));
+    one-row-never-both = λ one j. rw (chunk-masks, one, shapes.promised .any-of-one (wallsIn (s .shape) (s .walls)) (rawRow rows (s .dim)) w) (masks.never-both (movesInside s (s .clamp)) (wallsIn (s .shape) (s .walls)) (rawRow rows (s .dim) 0) w j);
     in-clamped-dims = λ m a i j within here same moved.
         rw (chunk-dims m)
         (bit-where _ (s .dim) j (omega arith)
@@ -292,7 +321,7 @@ module _ (f : Format) (c : FuseConfig) (t : Tables) (p aux prev a l : List Float
   unfolding actionRuling checkAction
   action-masks = action-ruled .same-walls
 
-  action-sized : action.Sized c a (length l)
+  pub action-sized : action.Sized c a (length l)
   unfolding actionRefusal
   action-sized = action.accepted-sizes f c t p aux prev a (length l) (both-pass (configJudged f c t ++ lentToAction c p aux prev a (length l) []) ((computed when not (actionRuling f c p aux prev a .sound)) ∷ []) (action-ruled .accepted) .0)
 
@@ -322,7 +351,7 @@ module _ (f : Format) (c : FuseConfig) (t : Tables) (p aux prev a l : List Float
   pub action-moved : c .clamp ≡ Project → (j : ℕ) → j < s′ .dim → at (actionOut f c t p aux prev a l) j ≡ at (movedRow f s′ p aux true prev row .value) j
   action-moved m j b = action-written m j b ∙ ap (λ (x : Checked (List Float)). at (x .value) j) (moves-by-leash f s′ p aux true prev row)
 
-  action-masks-on : c .clamp ≡ Project → arms s′ WORKSPACE ≡ true → walls ≡ wallMasks (wallsOf (s′ .walls)) a w′
+  action-masks-on : c .clamp ≡ Project → arms s′ WORKSPACE ≡ true → walls ≡ wallMasks (wallsIn (s′ .shape) (s′ .walls)) a w′
   unfolding rowMasks checksOf
   action-masks-on m b = action-masks ∙ rw (on s′ (c .clamp) m b)
 
@@ -331,21 +360,23 @@ module _ (f : Format) (c : FuseConfig) (t : Tables) (p aux prev a l : List Float
   action-dims m = action-ruled .same-dims ∙ dims-of-row f s′ (zoneHere f c p aux prev a) p prev row (c .clamp) m
 
   -- the row has on its first coordinates what the action has
-  same-sides : (j : ℕ) → j < w′ → (raisedAt (wallsOf (s′ .walls)) row j ≡ raisedAt (wallsOf (s′ .walls)) a j) × (loweredAt (wallsOf (s′ .walls)) row j ≡ loweredAt (wallsOf (s′ .walls)) a j)
+  same-sides : (j : ℕ) → j < w′ → (raisedAt (wallsIn (s′ .shape) (s′ .walls)) row j ≡ raisedAt (wallsIn (s′ .shape) (s′ .walls)) a j) × (loweredAt (wallsIn (s′ .shape) (s′ .walls)) row j ≡ loweredAt (wallsIn (s′ .shape) (s′ .walls)) a j)
   same-sides j here =
       let same = padded-at a (s′ .dim) j action-narrow (omega arith) in
-      (ap (λ (x : Float). raised x (at (wallsOf (s′ .walls) .lo) j) (at (wallsOf (s′ .walls) .hi) j)) same, ap (λ (x : Float). lowered x (at (wallsOf (s′ .walls) .lo) j) (at (wallsOf (s′ .walls) .hi) j)) same)
+      let has = boxed (s′ .shape) j in
+      (ap (λ (x : Float). has && raised x (at (s′ .walls .lo) j) (at (s′ .walls .hi) j)) same, ap (λ (x : Float). has && lowered x (at (s′ .walls .lo) j) (at (s′ .walls .hi) j)) same)
 
   pub action-walls : ActionWalls f c t p aux prev a l dims walls
   unfolding rowMasks checksOf
   action-walls = record {
     off-none = λ m. action-masks ∙ rw (off s′ (c .clamp) m);
     unarmed-none = λ b. action-masks ∙ rw (unarmed s′ (c .clamp) b);
-    each-axis = λ m b j here. rw (action-masks-on m b) (masks.promised .axis-told (wallsOf (s′ .walls)) a w′ j here);
-    none-past = rw action-masks (none-past (boxesRows s′ (s′ .clamp)) (wallMasks (wallsOf (s′ .walls)) a w′) w′ (masks.promised .no-bit-past (wallsOf (s′ .walls)) a w′));
-    never-both = λ j. rw action-masks (masks.never-both (boxesRows s′ (s′ .clamp)) (wallsOf (s′ .walls)) a w′ j);
+    each-axis = λ m b j here. rw (action-masks-on m b) (shapes.promised .axis-told (wallsIn (s′ .shape) (s′ .walls)) a w′ j here);
+    none-past = rw action-masks (none-past (movesInside s′ (s′ .clamp)) (wallMasks (wallsIn (s′ .shape) (s′ .walls)) a w′) w′ (shapes.promised .no-bit-past (wallsIn (s′ .shape) (s′ .walls)) a w′));
+    no-bit-without-a-box = λ j boxless. rw action-masks (none-at (movesInside s′ (s′ .clamp)) (wallMasks (wallsIn (s′ .shape) (s′ .walls)) a w′) j (no-bit-at (wallsIn (s′ .shape) (s′ .walls)) w′ j boxless a));
+    never-both = λ j. rw action-masks (masks.never-both (movesInside s′ (s′ .clamp)) (wallsIn (s′ .shape) (s′ .walls)) a w′ j);
     in-clamped-dims = λ m b j here same set.
-        let told = masks.promised .axis-told (wallsOf (s′ .walls)) a w′ j here in
+        let told = shapes.promised .axis-told (wallsIn (s′ .shape) (s′ .walls)) a w′ j here in
         let moved = rw (action-masks-on m b, told .low-bit, told .high-bit) at set in
         rw (action-dims m)
         (bit-where _ (s′ .dim) j (omega arith)

@@ -2,7 +2,7 @@
 use Prim.Native.Nat.{ℕ, zero, suc, _-_, _<_}
 use mathlib.Core.Path.{_≡_, refl, _∙_}
 use mathlib.Core.Bool.{Bool, true, false, _&&_}
-use mathlib.Core.List.{List}
+use mathlib.Core.List.{List, []}
 use lib.ListN.{replicate}
 use lib.Ieee.{Float, Format, lt}
 use Rattle.bits.specs.Choice.{if_then_else_}
@@ -10,19 +10,21 @@ use Rattle.checked.specs.Finite.{+0}
 use Rattle.checked.proofs.Each.{some-none}
 use Rattle.checked.specs.Checked.{Checked, pure}
 use Rattle.fmath.specs.Norm.{dist}
-use Rattle.workspace.specs.Of.{wallsOf}
+use Rattle.workspace.specs.Of.{wallsIn}
 use Rattle.workspace.specs.Rule.{outside, beyond}
+use Rattle.workspace.specs.declared.Shape.the-variants.{Disc}
+use Rattle.workspace.proofs.Promises as workspace
 use Rattle.chunk.specs.declared.Header.{Header}
 use Rattle.conformal.specs.Rule.{Tables}
 use Rattle.envelope.specs.declared.FuseConfig.{FuseConfig}
 use Rattle.tier0.specs.declared.Checks.{Checks}
 use Rattle.tier0.specs.declared.Difference.{Difference}
 use Rattle.tier0.specs.declared.Difference.the-variants.{Accel, Jerk}
-use Rattle.tier0.specs.Rule.{WORKSPACE, SPEED, ACCEL, JERK, REACH, CONTACT, arms, boxDims, outOfBox, outOfReach, tripBits, Judgement, checkAction}
-use Rattle.tier0.specs.Chunk.{rawRow, stepTo, someLonger, someOutOfBox, someOf, exceeds, largeAt, further, tripOf, tooLarge, checkChunk}
+use Rattle.tier0.specs.Rule.{WORKSPACE, SPEED, ACCEL, JERK, REACH, CONTACT, arms, boxDims, outOfWorkspace, outOfReach, tripBits, Judgement, checkAction}
+use Rattle.tier0.specs.Chunk.{rawRow, stepTo, someLonger, someOutOfWorkspace, someOf, exceeds, largeAt, further, tripOf, tooLarge, checkChunk}
 use Rattle.tier0.specs.Refusals.{answerAt}
 use Rattle.tier0.specs.Of.{checksOf, actionRuling, actionRefusal, actionAnswer, chunkRuling, chunkRefusal, chunkAnswer}
-use Rattle.tier0.specs.Promises.{tripsIn, raised, chunkTrips, actionTrips, beforeFirst, zoneNow, ChunkInBox, ChunkSlowEnough, ChunkSlowInZone, ChunkBendsLittle, ChunkJoltsLittle, ChunkInReach, ChunkWithin, zoneHere, actionStep, ActionInBox, ActionSlowEnough, ActionSlowInZone, ActionInReach, ActionWithin}
+use Rattle.tier0.specs.Promises.{tripsIn, raised, chunkTrips, actionTrips, RowInside, OnTheEdge, EdgeTouched, beforeFirst, zoneNow, ChunkInside, ChunkSlowEnough, ChunkSlowInZone, ChunkBendsLittle, ChunkJoltsLittle, ChunkInReach, ChunkWithin, zoneHere, actionStep, ActionInside, ActionSlowEnough, ActionSlowInZone, ActionInReach, ActionWithin}
 use Rattle.tier0.proofs.Promises.{chunk-raised, action-raised}
 use Rattle.tier0.proofs.Leash.{one-of}
 
@@ -36,9 +38,9 @@ if-so : (b : Bool) (x : Checked Bool) → x .value ≡ false → (if b then x el
 if-so true x h = h
 if-so false x h = refl
 
-in-box : (f : Format) (s : Checks) (a : List Float) → ((j : ℕ) → j < boxDims s → beyond (wallsOf (s .walls)) a j ≡ false) → outOfBox f s a .value ≡ false
-unfolding outOfBox outside
-in-box f s a h = if-so (arms s WORKSPACE) _ (some-none (beyond (wallsOf (s .walls)) a) (boxDims s) h)
+none-outside : (f : Format) (s : Checks) (a : List Float) → RowInside f s a → outOfWorkspace f s a .value ≡ false
+unfolding outOfWorkspace outside
+none-outside f s a h = if-so (arms s WORKSPACE) _ (rw (h .within-edge) (some-none (beyond (wallsIn (s .shape) (s .walls)) a) (boxDims s) (h .within-walls)))
 
 in-reach : (f : Format) (s : Checks) (p a : List Float) → lt (s .«reach_max») (dist f a p (boxDims s) .value) ≡ false → outOfReach f s p a .value ≡ false
 unfolding outOfReach
@@ -58,6 +60,11 @@ trips-none : (n : ℕ) (j : Judgement) → j .trips ≡ 0 → tripsIn (answerAt 
 trips-none zero j h = h
 trips-none (suc n) j h = refl
 
+-- ---- on the edge of a disc
+
+pub edge-inside : EdgeTouched
+edge-inside f s x y radius a is h = record { within-edge = rw is (workspace.promised .on-a-disc f x y radius [] [] a 0 .on-the-edge (h .as-far)); within-walls = h .no-wall-passed }
+
 -- ---- a chunk
 
 module _ (f : Format) (c : FuseConfig) (t : Tables) (p aux rows : List Float) (k : Header) (room : ℕ) where
@@ -74,9 +81,9 @@ module _ (f : Format) (c : FuseConfig) (t : Tables) (p aux rows : List Float) (k
   unfolding chunkAnswer chunkRuling
   from-rule w none = trips-raised w (chunkRefusal f c t p aux rows k room) (chunkRuling f c p aux rows h .value) none
 
-  not-out : ChunkInBox f c p aux rows h → someOutOfBox f s rows h .value ≡ false
-  unfolding someOutOfBox someOf
-  not-out w = some-none (λ (i : ℕ). outOfBox f s (rawRow rows (s .dim) i) .value) h (λ i b. in-box f s (rawRow rows (s .dim) i) (w i b))
+  not-out : ChunkInside f c p aux rows h → someOutOfWorkspace f s rows h .value ≡ false
+  unfolding someOutOfWorkspace someOf
+  not-out w = some-none (λ (i : ℕ). outOfWorkspace f s (rawRow rows (s .dim) i) .value) h (λ i b. none-outside f s (rawRow rows (s .dim) i) (w i b))
 
   not-longer : (most : Float) → ((i : ℕ) → i < h → lt most (stepTo f (beforeFirst f c p aux rows) rows (s .dim) i .value) ≡ false) → someLonger f (beforeFirst f c p aux rows) rows (s .dim) most h ≡ false
   unfolding someLonger
@@ -104,8 +111,12 @@ module _ (f : Format) (c : FuseConfig) (t : Tables) (p aux rows : List Float) (k
   l = replicate 512 +0
 
   -- each limit by itself ..
-  pub chunk-workspace-touched : ChunkInBox f c p aux rows h → raised WORKSPACE trips ≡ false
+  pub chunk-workspace-touched : ChunkInside f c p aux rows h → raised WORKSPACE trips ≡ false
   chunk-workspace-touched w = from-rule WORKSPACE refl (chunk-raised f s p aux rows l h .workspace ∙ not-out w)
+
+  pub chunk-edge-touched : (x y radius : Float) → c .shape ≡ Disc x y radius → ((i : ℕ) → i < h → OnTheEdge f s x y radius (rawRow rows (c .dim) i)) → raised WORKSPACE trips ≡ false
+  unfolding checksOf
+  chunk-edge-touched x y radius is w = chunk-workspace-touched (λ i b. edge-inside f s x y radius (rawRow rows (c .dim) i) is (w i b))
 
   pub chunk-speed-touched : ChunkSlowEnough f c p aux rows h → raised SPEED trips ≡ false
   chunk-speed-touched w = from-rule SPEED refl (chunk-raised f s p aux rows l h .speed ∙ not-fast w)
@@ -125,7 +136,7 @@ module _ (f : Format) (c : FuseConfig) (t : Tables) (p aux rows : List Float) (k
   -- where none of them is exceeded, nothing is raised
   none-tripped : ChunkWithin f c p aux rows h → chunkTrips f s p aux rows l h ≡ 0
   unfolding checkChunk tripBits
-  none-tripped w = rw (not-out (w .box), not-fast (w .speed), not-bent (w .accel), not-jolted (w .jerk), not-far (w .reach), not-close (w .contact))
+  none-tripped w = rw (not-out (w .workspace), not-fast (w .speed), not-bent (w .accel), not-jolted (w .jerk), not-far (w .reach), not-close (w .contact))
 
   pub chunk-touched : ChunkWithin f c p aux rows h → trips ≡ 0
   unfolding chunkAnswer chunkRuling
@@ -148,8 +159,12 @@ module _ (f : Format) (c : FuseConfig) (t : Tables) (p aux prev a : List Float) 
   unfolding checksOf
   action-not-close w = where-so (zoneHere f c p aux prev a .inside) _ (λ i. let one = one-of f (checksOf f c) p aux i in rw (one .such) (w (one .index) (one .within) (one .holds)))
 
-  pub action-workspace-touched : ActionInBox f c p aux prev a → raised WORKSPACE trips-of ≡ false
-  action-workspace-touched w = action-from-rule WORKSPACE refl (action-raised f (checksOf f c) p aux prev a .workspace ∙ in-box f (checksOf f c) a w)
+  pub action-workspace-touched : ActionInside f c p aux prev a → raised WORKSPACE trips-of ≡ false
+  action-workspace-touched w = action-from-rule WORKSPACE refl (action-raised f (checksOf f c) p aux prev a .workspace ∙ none-outside f (checksOf f c) a w)
+
+  pub action-edge-touched : (x y radius : Float) → c .shape ≡ Disc x y radius → OnTheEdge f (checksOf f c) x y radius a → raised WORKSPACE trips-of ≡ false
+  unfolding checksOf
+  action-edge-touched x y radius is h = action-workspace-touched (edge-inside f (checksOf f c) x y radius a is h)
 
   pub action-speed-touched : ActionSlowEnough f c p aux prev a → raised SPEED trips-of ≡ false
   action-speed-touched w = action-from-rule SPEED refl (action-raised f (checksOf f c) p aux prev a .speed ∙ action-not-fast w)
@@ -162,7 +177,7 @@ module _ (f : Format) (c : FuseConfig) (t : Tables) (p aux prev a : List Float) 
 
   action-none-tripped : ActionWithin f c p aux prev a → actionTrips f (checksOf f c) p aux prev a ≡ 0
   unfolding checkAction tripBits
-  action-none-tripped w = rw (in-box f (checksOf f c) a (w .box), action-not-fast (w .speed), in-reach f (checksOf f c) p a (w .reach), action-not-close (w .contact))
+  action-none-tripped w = rw (none-outside f (checksOf f c) a (w .workspace), action-not-fast (w .speed), in-reach f (checksOf f c) p a (w .reach), action-not-close (w .contact))
 
   pub action-touched : ActionWithin f c p aux prev a → trips-of ≡ 0
   unfolding actionAnswer actionRuling

@@ -32,8 +32,9 @@ use Rattle.tier0.specs.Promises.{raised, withoutContact, contactUnarmed,
 use Rattle.tier0.proofs.Slowest.{slowest-alike}
 use Rattle.tier0.proofs.Promises.{chunk-raised, action-raised, walls-touched, by-place, empty-place, none-clear, no-contact, outside-radius, one-zone, zone-told, each-asked, no-zone-no-leash, unarmed-action, unarmed-chunk}
 use Rattle.tier0.proofs.Walled.{chunk-walls, action-walls, chunk-moved, action-moved}
-use Rattle.tier0.proofs.Within.{chunk-workspace-touched, chunk-speed-touched, chunk-contact-touched, chunk-accel-touched, chunk-jerk-touched, chunk-reach-touched, chunk-touched, action-workspace-touched, action-speed-touched, action-contact-touched, action-reach-touched, action-touched}
+use Rattle.tier0.proofs.Within.{edge-inside, chunk-workspace-touched, chunk-edge-touched, chunk-speed-touched, chunk-contact-touched, chunk-accel-touched, chunk-jerk-touched, chunk-reach-touched, chunk-touched, action-workspace-touched, action-edge-touched, action-speed-touched, action-contact-touched, action-reach-touched, action-touched}
 use Rattle.tier0.proofs.Alike.{ArmedAlike, armed-as-it-is, same-checks}
+use Rattle.tier0.proofs.Inside.{stays-inside, pulls-first, unarmed-nothing, at-box, margin-unread, chunk-workspace, action-workspace, chunk-distances, action-distances, chunk-inside-stays, action-inside-stays}
 use Rattle.tier0.proofs.Leash.{chunk-contact, action-contact, chunk-leash, action-leash, more-at-the-end, chunk-more-zones, action-more-zones}
 
 -- ---- a zone that is seen
@@ -236,6 +237,7 @@ pub promised : Promised
 promised = record {
   chunk-may-touch = λ f c t p aux rows k room. record {
     workspace-touched = chunk-workspace-touched f c t p aux rows k room;
+    edge-touched = chunk-edge-touched f c t p aux rows k room;
     speed-touched = chunk-speed-touched f c t p aux rows k room;
     contact-touched = chunk-contact-touched f c t p aux rows k room;
     accel-touched = chunk-accel-touched f c t p aux rows k room;
@@ -245,6 +247,7 @@ promised = record {
   };
   action-may-touch = λ f c t p aux prev a room. record {
     workspace-touched = action-workspace-touched f c t p aux prev a room;
+    edge-touched = action-edge-touched f c t p aux prev a room;
     speed-touched = action-speed-touched f c t p aux prev a room;
     contact-touched = action-contact-touched f c t p aux prev a room;
     reach-touched = action-reach-touched f c t p aux prev a room;
@@ -252,12 +255,18 @@ promised = record {
   };
   chunk-walls = chunk-walls;
   action-walls = action-walls;
+  chunk-workspace = chunk-workspace;
+  action-workspace = action-workspace;
+  chunk-distances = chunk-distances;
+  action-distances = action-distances;
   chunk-contact = chunk-contact;
   action-contact = action-contact;
   chunk-leash = chunk-leash;
   action-leash = action-leash;
   chunk-moved = chunk-moved;
   action-moved = action-moved;
+  chunk-inside-stays = chunk-inside-stays;
+  action-inside-stays = action-inside-stays;
   chunk-more-zones = chunk-more-zones;
   action-more-zones = action-more-zones;
   unread-zones = unread-zones;
@@ -268,6 +277,12 @@ promised = record {
   chunk-raised = chunk-raised;
   action-raised = action-raised;
   walls-touched = walls-touched;
+  edge-touched = edge-inside;
+  inside-stays = stays-inside;
+  pulled-first = pulls-first;
+  unarmed-stays = unarmed-nothing;
+  box-as-before = at-box;
+  margin-unread = margin-unread;
   no-contact = no-contact;
   outside-radius = outside-radius;
   one-zone = one-zone;

@@ -15,14 +15,14 @@ use Rattle.checked.specs.Checked.{Checked, _>>=_, pure, plus, minus, times, eac
 use Rattle.checked.specs.Least.{greatest}
 use Rattle.fmath.specs.Norm.{norm, dist}
 use Rattle.workspace.specs.declared.WallMasks.{WallMasks}
-use Rattle.workspace.specs.Of.{wallsOf}
+use Rattle.workspace.specs.Of.{wallsIn}
 use Rattle.workspace.specs.Rule.{anyMasks, unmoved}
 use Rattle.envelope.specs.declared.ClampMode.{ClampMode}
 use Rattle.envelope.specs.declared.ClampMode.the-variants.{Off, Project}
 use Rattle.tier0.specs.declared.Checks.{Checks}
 use Rattle.tier0.specs.declared.Difference.{Difference}
 use Rattle.tier0.specs.declared.Difference.the-variants.{Accel, Jerk}
-use Rattle.tier0.specs.Rule.{SPEED, ACCEL, JERK, arms, boxDims, Slow, slowZone, outOfBox, outOfReach, tripBits, moves, movedDims, Projected, boxesRows, Judgement}
+use Rattle.tier0.specs.Rule.{SPEED, ACCEL, JERK, arms, boxDims, Slow, slowZone, outOfWorkspace, outOfReach, tripBits, moves, movedDims, Projected, movesInside, Judgement}
 
 -- ---- rows
 
@@ -56,9 +56,9 @@ someLonger f q rows n most h = some (λ (i : ℕ). lt most (stepTo f q rows n i 
 unfoldable pub someOf : (ℕ → Checked Bool) → ℕ → Checked Bool
 someOf g n = record { value = some (λ (i : ℕ). g i .value) n; sound = all (λ (i : ℕ). g i .sound) n }
 
--- some row is out of the box
-unfoldable pub someOutOfBox : Format → Checks → List Float → ℕ → Checked Bool
-someOutOfBox f s rows h = someOf (λ (i : ℕ). outOfBox f s (rawRow rows (s .dim) i)) h
+-- some row is out of the workspace; each is asked, whatever the others say
+unfoldable pub someOutOfWorkspace : Format → Checks → List Float → ℕ → Checked Bool
+someOutOfWorkspace f s rows h = someOf (λ (i : ℕ). outOfWorkspace f s (rawRow rows (s .dim) i)) h
 
 -- next - 2 here + before
 unfoldable pub bend : Format → Float → Float → Float → Checked Float
@@ -144,7 +144,7 @@ projectedRows f s Project z p rows q l h = do
 
 -- the walls that moved any of h rows, each as it came
 unfoldable pub rowsMasks : Checks → List Float → ℕ → WallMasks
-rowsMasks s rows h = if boxesRows s (s .clamp) then anyMasks (wallsOf (s .walls)) (rawRow rows (s .dim)) h (boxDims s) else unmoved
+rowsMasks s rows h = if movesInside s (s .clamp) then anyMasks (wallsIn (s .shape) (s .walls)) (rawRow rows (s .dim)) h (boxDims s) else unmoved
 
 -- ---- the check of a chunk of h rows; the projected rows are written over l
 
@@ -154,7 +154,7 @@ checkChunk f s p aux rows l h = do
   z ← slowZone f s p aux
   n ← peakStep f q rows (s .dim) h
   v ← times f n (s .«inv_dt»)
-  out ← someOutOfBox f s rows h
+  out ← someOutOfWorkspace f s rows h
   bent ← tooLarge f s Accel q rows h
   jolted ← tooLarge f s Jerk q rows h
   far ← outOfReach f s p (rawRow rows (s .dim) 0)

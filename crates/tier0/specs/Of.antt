@@ -26,7 +26,7 @@ use Rattle.tier0.specs.declared.Stride.{Stride}
 use Rattle.tier0.specs.declared.MovedRows.{MovedRows}
 use Rattle.tier0.specs.declared.JudgedChunk.{JudgedChunk}
 use Rattle.tier0.specs.Rule.{Slow, slower, Projected, Judgement, checkAction}
-use Rattle.tier0.specs.Chunk.{Run, peakStep, someLonger, someOutOfBox, checkChunk}
+use Rattle.tier0.specs.Chunk.{Run, peakStep, someLonger, someOutOfWorkspace, checkChunk}
 use Rattle.tier0.specs.Refusals.{tooShort, chunkTooShort, answerAt, outAt}
 
 -- what the checks read of a configuration and of the numbers derived from it
@@ -46,6 +46,7 @@ checksFrom c d = record {
   «inv_dt2» = d .«inv_dt2»;
   «inv_dt3» = d .«inv_dt3»;
   «step_max» = d .«step_max»;
+  shape = c .shape;
   walls = record { lo = d .«box_lo»; hi = d .«box_hi» };
 }
 
@@ -77,13 +78,13 @@ judgedActionFrom x = record {
   sound = x .sound;
 }
 
--- the steps of h rows: the greatest, and whether one is too long, too long for the zones, or out of the box
+-- the steps of h rows: the greatest, and whether one is too long, too long for the zones, or out of the workspace
 abbrev pub stepsFrom : Format → Checks → Float → List Float → List Float → ℕ → Stride
 stepsFrom f s slow q rows h = record {
   peak = peakStep f q rows (s .dim) h .value;
   fast = someLonger f q rows (s .dim) (s .«step_max») h;
   close = someLonger f q rows (s .dim) slow h;
-  out = testFrom (someOutOfBox f s rows h);
+  out = testFrom (someOutOfWorkspace f s rows h);
   sound = peakStep f q rows (s .dim) h .sound;
 }
 

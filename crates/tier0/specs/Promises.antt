@@ -8,7 +8,7 @@ use mathlib.Core.List.{List, [], _∷_}
 use lib.Dec.{eqb}
 use lib.ListN.{length, replicate}
 use lib.Ieee.{Float, Format, mul, lt, le, eq}
-use Rattle.bits.specs.Bits.{bit}
+use Rattle.bits.specs.Bits.{bit, bitsWhere}
 use Rattle.bits.specs.Choice.{if_then_else_}
 use Rattle.checked.specs.Each.{at, all, some, over, Among}
 use Rattle.checked.specs.Row.{padded}
@@ -16,17 +16,21 @@ use Rattle.checked.specs.Finite.{+0, finite}
 use Rattle.checked.specs.Checked.{Checked, _>>=_, each, pure}
 use Rattle.fmath.specs.Answer.{someNotFinite}
 use Rattle.fmath.specs.Norm.{norm, dist}
-use Rattle.pull.specs.Rule.{pulled}
-use Rattle.workspace.specs.Of.{wallsOf}
+use Rattle.fmath.specs.Clamp.{clamped}
+use Rattle.fmath.specs.Clamp as walls
+use Rattle.pull.specs.Rule.{shortened, pulled}
+use Rattle.workspace.specs.Of.{wallsIn}
 use Rattle.workspace.specs.declared.WallMasks.{WallMasks}
-use Rattle.workspace.specs.Rule.{Walls, beyond, raisedAt, loweredAt, unmoved}
+use Rattle.workspace.specs.declared.Shape.the-variants.{Box, Disc}
+use Rattle.workspace.specs.Shape.{boxed}
+use Rattle.workspace.specs.Rule.{Walls, fromCentre, pastEdge, beyond, raisedAt, loweredAt, unmoved}
 use Rattle.workspace.specs.Promises.{AxisTold, AxisOfAnyTold, NoBitPast}
 use Rattle.chunk.specs.declared.Header.{Header}
 use Rattle.conformal.specs.Rule.{Tables}
 use Rattle.envelope.specs.declared.ClampMode.the-variants.{Off, Project}
 use Rattle.envelope.specs.declared.Contact.the-variants.{None, Zone}
 use Rattle.envelope.specs.Slots.{counted, zoneAt}
-use Rattle.envelope.specs.Promises.{armedBy, absentBy, zonedBy, Agree, SameZones}
+use Rattle.envelope.specs.Promises.{armedBy, absentBy, zonedBy, marginedBy, Agree, SameZones}
 use Rattle.envelope.specs.declared.AbsentCamera.{AbsentCamera}
 use Rattle.envelope.specs.declared.AbsentCamera.the-variants as absent
 use Rattle.envelope.specs.declared.Contact.{Contact}
@@ -36,8 +40,8 @@ use Rattle.tier0.specs.declared.Tier0Out.{Tier0Out}
 use Rattle.tier0.specs.declared.Tier0Out.the-variants.{Passed, Refused}
 use Rattle.tier0.specs.declared.Checks.{Checks}
 use Rattle.tier0.specs.declared.Difference.the-variants.{Accel, Jerk}
-use Rattle.tier0.specs.Rule.{WORKSPACE, SPEED, ACCEL, JERK, REACH, CONTACT, weight, arms, boxDims, Slow, clear, seen, insideUnseen, zoneStep, zoneIn, slowest, slowZone, outOfBox, outOfReach, leash, boxed, reached, checkAction}
-use Rattle.tier0.specs.Chunk.{rawRow, startRow, rowBefore, stepTo, bends, jolts, someLonger, someOutOfBox, tooLarge, checkChunk}
+use Rattle.tier0.specs.Rule.{WORKSPACE, SPEED, ACCEL, JERK, REACH, CONTACT, weight, arms, boxDims, Slow, clear, seen, insideUnseen, zoneStep, zoneIn, slowest, slowZone, outOfWorkspace, outOfReach, leash, movedInside, reached, movesInside, rowMasks, checkAction}
+use Rattle.tier0.specs.Chunk.{rawRow, startRow, rowBefore, stepTo, bends, jolts, someLonger, someOutOfWorkspace, tooLarge, checkChunk}
 use Rattle.tier0.specs.Of.{checksOf, actionAnswer, actionOut, chunkAnswer, chunkOut}
 
 -- the trips of an answer: none where it is refused
@@ -82,6 +86,15 @@ module _ (f : Format) (s : Checks) (p aux : List Float) where
 abbrev pub sizeOf : Format → (ℕ → Checked Float) → ℕ → Float → Float
 sizeOf f g n inv = mul f (norm f (each g (replicate 8 +0) n .value) n .value) inv
 
+-- a row is inside the workspace: not past the edge of a disc, and beyond no wall on a shared coordinate. One without a box has no walls
+pub record RowInside (f : Format) (s : Checks) (a : List Float) : Type 0 where
+  pub within-edge : pastEdge f (s .shape) a .value ≡ false
+  pub within-walls : (j : ℕ) → j < boxDims s → beyond (wallsIn (s .shape) (s .walls)) a j ≡ false
+
+-- it is outside where one of the two fails
+abbrev pub rowOutside : Format → Checks → List Float → Bool
+rowOutside f s a = pastEdge f (s .shape) a .value || some (beyond (wallsIn (s .shape) (s .walls)) a) (boxDims s)
+
 module _ (f : Format) (c : FuseConfig) (p aux rows : List Float) where
   abbrev checked : Checks
   checked = checksOf f c
@@ -104,8 +117,8 @@ module _ (f : Format) (c : FuseConfig) (p aux rows : List Float) where
   abbrev joltAt : ℕ → Float
   joltAt i = sizeOf f (jolts f (rawRow rows (checked .dim) (i + 2)) (rawRow rows (checked .dim) (i + 1)) (rawRow rows (checked .dim) i) (rowBefore beforeFirst rows (checked .dim) i)) (checked .dim) (checked .«inv_dt3»)
 
-  abbrev pub ChunkInBox : ℕ → Type 0
-  ChunkInBox h = (i : ℕ) → i < h → (j : ℕ) → j < boxDims checked → beyond (wallsOf (checked .walls)) (rawRow rows (checked .dim) i) j ≡ false
+  abbrev pub ChunkInside : ℕ → Type 0
+  ChunkInside h = (i : ℕ) → i < h → RowInside f checked (rawRow rows (checked .dim) i)
 
   abbrev pub ChunkSlowEnough : ℕ → Type 0
   ChunkSlowEnough h = (i : ℕ) → i < h → lt (checked .«step_max») (stepAt i) ≡ false
@@ -124,7 +137,7 @@ module _ (f : Format) (c : FuseConfig) (p aux rows : List Float) where
 
 -- none of a chunk's limits
 pub record ChunkWithin (f : Format) (c : FuseConfig) (p aux rows : List Float) (h : ℕ) : Type 0 where
-  pub box : ChunkInBox f c p aux rows h
+  pub workspace : ChunkInside f c p aux rows h
   pub speed : ChunkSlowEnough f c p aux rows h
   pub contact : ChunkSlowInZone f c p aux rows h
   pub accel : ChunkBendsLittle f c p aux rows h
@@ -142,8 +155,8 @@ module _ (f : Format) (c : FuseConfig) (p aux prev a : List Float) where
   abbrev pub actionStep : Float
   actionStep = dist f a prev (checks .dim) .value
 
-  abbrev pub ActionInBox : Type 0
-  ActionInBox = (j : ℕ) → j < boxDims checks → beyond (wallsOf (checks .walls)) a j ≡ false
+  abbrev pub ActionInside : Type 0
+  ActionInside = RowInside f checks a
 
   abbrev pub ActionSlowEnough : Type 0
   ActionSlowEnough = lt (checks .«step_max») actionStep ≡ false
@@ -156,7 +169,7 @@ module _ (f : Format) (c : FuseConfig) (p aux prev a : List Float) where
 
 -- none of an action's limits
 pub record ActionWithin (f : Format) (c : FuseConfig) (p aux prev a : List Float) : Type 0 where
-  pub box : ActionInBox f c p aux prev a
+  pub workspace : ActionInside f c p aux prev a
   pub speed : ActionSlowEnough f c p aux prev a
   pub contact : ActionSlowInZone f c p aux prev a
   pub reach : ActionInReach f c p aux prev a
@@ -180,7 +193,7 @@ actionTrips f s p aux prev a = checkAction f s p aux prev a .value .trips
 
 -- each check of a chunk is raised exactly when it is armed and some row strictly exceeds
 pub record ChunkRaised (f : Format) (s : Checks) (p aux rows l : List Float) (h : ℕ) : Type 0 where
-  pub workspace : raised WORKSPACE (chunkTrips f s p aux rows l h) ≡ someOutOfBox f s rows h .value
+  pub workspace : raised WORKSPACE (chunkTrips f s p aux rows l h) ≡ someOutOfWorkspace f s rows h .value
   pub speed : raised SPEED (chunkTrips f s p aux rows l h) ≡ (arms s SPEED && someLonger f (startRow s p rows) rows (s .dim) (s .«step_max») h)
   pub accel : raised ACCEL (chunkTrips f s p aux rows l h) ≡ tooLarge f s Accel (startRow s p rows) rows h .value
   pub jerk : raised JERK (chunkTrips f s p aux rows l h) ≡ tooLarge f s Jerk (startRow s p rows) rows h .value
@@ -189,7 +202,7 @@ pub record ChunkRaised (f : Format) (s : Checks) (p aux rows l : List Float) (h 
 
 -- those of an action likewise; ACCEL and JERK are a chunk's
 pub record ActionRaised (f : Format) (s : Checks) (p aux prev a : List Float) : Type 0 where
-  pub workspace : raised WORKSPACE (actionTrips f s p aux prev a) ≡ outOfBox f s a .value
+  pub workspace : raised WORKSPACE (actionTrips f s p aux prev a) ≡ outOfWorkspace f s a .value
   pub speed : raised SPEED (actionTrips f s p aux prev a) ≡ (arms s SPEED && lt (s .«step_max») (dist f a prev (s .dim) .value))
   pub accel : raised ACCEL (actionTrips f s p aux prev a) ≡ false
   pub jerk : raised JERK (actionTrips f s p aux prev a) ≡ false
@@ -250,12 +263,17 @@ pub record LeashTold (f : Format) (s : Checks) (p aux : List Float) : Type 0 whe
   pub at-most-zone : (k : ℕ) → k < counted (s .zones) → insideAt f s p aux k ≡ true → le (leashNow f s p aux) (zoneFound f s p aux k .step) ≡ true
   pub is-armed-step : leashArmed f s p aux ≡ true → ((arms s SPEED ≡ true) × (leashNow f s p aux ≡ s .«step_max»)) ⊎ Among (insideAt f s p aux) (counted (s .zones)) (λ (k : ℕ). leashNow f s p aux ≡ zoneFound f s p aux k .step)
 
--- a row as projection moves it: into the box, by that leash towards the row before it, and, the first one, by the reach towards the position
+-- a row as leash and reach move it: by that leash towards the row before it, and, the first one, by the reach towards the position
+abbrev pub leashedRow : Format → Checks → (p aux : List Float) → Bool → (prev a : List Float) → Checked (List Float)
+leashedRow f s p aux isFirst prev a = do
+  l ← if leashArmed f s p aux then pulled f (leashNow f s p aux) prev (s .dim) a else pure a
+  if isFirst then reached f s p l else pure l
+
+-- a row as projection moves it: inside the workspace first, then by leash and reach
 abbrev pub movedRow : Format → Checks → (p aux : List Float) → Bool → (prev a : List Float) → Checked (List Float)
 movedRow f s p aux isFirst prev a = do
-  b ← boxed f s a
-  l ← if leashArmed f s p aux then pulled f (leashNow f s p aux) prev (s .dim) b else pure b
-  if isFirst then reached f s p l else pure l
+  b ← movedInside f s a
+  leashedRow f s p aux isFirst prev b
 
 -- a list has every zone of another, at whatever places: the other with one more zone, or several, is such a list
 abbrev pub HasZonesOf : Zones → Zones → Type 0
@@ -328,48 +346,92 @@ UnarmedAction = (f : Format) (s : Checks) → s .armed ≡ 0 → (p aux prev a :
 abbrev pub UnarmedChunk : Type 0
 UnarmedChunk = (f : Format) (s : Checks) → s .armed ≡ 0 → (p aux rows l : List Float) (h : ℕ) → s .dim ≤ 8 → ((k : ℕ) → k < h * s .dim → finite (at rows k) ≡ true) → checkChunk f s p aux rows l h .value .after ≡ record { rows = over (at rows) l (h * s .dim); mask = 0 }
 
+-- ---- inside the workspace, and past the edge of a disc
+
+-- a row on the edge of a disc: its distance from the centre equals the radius, and no further coordinate that is shared is beyond a wall
+pub record OnTheEdge (f : Format) (s : Checks) (x y radius : Float) (a : List Float) : Type 0 where
+  pub as-far : fromCentre f x y a .value ≡ radius
+  pub no-wall-passed : (j : ℕ) → j < boxDims s → beyond (wallsIn (s .shape) (s .walls)) a j ≡ false
+
+-- it is inside
+abbrev pub EdgeTouched : Type 0
+EdgeTouched = (f : Format) (s : Checks) (x y radius : Float) (a : List Float) → s .shape ≡ Disc x y radius → OnTheEdge f s x y radius a → RowInside f s a
+
+-- the first move leaves a row that is not out of the workspace bit for bit
+abbrev pub InsideStays : Type 0
+InsideStays = (f : Format) (s : Checks) (a : List Float) → outOfWorkspace f s a .value ≡ false → movedInside f s a .value ≡ a
+
+-- where WORKSPACE is armed and a row is further from the centre than the radius, the first move is the pull
+pub record PulledFirst (f : Format) (s : Checks) (x y radius : Float) (a : List Float) : Type 0 where
+  -- of the first two coordinates, the vector from the centre is shortened; neither leash nor reach has moved them yet
+  pub shortened-pair : (j : ℕ) → j < 2 → at (movedInside f s a .value) j ≡ at (shortened f radius (fromCentre f x y a .value) (x ∷ y ∷ []) 2 a .value) j
+  -- a further coordinate that is shared goes inside its walls, one that is not stays
+  pub further-clamped : (j : ℕ) → 2 ≤ j → j < boxDims s → j < length a → at (movedInside f s a .value) j ≡ clamped (at a j) (at (s .walls .lo) j) (at (s .walls .hi) j)
+  pub further-stays : (j : ℕ) → 2 ≤ j → boxDims s ≤ j → at (movedInside f s a .value) j ≡ at a j
+  -- 13 comes from the distance and from each number of the shortening, and from nothing else
+  pub all-checked : movedInside f s a .sound ≡ (fromCentre f x y a .sound && shortened f radius (fromCentre f x y a .value) (x ∷ y ∷ []) 2 a .sound)
+
+-- with WORKSPACE unarmed a row is not moved inside, does not trip, and no distance is computed, so that none is 13
+pub record WorkspaceUnarmed (f : Format) (s : Checks) (a : List Float) : Type 0 where
+  pub nothing-moved : movedInside f s a ≡ pure a
+  pub nothing-tripped : outOfWorkspace f s a ≡ pure false
+
+-- at a box nothing is computed, and a row trips, is moved and sets bits as by a guard that knows no other shape
+pub record BoxAsBefore (f : Format) (s : Checks) (a : List Float) : Type 0 where
+  pub tripped-by-walls : outOfWorkspace f s a ≡ pure (arms s WORKSPACE && some (λ (j : ℕ). lt (at a j) (at (s .walls .lo) j) || lt (at (s .walls .hi) j) (at a j)) (boxDims s))
+  pub moved-by-walls : movedInside f s a ≡ pure (if arms s WORKSPACE then over (λ (j : ℕ). clamped (at a j) (at (s .walls .lo) j) (at (s .walls .hi) j)) a (boxDims s) else a)
+  pub low-bits : movesInside s (s .clamp) ≡ true → rowMasks s a .low ≡ bitsWhere (λ (j : ℕ). walls.raised (at a j) (at (s .walls .lo) j) (at (s .walls .hi) j)) (boxDims s)
+  pub high-bits : movesInside s (s .clamp) ≡ true → rowMasks s a .high ≡ bitsWhere (λ (j : ℕ). walls.lowered (at a j) (at (s .walls .lo) j) (at (s .walls .hi) j)) (boxDims s)
+
+-- the margin moves walls and not the disc: where no further axis has walls, what the checks read does not know it
+abbrev pub MarginUnread : Type 0
+MarginUnread = (f : Format) (c : FuseConfig) (x y radius m : Float) → c .shape ≡ Disc x y radius → c .«pos_dim» ≤ 2 → checksOf f (marginedBy c m) ≡ checksOf f c
+
 -- ---- which walls moved the rows
 
--- coordinate j of row i, as `check_chunk` leaves it in the lent output, is as a number what the box made of it: neither leash nor reach moved it
-abbrev pub RowAsBoxed : Format → FuseConfig → Tables → (p aux rows : List Float) → Header → List Float → ℕ → ℕ → Type 0
-RowAsBoxed f c t p aux rows k l i j = eq (at (chunkOut f c t p aux rows k l) (i * checksOf f c .dim + j)) (at (boxed f (checksOf f c) (rawRow rows (checksOf f c .dim) i) .value) j) ≡ true
+-- coordinate j of row i, as `check_chunk` leaves it in the lent output, is as a number what the first move made of it: neither leash nor reach moved it
+abbrev pub RowAsMovedInside : Format → FuseConfig → Tables → (p aux rows : List Float) → Header → List Float → ℕ → ℕ → Type 0
+RowAsMovedInside f c t p aux rows k l i j = eq (at (chunkOut f c t p aux rows k l) (i * checksOf f c .dim + j)) (at (movedInside f (checksOf f c) (rawRow rows (checksOf f c .dim) i) .value) j) ≡ true
 
 -- what the masks of an accepted `check_chunk` say, beside its clamped_dims and the output
 pub record ChunkWalls (f : Format) (c : FuseConfig) (t : Tables) (p aux rows : List Float) (k : Header) (l : List Float) (dims : ℕ) (walls : WallMasks) : Type 0 where
   -- nothing under ClampMode Off, nor with WORKSPACE unarmed
   pub off-none : c .clamp ≡ Off → walls ≡ unmoved
   pub unarmed-none : arms (checksOf f c) WORKSPACE ≡ false → walls ≡ unmoved
-  -- else, on each axis that has a box, what its walls do to any row as it came
-  pub each-axis : c .clamp ≡ Project → arms (checksOf f c) WORKSPACE ≡ true → (j : ℕ) → j < boxDims (checksOf f c) → AxisOfAnyTold (wallsOf (checksOf f c .walls)) (rawRow rows (checksOf f c .dim)) (k .horizon) j walls
-  -- nothing past those axes
+  -- else, on each shared axis, what its walls do to any row as it came; one without a box has none
+  pub each-axis : c .clamp ≡ Project → arms (checksOf f c) WORKSPACE ≡ true → (j : ℕ) → j < boxDims (checksOf f c) → AxisOfAnyTold (wallsIn (checksOf f c .shape) (checksOf f c .walls)) (rawRow rows (checksOf f c .dim)) (k .horizon) j walls
+  -- nothing past those axes, and nothing on one without a box
   pub none-past : NoBitPast walls (boxDims (checksOf f c))
+  pub no-bit-without-a-box : (j : ℕ) → boxed (c .shape) j ≡ false → (bit (walls .low) j ≡ false) × (bit (walls .high) j ≡ false)
   -- of a chunk of one row no axis has both
   pub one-row-never-both : k .horizon ≡ 1 → (j : ℕ) → (bit (walls .low) j && bit (walls .high) j) ≡ false
   -- where neither leash nor reach moved it, a coordinate that a wall moved is one of clamped_dims
   pub in-clamped-dims :
-      c .clamp ≡ Project → arms (checksOf f c) WORKSPACE ≡ true → (i j : ℕ) → i < k .horizon → j < boxDims (checksOf f c) → RowAsBoxed f c t p aux rows k l i j
-      → (raisedAt (wallsOf (checksOf f c .walls)) (rawRow rows (checksOf f c .dim) i) j || loweredAt (wallsOf (checksOf f c .walls)) (rawRow rows (checksOf f c .dim) i) j) ≡ true → bit dims j ≡ true
+      c .clamp ≡ Project → arms (checksOf f c) WORKSPACE ≡ true → (i j : ℕ) → i < k .horizon → j < boxDims (checksOf f c) → RowAsMovedInside f c t p aux rows k l i j
+      → (raisedAt (wallsIn (checksOf f c .shape) (checksOf f c .walls)) (rawRow rows (checksOf f c .dim) i) j || loweredAt (wallsIn (checksOf f c .shape) (checksOf f c .walls)) (rawRow rows (checksOf f c .dim) i) j) ≡ true → bit dims j ≡ true
 
 -- of an action likewise
-abbrev pub ActionAsBoxed : Format → FuseConfig → Tables → (p aux prev a l : List Float) → ℕ → Type 0
-ActionAsBoxed f c t p aux prev a l j = eq (at (actionOut f c t p aux prev a l) j) (at (boxed f (checksOf f c) (padded a (checksOf f c .dim)) .value) j) ≡ true
+abbrev pub ActionAsMovedInside : Format → FuseConfig → Tables → (p aux prev a l : List Float) → ℕ → Type 0
+ActionAsMovedInside f c t p aux prev a l j = eq (at (actionOut f c t p aux prev a l) j) (at (movedInside f (checksOf f c) (padded a (checksOf f c .dim)) .value) j) ≡ true
 
 -- what those of an accepted `check_action` say: of the one row, so no axis has both
 pub record ActionWalls (f : Format) (c : FuseConfig) (t : Tables) (p aux prev a l : List Float) (dims : ℕ) (walls : WallMasks) : Type 0 where
   pub off-none : c .clamp ≡ Off → walls ≡ unmoved
   pub unarmed-none : arms (checksOf f c) WORKSPACE ≡ false → walls ≡ unmoved
-  pub each-axis : c .clamp ≡ Project → arms (checksOf f c) WORKSPACE ≡ true → (j : ℕ) → j < boxDims (checksOf f c) → AxisTold (wallsOf (checksOf f c .walls)) a j walls
+  pub each-axis : c .clamp ≡ Project → arms (checksOf f c) WORKSPACE ≡ true → (j : ℕ) → j < boxDims (checksOf f c) → AxisTold (wallsIn (checksOf f c .shape) (checksOf f c .walls)) a j walls
   pub none-past : NoBitPast walls (boxDims (checksOf f c))
+  pub no-bit-without-a-box : (j : ℕ) → boxed (c .shape) j ≡ false → (bit (walls .low) j ≡ false) × (bit (walls .high) j ≡ false)
   pub never-both : (j : ℕ) → (bit (walls .low) j && bit (walls .high) j) ≡ false
   pub in-clamped-dims :
-      c .clamp ≡ Project → arms (checksOf f c) WORKSPACE ≡ true → (j : ℕ) → j < boxDims (checksOf f c) → ActionAsBoxed f c t p aux prev a l j
+      c .clamp ≡ Project → arms (checksOf f c) WORKSPACE ≡ true → (j : ℕ) → j < boxDims (checksOf f c) → ActionAsMovedInside f c t p aux prev a l j
       → (bit (walls .low) j || bit (walls .high) j) ≡ true → bit dims j ≡ true
 
 -- ---- all of it
 
 -- a limit that is not exceeded is not raised by `check_chunk`, and where none is exceeded nothing is
 pub record ChunkTouched (f : Format) (c : FuseConfig) (t : Tables) (p aux rows : List Float) (k : Header) (room : ℕ) : Type 0 where
-  pub workspace-touched : ChunkInBox f c p aux rows (k .horizon) → raised WORKSPACE (tripsIn (chunkAnswer f c t p aux rows k room)) ≡ false
+  pub workspace-touched : ChunkInside f c p aux rows (k .horizon) → raised WORKSPACE (tripsIn (chunkAnswer f c t p aux rows k room)) ≡ false
+  pub edge-touched : (x y radius : Float) → c .shape ≡ Disc x y radius → ((i : ℕ) → i < k .horizon → OnTheEdge f (checksOf f c) x y radius (rawRow rows (c .dim) i)) → raised WORKSPACE (tripsIn (chunkAnswer f c t p aux rows k room)) ≡ false
   pub speed-touched : ChunkSlowEnough f c p aux rows (k .horizon) → raised SPEED (tripsIn (chunkAnswer f c t p aux rows k room)) ≡ false
   pub contact-touched : ChunkSlowInZone f c p aux rows (k .horizon) → raised CONTACT (tripsIn (chunkAnswer f c t p aux rows k room)) ≡ false
   pub accel-touched : ChunkBendsLittle f c p aux rows (k .horizon) → raised ACCEL (tripsIn (chunkAnswer f c t p aux rows k room)) ≡ false
@@ -379,7 +441,8 @@ pub record ChunkTouched (f : Format) (c : FuseConfig) (t : Tables) (p aux rows :
 
 -- a limit that is not exceeded is not raised by `check_action`, and where none is exceeded nothing is
 pub record ActionTouched (f : Format) (c : FuseConfig) (t : Tables) (p aux prev a : List Float) (room : ℕ) : Type 0 where
-  pub workspace-touched : ActionInBox f c p aux prev a → raised WORKSPACE (tripsIn (actionAnswer f c t p aux prev a room)) ≡ false
+  pub workspace-touched : ActionInside f c p aux prev a → raised WORKSPACE (tripsIn (actionAnswer f c t p aux prev a room)) ≡ false
+  pub edge-touched : (x y radius : Float) → c .shape ≡ Disc x y radius → OnTheEdge f (checksOf f c) x y radius a → raised WORKSPACE (tripsIn (actionAnswer f c t p aux prev a room)) ≡ false
   pub speed-touched : ActionSlowEnough f c p aux prev a → raised SPEED (tripsIn (actionAnswer f c t p aux prev a room)) ≡ false
   pub contact-touched : ActionSlowInZone f c p aux prev a → raised CONTACT (tripsIn (actionAnswer f c t p aux prev a room)) ≡ false
   pub reach-touched : ActionInReach f c p aux prev a → raised REACH (tripsIn (actionAnswer f c t p aux prev a room)) ≡ false
@@ -442,6 +505,22 @@ pub record Promised : Type 0 where
   pub action-walls :
       (f : Format) (c : FuseConfig) (t : Tables) (p aux prev a l : List Float) (trips dims : ℕ) (speed : Float) (walls : WallMasks)
       → actionAnswer f c t p aux prev a (length l) ≡ Passed trips dims speed walls → ActionWalls f c t p aux prev a l dims walls
+  -- WORKSPACE is raised exactly when it is armed and some row, as it came, is past the edge of a disc or has a shared coordinate beyond its walls
+  pub chunk-workspace :
+      (f : Format) (c : FuseConfig) (t : Tables) (p aux rows : List Float) (k : Header) (room trips dims : ℕ) (speed : Float) (walls : WallMasks)
+      → chunkAnswer f c t p aux rows k room ≡ Passed trips dims speed walls
+      → raised WORKSPACE trips ≡ (arms (checksOf f c) WORKSPACE && some (λ (i : ℕ). rowOutside f (checksOf f c) (rawRow rows (c .dim) i)) (k .horizon))
+  pub action-workspace :
+      (f : Format) (c : FuseConfig) (t : Tables) (p aux prev a : List Float) (room trips dims : ℕ) (speed : Float) (walls : WallMasks)
+      → actionAnswer f c t p aux prev a room ≡ Passed trips dims speed walls
+      → raised WORKSPACE trips ≡ (arms (checksOf f c) WORKSPACE && rowOutside f (checksOf f c) a)
+  -- where it is armed, the distance of every row from the centre of a disc is finite, under either ClampMode and whatever else is outside: a call with another is refused
+  pub chunk-distances :
+      (f : Format) (c : FuseConfig) (t : Tables) (p aux rows : List Float) (k : Header) (room : ℕ) → accepts (chunkAnswer f c t p aux rows k room) ≡ true → arms (checksOf f c) WORKSPACE ≡ true
+      → (x y radius : Float) → c .shape ≡ Disc x y radius → (i : ℕ) → i < k .horizon → fromCentre f x y (rawRow rows (c .dim) i) .sound ≡ true
+  pub action-distances :
+      (f : Format) (c : FuseConfig) (t : Tables) (p aux prev a : List Float) (room : ℕ) → accepts (actionAnswer f c t p aux prev a room) ≡ true → arms (checksOf f c) WORKSPACE ≡ true
+      → (x y radius : Float) → c .shape ≡ Disc x y radius → fromCentre f x y a .sound ≡ true
   -- CONTACT is raised exactly when it is armed and some step exceeds the step of some zone that the arm is inside
   pub chunk-contact :
       (f : Format) (c : FuseConfig) (t : Tables) (p aux rows : List Float) (k : Header) (room trips dims : ℕ) (speed : Float) (walls : WallMasks)
@@ -463,7 +542,18 @@ pub record Promised : Type 0 where
       (f : Format) (c : FuseConfig) (t : Tables) (p aux prev a l : List Float) (trips dims : ℕ) (speed : Float) (walls : WallMasks)
       → actionAnswer f c t p aux prev a (length l) ≡ Passed trips dims speed walls → c .clamp ≡ Project → (j : ℕ) → j < checksOf f c .dim
       → at (actionOut f c t p aux prev a l) j ≡ at (movedRow f (checksOf f c) p aux true prev (padded a (checksOf f c .dim)) .value) j
-  -- and with more zones it is not longer
+  -- one that is not out of the workspace goes out as leash and reach alone move it
+  pub chunk-inside-stays :
+      (f : Format) (c : FuseConfig) (t : Tables) (p aux rows : List Float) (k : Header) (l : List Float) (trips dims : ℕ) (speed : Float) (walls : WallMasks)
+      → chunkAnswer f c t p aux rows k (length l) ≡ Passed trips dims speed walls → c .clamp ≡ Project → (i j : ℕ) → i < k .horizon → j < checksOf f c .dim
+      → outOfWorkspace f (checksOf f c) (rawRow rows (checksOf f c .dim) i) .value ≡ false
+      → at (chunkOut f c t p aux rows k l) (i * checksOf f c .dim + j) ≡ at (leashedRow f (checksOf f c) p aux (eqb i 0) (rowBefore (beforeFirst f c p aux rows) (chunkOut f c t p aux rows k l) (checksOf f c .dim) i) (rawRow rows (checksOf f c .dim) i) .value) j
+  pub action-inside-stays :
+      (f : Format) (c : FuseConfig) (t : Tables) (p aux prev a l : List Float) (trips dims : ℕ) (speed : Float) (walls : WallMasks)
+      → actionAnswer f c t p aux prev a (length l) ≡ Passed trips dims speed walls → c .clamp ≡ Project → (j : ℕ) → j < checksOf f c .dim
+      → outOfWorkspace f (checksOf f c) a .value ≡ false
+      → at (actionOut f c t p aux prev a l) j ≡ at (leashedRow f (checksOf f c) p aux true prev (padded a (checksOf f c .dim)) .value) j
+  -- with more zones the leash is not longer
   pub chunk-more-zones :
       (f : Format) (c : FuseConfig) (t : Tables) (w : Zones) (p aux : List Float) → HasZonesOf w (c .zones) → (rows : List Float) (k : Header) (room : ℕ)
       → accepts (chunkAnswer f c t p aux rows k room) ≡ true → accepts (chunkAnswer f (zonedBy c w) t p aux rows k room) ≡ true → LeashNotLonger f (checksOf f c) (checksOf f (zonedBy c w)) p aux
@@ -487,6 +577,13 @@ pub record Promised : Type 0 where
   pub chunk-raised : (f : Format) (s : Checks) (p aux rows l : List Float) (h : ℕ) → ChunkRaised f s p aux rows l h
   pub action-raised : (f : Format) (s : Checks) (p aux prev a : List Float) → ActionRaised f s p aux prev a
   pub walls-touched : (w : Walls) (a : List Float) (j : ℕ) → WallsTouched w a j
+  pub edge-touched : EdgeTouched
+  pub inside-stays : InsideStays
+  pub pulled-first :
+      (f : Format) (s : Checks) (x y radius : Float) (a : List Float) → arms s WORKSPACE ≡ true → s .shape ≡ Disc x y radius → lt radius (fromCentre f x y a .value) ≡ true → PulledFirst f s x y radius a
+  pub unarmed-stays : (f : Format) (s : Checks) (a : List Float) → arms s WORKSPACE ≡ false → WorkspaceUnarmed f s a
+  pub box-as-before : (f : Format) (s : Checks) (a : List Float) → s .shape ≡ Box → BoxAsBefore f s a
+  pub margin-unread : MarginUnread
   pub no-contact : NoContact
   pub outside-radius : OutsideRadius
   pub one-zone : OneZone

@@ -14,7 +14,7 @@ use Rattle.checked.specs.Least.{lesser}
 use Rattle.fmath.specs.Norm.{dist}
 use Rattle.bits.specs.Bits.{bitsWhere}
 use Rattle.pull.specs.Rule.{pulled}
-use Rattle.workspace.specs.Of.{wallsOf}
+use Rattle.workspace.specs.Of.{wallsIn}
 use Rattle.workspace.specs.declared.WallMasks.{WallMasks}
 use Rattle.workspace.specs.Rule.{outside, inward, wallMasks, unmoved}
 use Rattle.envelope.specs.declared.ClampMode.{ClampMode}
@@ -113,9 +113,9 @@ slowZone f s p aux = if arms s CONTACT then slowest f (s .dt) (s .«absent_camer
 
 -- ---- trips: strictly exceeded, on the row as it came
 
--- WORKSPACE: a shared coordinate lies beyond its walls
-unfoldable pub outOfBox : Format → Checks → List Float → Checked Bool
-outOfBox f s a = if arms s WORKSPACE then outside f (wallsOf (s .walls)) a (boxDims s) else pure false
+-- WORKSPACE: past the edge of a disc, or a shared coordinate beyond its walls
+unfoldable pub outOfWorkspace : Format → Checks → List Float → Checked Bool
+outOfWorkspace f s a = if arms s WORKSPACE then outside f (wallsIn (s .shape) (s .walls)) a (boxDims s) else pure false
 
 -- REACH: the distance to the position, on the shared coordinates
 unfoldable pub outOfReach : Format → Checks → List Float → List Float → Checked Bool
@@ -126,8 +126,8 @@ weight b w = if b then w else 0
 
 -- one bit for each check that trips
 unfoldable pub tripBits : Bool → Bool → Bool → Bool → Bool → Bool → ℕ
-tripBits box speed accel jerk reach contact =
-    weight box WORKSPACE + weight speed SPEED + weight accel ACCEL + weight jerk JERK + weight reach REACH + weight contact CONTACT
+tripBits out speed accel jerk reach contact =
+    weight out WORKSPACE + weight speed SPEED + weight accel ACCEL + weight jerk JERK + weight reach REACH + weight contact CONTACT
 
 -- ---- projection
 
@@ -135,9 +135,9 @@ tripBits box speed accel jerk reach contact =
 abbrev pub leash : Bool → Float → Slow → Float
 leash speed stepMax z = if speed then (if z .inside then lesser stepMax (z .step) else stepMax) else z .step
 
--- first move: inside the box on the shared coordinates
-unfoldable pub boxed : Format → Checks → List Float → Checked (List Float)
-boxed f s a = if arms s WORKSPACE then inward f (wallsOf (s .walls)) a (boxDims s) else pure a
+-- first move: inside the workspace, onto its disc and inside its walls on the shared coordinates
+unfoldable pub movedInside : Format → Checks → List Float → Checked (List Float)
+movedInside f s a = if arms s WORKSPACE then inward f (wallsIn (s .shape) (s .walls)) a (boxDims s) else pure a
 
 -- second move: the leash towards the row before
 unfoldable pub leashed : Format → Checks → Slow → List Float → List Float → Checked (List Float)
@@ -147,12 +147,17 @@ leashed f s z prev a = if arms s SPEED || z .inside then pulled f (leash (arms s
 unfoldable pub reached : Format → Checks → List Float → List Float → Checked (List Float)
 reached f s p a = if arms s REACH then pulled f (s .«reach_max») p (boxDims s) a else pure a
 
--- the three moves in order; the third is the first row's
-unfoldable pub moves : Format → Checks → Slow → List Float → Bool → List Float → List Float → Checked (List Float)
-moves f s z p isFirst prev a = do
-  b ← boxed f s a
+-- the second and the third in order; the third is the first row's
+abbrev pub pulls : Format → Checks → Slow → List Float → Bool → List Float → List Float → Checked (List Float)
+pulls f s z p isFirst prev b = do
   l ← leashed f s z prev b
   if isFirst then reached f s p l else pure l
+
+-- the three moves in order
+unfoldable pub moves : Format → Checks → Slow → List Float → Bool → List Float → List Float → Checked (List Float)
+moves f s z p isFirst prev a = do
+  b ← movedInside f s a
+  pulls f s z p isFirst prev b
 
 -- a bit for each coordinate that differs, as numbers
 abbrev pub movedDims : List Float → List Float → ℕ → ℕ
@@ -176,12 +181,12 @@ projection f s Project z p prev a = project f s z p prev a
 -- ---- which walls moved a row: the first move's alone, of the row as it came
 
 -- the first move is made
-unfoldable pub boxesRows : Checks → ClampMode → Bool
-boxesRows s Off = false
-boxesRows s Project = arms s WORKSPACE
+unfoldable pub movesInside : Checks → ClampMode → Bool
+movesInside s Off = false
+movesInside s Project = arms s WORKSPACE
 
 unfoldable pub rowMasks : Checks → List Float → WallMasks
-rowMasks s a = if boxesRows s (s .clamp) then wallMasks (wallsOf (s .walls)) a (boxDims s) else unmoved
+rowMasks s a = if movesInside s (s .clamp) then wallMasks (wallsIn (s .shape) (s .walls)) a (boxDims s) else unmoved
 
 -- ---- the check of one action against its predecessor
 
@@ -196,7 +201,7 @@ checkAction f s p aux prev a = do
   z ← slowZone f s p aux
   n ← dist f a prev (s .dim)
   v ← times f n (s .«inv_dt»)
-  out ← outOfBox f s a
+  out ← outOfWorkspace f s a
   far ← outOfReach f s p a
   after ← projection f s (s .clamp) z p prev (padded a (s .dim))
   let fast = arms s SPEED && lt (s .«step_max») n

@@ -1,4 +1,4 @@
--- What is not promised of projection, which walls moved rows, what a zone counts as that is not seen, and what several zones say, by computation.
+-- What is not promised of projection, which walls moved rows, what a round table does, what a zone counts as that is not seen, and what several zones say, by computation.
 use Prim.Native.Nat.{ℕ, zero, suc, _+_, _<_}
 use mathlib.Core.Path.{_≡_, refl}
 use native.Mathlib.Omega.{arith}
@@ -19,7 +19,8 @@ use Rattle.fmath.specs.Norm.{squaredGap, dist}
 use Rattle.bits.specs.Bits.{bitsWhere}
 use Rattle.fmath.specs.Clamp.{clamped, side}
 use Rattle.workspace.specs.declared.Workspace.{Workspace}
-use Rattle.workspace.specs.Rule.{inward, wallMasks, anyMasks, unmoved}
+use Rattle.workspace.specs.declared.Shape.the-variants.{Box, Disc}
+use Rattle.workspace.specs.Rule.{pastEdge, outside, ontoDisc, inward, wallMasks, anyMasks, unmoved}
 use Rattle.envelope.specs.declared.ClampMode.{ClampMode}
 use Rattle.envelope.specs.declared.ClampMode.the-variants.{Off, Project}
 use Rattle.envelope.specs.declared.AbsentCamera.{AbsentCamera}
@@ -31,19 +32,19 @@ use Rattle.envelope.specs.declared.Contact.the-variants.{None, Zone}
 use Rattle.pull.specs.Rule.{toward, shortened, pulled}
 use Rattle.envelope.specs.declared.FuseConfig.{FuseConfig}
 use Rattle.tier0.specs.declared.Checks.{Checks}
-use Rattle.tier0.specs.Rule.{WORKSPACE, SPEED, CONTACT, arms, Slow, clear, insideSeen, insideZone, zoneStep, zoneIn, slowest, slowZone, outOfBox, outOfReach, tripBits, boxed, leashed, reached, moves, project, projection, boxesRows, rowMasks, Judgement, checkAction}
-use Rattle.tier0.specs.Chunk.{rowsMasks}
+use Rattle.tier0.specs.Rule.{WORKSPACE, SPEED, CONTACT, arms, Slow, clear, insideSeen, insideZone, zoneStep, zoneIn, slowest, slowZone, outOfWorkspace, outOfReach, tripBits, movedInside, leashed, reached, moves, project, projection, movesInside, rowMasks, Judgement, checkAction}
+use Rattle.tier0.specs.Chunk.{someOf, someOutOfWorkspace, rowsMasks}
 use Rattle.tier0.specs.Promises.{leashNow, SeenInside, Stands, ZonesStand, StandsAlike}
 
 -- so many zones of two places; the further places hold none
 abbrev list : ℕ → Contact → Contact → Zones
 list count one other = record { count = count; list = record { contact = one } ∷ record { contact = other } ∷ record { contact = None } ∷ record { contact = None } ∷ [] }
 
--- a position of one coordinate or more, and rows of dim
-abbrev checkingZones : Zones → AbsentCamera → Float → ℕ → ClampMode → ℕ → Float → Workspace → Checks
-checkingZones zones choice dt dim mode armed step walls = record {
+-- a position of so many coordinates or more, and rows of dim
+abbrev checkingOn : ℕ → Zones → AbsentCamera → Float → ℕ → ClampMode → ℕ → Float → Workspace → Checks
+checkingOn shared zones choice dt dim mode armed step w = record {
   dim = dim;
-  «pos_dim» = 1;
+  «pos_dim» = shared;
   armed = armed;
   zones = zones;
   «absent_camera» = choice;
@@ -56,8 +57,17 @@ checkingZones zones choice dt dim mode armed step walls = record {
   «inv_dt2» = 1!;
   «inv_dt3» = 1!;
   «step_max» = step;
-  walls = walls;
+  shape = w .shape;
+  walls = record { lo = w .lo; hi = w .hi };
 }
+
+-- of one coordinate
+abbrev checkingZones : Zones → AbsentCamera → Float → ℕ → ClampMode → ℕ → Float → Workspace → Checks
+checkingZones = checkingOn 1
+
+-- a box whose walls are not looked at
+abbrev no-walls : Workspace
+no-walls = record { shape = Box; lo = []; hi = [] }
 
 -- no zone, and a control period of 1
 abbrev checking : ℕ → ClampMode → ℕ → Float → Workspace → Checks
@@ -65,7 +75,7 @@ checking = checkingZones (list 0 None None) absent.Slow 1!
 
 -- SPEED alone armed, step 1.5
 abbrev line : Checks
-line = checking 1 Project SPEED (fin false 3 (negsuc 0)) (record { lo = []; hi = [] })
+line = checking 1 Project SPEED (fin false 3 (negsuc 0)) no-walls
 
 -- from 2^53 to x
 abbrev along : Float → Checked Judgement
@@ -79,18 +89,18 @@ abbrev 2^53+4 : Float
 
 -- 2^53 + 4 is projected to 2^53 + 2, which trips again
 pub projected-to : along 2^53+4 .value .after .rows ≡ 2^53+2 ∷ replicate 7 +0
-unfolding checkAction tripBits mul projection slowZone outOfBox dist project moves arms lt rootOf reached bitsWhere sumFrom add leashed ne squaredGap sub outOfReach pulled padded over finite boxed shortened each toward div number rootExponent half nearRoot floorRoot scaled
+unfolding checkAction tripBits mul projection slowZone outOfWorkspace dist project moves arms lt rootOf reached bitsWhere sumFrom add leashed ne squaredGap sub outOfReach pulled padded over finite movedInside shortened each toward div number rootExponent half nearRoot floorRoot scaled
 projected-to = refl
 
 pub trips-again : along 2^53+2 .value .trips ≡ SPEED
-unfolding checkAction tripBits mul projection slowZone outOfBox dist project moves arms lt rootOf reached bitsWhere sumFrom add leashed ne squaredGap sub outOfReach pulled padded over finite boxed shortened each toward div number rootExponent half nearRoot floorRoot scaled
+unfolding checkAction tripBits mul projection slowZone outOfWorkspace dist project moves arms lt rootOf reached bitsWhere sumFrom add leashed ne squaredGap sub outOfReach pulled padded over finite movedInside shortened each toward div number rootExponent half nearRoot floorRoot scaled
 trips-again = refl
 
 -- ---- which walls moved rows
 
 -- rows of two coordinates, the first between -1 and 2
 abbrev between : ClampMode → ℕ → Checks
-between m armed = checking 2 m armed 1! (record { lo = fin true 1 (pos 0) ∷ replicate 7 +0; hi = 2! ∷ replicate 7 +0 })
+between m armed = checking 2 m armed 1! (record { shape = Box; lo = fin true 1 (pos 0) ∷ replicate 7 +0; hi = 2! ∷ replicate 7 +0 })
 
 abbrev -5! : Float
 -5! = fin true 5 (pos 0)
@@ -100,44 +110,115 @@ abbrev 5! : Float
 
 -- rows (-5, 5) and (5, 5): the first is raised on axis 0, the second is lowered there. Axis 1 is outside its box of 0..0 in both, and has no bit
 pub both-walls : rowsMasks (between Project (WORKSPACE + SPEED)) (-5! ∷ 5! ∷ 5! ∷ 5! ∷ []) 2 ≡ record { low = 1; high = 1 }
-unfolding rowsMasks boxesRows arms anyMasks bitsWhere some padded over side lt
+unfolding rowsMasks movesInside arms anyMasks bitsWhere some padded over side lt
 both-walls = refl
 
 -- rows (-1, 5) and (2, 5) touch the walls
 pub walls-touched : rowsMasks (between Project (WORKSPACE + SPEED)) (fin true 1 (pos 0) ∷ 5! ∷ 2! ∷ 5! ∷ []) 2 ≡ unmoved
-unfolding rowsMasks boxesRows arms anyMasks bitsWhere some padded over side lt
+unfolding rowsMasks movesInside arms anyMasks bitsWhere some padded over side lt
 walls-touched = refl
 
 pub none-under-off : rowsMasks (between Off (WORKSPACE + SPEED)) (-5! ∷ 5! ∷ 5! ∷ 5! ∷ []) 2 ≡ unmoved
-unfolding rowsMasks boxesRows
+unfolding rowsMasks movesInside
 none-under-off = refl
 
 pub none-unarmed : rowsMasks (between Project SPEED) (-5! ∷ 5! ∷ 5! ∷ 5! ∷ []) 2 ≡ unmoved
-unfolding rowsMasks boxesRows arms
+unfolding rowsMasks movesInside arms
 none-unarmed = refl
 
 -- the leash takes a box move back: from 2, an action at 2 is lowered to the wall at 1, and a leash of 2^-70 leaves it at 2. The high mask tells of the box move,
 -- clamped_dims of the row as it goes out
 abbrev held-back : Checked Judgement
-held-back = checkAction binary64 (checking 1 Project (WORKSPACE + SPEED) (fin false 1 (negsuc 69)) (record { lo = +0 ∷ []; hi = 1! ∷ [] })) (2! ∷ []) [] (2! ∷ []) (2! ∷ [])
+held-back = checkAction binary64 (checking 1 Project (WORKSPACE + SPEED) (fin false 1 (negsuc 69)) (record { shape = Box; lo = +0 ∷ []; hi = 1! ∷ [] })) (2! ∷ []) [] (2! ∷ []) (2! ∷ [])
 
 pub taken-back : held-back .value .after .rows ≡ 2! ∷ replicate 7 +0
-unfolding checkAction tripBits mul projection slowZone outOfBox dist project moves arms lt rootOf reached bitsWhere sumFrom add leashed ne squaredGap sub outOfReach pulled padded over finite boxed shortened each toward div number rootExponent half nearRoot floorRoot scaled inward clamped
+unfolding checkAction tripBits mul projection slowZone outOfWorkspace dist project moves arms lt rootOf reached bitsWhere sumFrom add leashed ne squaredGap sub outOfReach pulled padded over finite movedInside shortened each toward div number rootExponent half nearRoot floorRoot scaled inward ontoDisc clamped
 taken-back = refl
 
 pub taken-back-dims : held-back .value .after .mask ≡ 0
-unfolding checkAction tripBits mul projection slowZone outOfBox dist project moves arms lt rootOf reached bitsWhere sumFrom add leashed ne squaredGap sub outOfReach pulled padded over finite boxed shortened each toward div number rootExponent half nearRoot floorRoot scaled inward clamped
+unfolding checkAction tripBits mul projection slowZone outOfWorkspace dist project moves arms lt rootOf reached bitsWhere sumFrom add leashed ne squaredGap sub outOfReach pulled padded over finite movedInside shortened each toward div number rootExponent half nearRoot floorRoot scaled inward ontoDisc clamped
 taken-back-dims = refl
 
 pub taken-back-walls : held-back .value .walls ≡ record { low = 0; high = 1 }
-unfolding checkAction rowMasks boxesRows arms wallMasks bitsWhere side lt
+unfolding checkAction rowMasks movesInside arms wallMasks bitsWhere side lt
 taken-back-walls = refl
+
+-- ---- a round table
+
+-- a disc of radius 1 round (0, 0), with a box of 0..1 on the third axis; rows of dim, each coordinate shared; a step of 1
+abbrev round : ℕ → ClampMode → ℕ → Checks
+round dim mode armed = checkingOn dim (list 0 None None) absent.Slow 1! dim mode armed 1! (record { shape = Disc +0 +0 1!; lo = replicate 8 +0; hi = replicate 8 1! })
+
+-- the first two coordinates, and zeros up to eight
+abbrev flat : Float → Float → List Float
+flat x y = x ∷ y ∷ replicate 6 +0
+
+-- an action of two coordinates from (0, 2), and from where it is
+abbrev from-afar : Float → Float → Checked Judgement
+from-afar x y = checkAction binary64 (round 2 Project (WORKSPACE + SPEED)) (+0 ∷ 2! ∷ []) [] (+0 ∷ 2! ∷ []) (x ∷ y ∷ [])
+
+abbrev at-rest : Float → Float → Checked Judgement
+at-rest x y = checkAction binary64 (round 2 Project (WORKSPACE + SPEED)) (x ∷ y ∷ []) [] (x ∷ y ∷ []) (x ∷ y ∷ [])
+
+-- (1, 0) is on the edge: it does not trip, and stays
+pub edge-not-tripped : at-rest 1! +0 .value .trips ≡ 0
+unfolding checkAction tripBits mul projection slowZone outOfWorkspace dist project moves arms lt rootOf reached bitsWhere sumFrom add leashed ne squaredGap sub outOfReach pulled padded over finite movedInside shortened each toward div number rootExponent half nearRoot floorRoot scaled inward ontoDisc outside pastEdge some
+edge-not-tripped = refl
+
+pub edge-stays : at-rest 1! +0 .value .after .rows ≡ flat 1! +0
+unfolding checkAction tripBits mul projection slowZone outOfWorkspace dist project moves arms lt rootOf reached bitsWhere sumFrom add leashed ne squaredGap sub outOfReach pulled padded over finite movedInside shortened each toward div number rootExponent half nearRoot floorRoot scaled inward ontoDisc outside pastEdge some
+edge-stays = refl
+
+-- 1 - 2^-36
+abbrev just-inside : Float
+just-inside = fin false 68719476735 (negsuc 35)
+
+-- (2, 0) is pulled to just inside the edge. What stands in the first two places of the walls is not looked at, and sets no bit
+pub pulled-onto-it : movedInside binary64 (round 2 Project WORKSPACE) (flat 2! +0) ≡ pure (flat just-inside +0)
+unfolding movedInside arms lt inward ontoDisc pulled shortened each toward dist sumFrom squaredGap add sub mul div rootOf number rootExponent half nearRoot floorRoot scaled over finite
+pulled-onto-it = refl
+
+pub no-wall-of-a-disc : rowMasks (round 2 Project WORKSPACE) (flat 2! +0) ≡ unmoved
+unfolding rowMasks movesInside arms wallMasks bitsWhere
+no-wall-of-a-disc = refl
+
+-- the third axis has its walls: 5 is lowered to 1, and has a bit
+pub pulled-and-lowered : movedInside binary64 (round 3 Project WORKSPACE) (2! ∷ +0 ∷ 5! ∷ replicate 5 +0) .value ≡ just-inside ∷ +0 ∷ 1! ∷ replicate 5 +0
+unfolding movedInside arms lt inward ontoDisc pulled shortened each toward dist sumFrom squaredGap add sub mul div rootOf number rootExponent half nearRoot floorRoot scaled over finite clamped
+pulled-and-lowered = refl
+
+pub third-axis-alone : rowMasks (round 3 Project WORKSPACE) (2! ∷ +0 ∷ 5! ∷ []) ≡ record { low = 0; high = 4 }
+unfolding rowMasks movesInside arms wallMasks bitsWhere side lt
+third-axis-alone = refl
+
+-- from (0, 2) it trips WORKSPACE and SPEED. The leash of 1 comes after the pull: it moves (1 - 2^-36, 0), and leaves the row past the edge
+pub tripped-past-it : from-afar 2! +0 .value .trips ≡ WORKSPACE + SPEED
+unfolding checkAction tripBits mul projection slowZone outOfWorkspace dist project moves arms lt rootOf reached bitsWhere sumFrom add leashed ne squaredGap sub outOfReach pulled padded over finite movedInside shortened each toward div number rootExponent half nearRoot floorRoot scaled inward ontoDisc outside pastEdge some
+tripped-past-it = refl
+
+pub leash-after-the-pull : from-afar 2! +0 .value .after .rows ≡ flat (fin false 2014070981995875 (negsuc 51)) (fin false 4979057290690625 (negsuc 51))
+unfolding checkAction tripBits mul projection slowZone outOfWorkspace dist project moves arms lt rootOf reached bitsWhere sumFrom add leashed ne squaredGap sub outOfReach pulled padded over finite movedInside shortened each toward div number rootExponent half nearRoot floorRoot scaled inward ontoDisc outside pastEdge some
+leash-after-the-pull = refl
+
+-- the other way round it would have been another row
+pub pull-after-the-leash : movedInside binary64 (round 2 Project WORKSPACE) (leashed binary64 (round 2 Project SPEED) clear (+0 ∷ 2! ∷ []) (flat 2! +0) .value) .value ≡ flat (fin false 8644055842330325 (negsuc 53)) (fin false 7902513085146663 (negsuc 52))
+unfolding movedInside leashed arms lt inward ontoDisc pulled shortened each toward dist sumFrom squaredGap add sub mul div rootOf number rootExponent half nearRoot floorRoot scaled over finite
+pull-after-the-leash = refl
+
+-- a distance that overflows is 13, also under ClampMode Off and where another row is outside already: (2, 0) and (2^600, 0); unarmed it is not computed
+pub each-row-measured : someOutOfWorkspace binary64 (round 2 Off WORKSPACE) (2! ∷ +0 ∷ fin false 1 (pos 600) ∷ +0 ∷ []) 2 .sound ≡ false
+unfolding someOutOfWorkspace someOf all outOfWorkspace outside pastEdge arms dist sumFrom squaredGap add sub mul rootOf number rootExponent half nearRoot floorRoot scaled padded over finite
+each-row-measured = refl
+
+pub not-measured-unarmed : someOutOfWorkspace binary64 (round 2 Off SPEED) (2! ∷ +0 ∷ fin false 1 (pos 600) ∷ +0 ∷ []) 2 ≡ pure false
+unfolding someOutOfWorkspace someOf all some outOfWorkspace arms
+not-measured-unarmed = refl
 
 -- ---- a zone that is not seen
 
 -- a zone of radius 1, whose centre is on channels 2 and 0; the control period is 2
 abbrev zonedAt : Float → AbsentCamera → ℕ → Checks
-zonedAt speed choice armed = checkingZones (list 1 (Zone 2 0 1! speed) None) choice 2! 1 Off armed 1! (record { lo = []; hi = [] })
+zonedAt speed choice armed = checkingZones (list 1 (Zone 2 0 1! speed) None) choice 2! 1 Off armed 1! no-walls
 
 -- its speed is 1.5, so that the step is 3
 abbrev zoned : AbsentCamera → ℕ → Checks
@@ -181,7 +262,7 @@ pub none-where-unarmed : slowZone binary64 (zoned absent.Slow SPEED) corner [] �
 unfolding slowZone arms
 none-where-unarmed = refl
 
-pub none-configured : slowZone binary64 (checking 1 Off CONTACT 1! (record { lo = []; hi = [] })) corner [] ≡ pure clear
+pub none-configured : slowZone binary64 (checking 1 Off CONTACT 1! no-walls) corner [] ≡ pure clear
 unfolding slowZone slowest arms zoneIn
 none-configured = refl
 
@@ -207,7 +288,7 @@ step-not-computed = refl
 
 -- two zones on channels of four, with the control period 2: one of radius 1 and speed 1.5 round (x, y), one of radius 2 and speed 0.5 round (z, w), where the message is x, y, z, w
 abbrev both : ℕ → Checks
-both count = checkingZones (list count (Zone 0 1 1! (fin false 3 (negsuc 0))) (Zone 2 3 2! (fin false 1 (negsuc 0)))) absent.Slow 2! 1 Off (CONTACT + SPEED) 2! (record { lo = []; hi = [] })
+both count = checkingZones (list count (Zone 0 1 1! (fin false 3 (negsuc 0))) (Zone 2 3 2! (fin false 1 (negsuc 0)))) absent.Slow 2! 1 Off (CONTACT + SPEED) 2! no-walls
 
 abbrev at-step : Float → Checked Slow
 at-step x = pure (record { inside = true; step = x })
@@ -217,7 +298,7 @@ pub inside-both : slowZone binary64 (both 2) corner (5! ∷ 5! ∷ 5! ∷ 5! ∷
 unfolding slowZone slowest arms zoneIn insideZone insideSeen zoneStep dist sumFrom squaredGap add sub mul rootOf number rootExponent half nearRoot floorRoot scaled le lt lesser finite
 inside-both = refl
 
-pub inside-both-swapped : slowZone binary64 (checkingZones (list 2 (Zone 2 3 2! (fin false 1 (negsuc 0))) (Zone 0 1 1! (fin false 3 (negsuc 0)))) absent.Slow 2! 1 Off CONTACT 1! (record { lo = []; hi = [] })) corner (5! ∷ 5! ∷ 5! ∷ 5! ∷ []) ≡ at-step 1!
+pub inside-both-swapped : slowZone binary64 (checkingZones (list 2 (Zone 2 3 2! (fin false 1 (negsuc 0))) (Zone 0 1 1! (fin false 3 (negsuc 0)))) absent.Slow 2! 1 Off CONTACT 1! no-walls) corner (5! ∷ 5! ∷ 5! ∷ 5! ∷ []) ≡ at-step 1!
 unfolding slowZone slowest arms zoneIn insideZone insideSeen zoneStep dist sumFrom squaredGap add sub mul rootOf number rootExponent half nearRoot floorRoot scaled le lt lesser finite
 inside-both-swapped = refl
 
@@ -246,16 +327,16 @@ unfolding slowZone slowest arms zoneIn insideZone insideSeen zoneStep dist sumFr
 each-distance-computed = refl
 
 -- nor for its step: speed 2^1023
-pub each-step-computed : slowZone binary64 (checkingZones (list 2 (Zone 0 1 1! (fin false 3 (negsuc 0))) (Zone 2 3 2! (fin false 1 (pos 1023)))) absent.Slow 2! 1 Off CONTACT 1! (record { lo = []; hi = [] })) corner (5! ∷ 5! ∷ 5! ∷ 5! ∷ []) .sound ≡ false
+pub each-step-computed : slowZone binary64 (checkingZones (list 2 (Zone 0 1 1! (fin false 3 (negsuc 0))) (Zone 2 3 2! (fin false 1 (pos 1023)))) absent.Slow 2! 1 Off CONTACT 1! no-walls) corner (5! ∷ 5! ∷ 5! ∷ 5! ∷ []) .sound ≡ false
 unfolding slowZone slowest arms zoneIn insideZone insideSeen zoneStep dist sumFrom squaredGap add sub mul rootOf number rootExponent half nearRoot floorRoot scaled le lt lesser finite
 each-step-computed = refl
 
 -- a place that counts and holds none is no zone
-pub empty-place-first : slowZone binary64 (checkingZones (list 2 None (Zone 2 3 2! (fin false 1 (negsuc 0)))) absent.Slow 2! 1 Off CONTACT 1! (record { lo = []; hi = [] })) corner [] ≡ at-step 1!
+pub empty-place-first : slowZone binary64 (checkingZones (list 2 None (Zone 2 3 2! (fin false 1 (negsuc 0)))) absent.Slow 2! 1 Off CONTACT 1! no-walls) corner [] ≡ at-step 1!
 unfolding slowZone slowest arms zoneIn insideZone zoneStep mul lesser finite
 empty-place-first = refl
 
-pub empty-place-last : slowZone binary64 (checkingZones (list 4 (Zone 2 3 2! (fin false 1 (negsuc 0))) None) absent.Slow 2! 1 Off CONTACT 1! (record { lo = []; hi = [] })) corner [] ≡ at-step 1!
+pub empty-place-last : slowZone binary64 (checkingZones (list 4 (Zone 2 3 2! (fin false 1 (negsuc 0))) None) absent.Slow 2! 1 Off CONTACT 1! no-walls) corner [] ≡ at-step 1!
 unfolding slowZone slowest arms zoneIn insideZone zoneStep mul lesser finite
 empty-place-last = refl
 

@@ -1,9 +1,11 @@
 // Tier 0: the geometric limits, on rows as they came, and the projection of each row inside them.
 ghost use mathlib.Core.Path.{_≡_};
+ghost use mathlib.Core.Bool.{true};
 ghost use Prim.Native.Nat.{_*_, _≤_, _<_};
 ghost use lib.ListN.{length};
 ghost use lib.Ieee.{binary64};
 ghost use Rattle.conformal.specs.Of.{tables};
+ghost use Rattle.workspace.specs.Shape.{spans};
 ghost use Rattle.tier0.specs.declared.Tier0Out.the-variants.{Passed};
 ghost use Rattle.tier0.specs.Rule.{checkAction};
 ghost use Rattle.tier0.specs.Chunk.{checkChunk};
@@ -15,8 +17,8 @@ use crate::projected::projected_rows;
 use crate::projected::projection;
 use crate::refusals::action_refusal;
 use crate::refusals::chunk_refusal;
-use crate::trips::out_of_box;
 use crate::trips::out_of_reach;
+use crate::trips::out_of_workspace;
 use crate::trips::step_rows;
 use crate::trips::too_large;
 use crate::trips::trip_bits;
@@ -32,8 +34,9 @@ use envelope::FuseConfig;
 use envelope::TripMask;
 use envelope::Zones;
 use refusal::Refusal;
+use workspace::Bounds;
+use workspace::Shape;
 use workspace::WallMasks;
-use workspace::Workspace;
 
 mod measure;
 mod projected;
@@ -69,7 +72,8 @@ pub struct Checks {
     pub inv_dt2: f64,
     pub inv_dt3: f64,
     pub step_max: f64,
-    pub walls: Workspace,
+    pub shape: Shape,
+    pub walls: Bounds,
 }
 
 // Whether the position is inside a slow zone, or one of some, and the least step that is then allowed. In each struct below, `sound` says that
@@ -135,6 +139,7 @@ fn checks_of(c: FuseConfig, d: Derived) -> Checks
     let zones = c.zones;
     let absent_camera = c.absent_camera;
     let clamp = c.clamp;
+    let shape = c.shape;
     let lo = d.box_lo;
     let hi = d.box_hi;
     Checks {
@@ -152,7 +157,8 @@ fn checks_of(c: FuseConfig, d: Derived) -> Checks
         inv_dt2: d.inv_dt2,
         inv_dt3: d.inv_dt3,
         step_max: d.step_max,
-        walls: Workspace { lo, hi },
+        shape,
+        walls: Bounds { lo, hi },
     }
 }
 
@@ -172,14 +178,14 @@ fn found(trips: u32, clamped_dims: u32, peak_speed: f64, walls: WallMasks) -> Ti
 
 // Trips on the action as it came, its speed, and its projection.
 fn judge_action(s: Checks, pos: &[f64], aux: &[f64], prev: &[f64], a: &[f64]) -> JudgedAction
-    requires { ⌜ (s .dim ≤ 8) × (s .dim ≤ length (now a)) ⌝ }
+    requires { ⌜ (s .dim ≤ 8) × (s .dim ≤ length (now a)) × (spans (s .shape) (s .dim) (s .«pos_dim») ≡ true) ⌝ }
     ensures { λ r. ⌜ r ≡ judgedActionFrom (checkAction binary64 s (now (pos .entry)) (now (aux .entry)) (now (prev .entry)) (now (a .entry))) ⌝ }
 {
     let z = slow_zone(s, pos, aux);
     let step = fmath::distance(a, prev, s.dim);
     let peak = step * s.inv_dt;
     let fine = fmath::finite(peak);
-    let out = out_of_box(s, a);
+    let out = out_of_workspace(s, a);
     let far = out_of_reach(s, pos, a);
     let raw = fmath::padded(a, s.dim);
     let speed = armed(s, TripMask::SPEED);
@@ -191,7 +197,8 @@ fn judge_action(s: Checks, pos: &[f64], aux: &[f64], prev: &[f64], a: &[f64]) ->
         far.holds,
         z.inside & (z.step < step),
     );
-    let p = projection(s, z, pos, prev, raw);
+    let inside = out.sound & !out.holds;
+    let p = projection(s, z, pos, inside, prev, raw);
     let at = p.at;
     let walls = row_masks(s, out.holds, a);
     JudgedAction {
@@ -265,7 +272,8 @@ fn judge_chunk(
         far.holds,
         z.inside & t.close,
     );
-    let p = projected_rows(s, z, pos, rows, q, h, out);
+    let inside = t.out.sound & !t.out.holds;
+    let p = projected_rows(s, z, pos, inside, rows, q, h, out);
     let rest = bent.sound & (jolted.sound & (far.sound & p.sound));
     let judged = t.sound & (fine & (t.out.sound & rest));
     let walls = rows_masks(s, t.out.holds, rows, h);

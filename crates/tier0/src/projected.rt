@@ -1,11 +1,13 @@
-// Projection: a row moved inside the box, to its leash and into reach; the rows of a chunk, each from the projected one before.
+// Projection: a row moved inside the workspace, to its leash and into reach; the rows of a chunk, each from the projected one before.
 ghost use mathlib.Core.Path.{_≡_};
+ghost use mathlib.Core.Bool.{true, false};
 ghost use Prim.Native.Nat.{_+_, _*_, _≤_};
 ghost use lib.ListN.{length};
 ghost use lib.Ieee.{binary64};
-ghost use Rattle.tier0.specs.Rule.{leash, boxed, leashed, reached, moves, movedDims, project, projection};
-ghost use Rattle.tier0.specs.Chunk.{putRow, runRows, projectedRows};
+ghost use Rattle.tier0.specs.Rule.{outOfWorkspace, leash, movedInside, leashed, reached, pulls, moves, movedDims, project, projection};
+ghost use Rattle.tier0.specs.Chunk.{someOutOfWorkspace, putRow, runRows, projectedRows};
 ghost use Rattle.tier0.specs.Of.{slowOf, clampedFrom, runFrom, movedRowsFrom};
+ghost use Rattle.checked.specs.Checked.{pure};
 ghost use Rattle.checked.specs.Of.{rowFrom};
 use crate::Checks;
 use crate::Clamped;
@@ -18,16 +20,19 @@ use checked::Row;
 use envelope::ClampMode;
 use envelope::TripMask;
 
-// The row inside the box, where WORKSPACE is armed.
-fn boxed(s: Checks, a: [f64; 8]) -> Row
-    ensures { λ r. ⌜ r ≡ rowFrom (boxed binary64 s a) ⌝ }
+// The row moved inside the workspace, where WORKSPACE is armed. Here and below, `inside` says that the check has found the row inside it, or each of the
+// rows: this move would leave it as it is, and is passed over.
+fn moved_inside(s: Checks, inside: bool, a: [f64; 8]) -> Row
+    requires { ⌜ (inside ≡ true → outOfWorkspace binary64 s a ≡ pure false) ⌝ }
+    ensures { λ r. ⌜ r ≡ rowFrom (movedInside binary64 s a) ⌝ }
 {
-    if !armed(s, TripMask::WORKSPACE) {
+    if inside | !armed(s, TripMask::WORKSPACE) {
         return Row { at: a, sound: true };
     }
+    let shape = s.shape;
     let walls = s.walls;
     let n = box_dims(s);
-    workspace::inward(walls, a, n)
+    workspace::inward(shape, walls, a, n)
 }
 
 // The least armed leash.
@@ -67,26 +72,21 @@ fn reached(s: Checks, pos: &[f64], a: [f64; 8]) -> Row
     pull::pulled(s.reach_max, pos, n, a)
 }
 
-// One row after the three moves; the reach pull is the first row's.
-fn moves(s: Checks, z: SlowZone, pos: &[f64], first: bool, prev: &[f64], a: [f64; 8]) -> Row
-    ensures { λ r. ⌜ r ≡ rowFrom (moves binary64 s (slowOf z) (now (pos .entry)) first (now (prev .entry)) a) ⌝ }
+// A row after its pulls: to its leash, and the first row into reach.
+fn pulls(s: Checks, z: SlowZone, pos: &[f64], first: bool, prev: &[f64], a: [f64; 8]) -> Row
+    ensures { λ r. ⌜ r ≡ rowFrom (pulls binary64 s (slowOf z) (now (pos .entry)) first (now (prev .entry)) a) ⌝ }
 {
-    let b = boxed(s, a);
-    let inside = b.at;
-    let l = leashed(s, z, prev, inside);
-    let near = l.at;
+    let l = leashed(s, z, prev, a);
     if first {
+        let near = l.at;
         let r = reached(s, pos, near);
         let at = r.at;
         return Row {
             at,
-            sound: b.sound & (l.sound & r.sound),
+            sound: l.sound & r.sound,
         };
     }
-    Row {
-        at: near,
-        sound: b.sound & l.sound,
-    }
+    l
 }
 
 // A bit for each coordinate that differs, as numbers.
@@ -106,23 +106,32 @@ fn moved_dims(a: &[f64; 8], b: &[f64; 8], n: usize) -> u32
 }
 
 // The action after the three moves, and the coordinates that they moved.
-fn project(s: Checks, z: SlowZone, pos: &[f64], prev: &[f64], a: [f64; 8]) -> Clamped
-    requires { ⌜ s .dim ≤ 8 ⌝ }
+fn project(s: Checks, z: SlowZone, pos: &[f64], inside: bool, prev: &[f64], a: [f64; 8]) -> Clamped
+    requires { ⌜ (s .dim ≤ 8) × (inside ≡ true → outOfWorkspace binary64 s a ≡ pure false) ⌝ }
     ensures { λ r. ⌜ r ≡ clampedFrom (project binary64 s (slowOf z) (now (pos .entry)) (now (prev .entry)) a) ⌝ }
 {
-    let r = moves(s, z, pos, true, prev, a);
+    let b = moved_inside(s, inside, a);
+    let inner = b.at;
+    let r = pulls(s, z, pos, true, prev, inner);
     let at = r.at;
     let mask = moved_dims(&a, &at, s.dim);
     Clamped {
         at,
         mask,
-        sound: r.sound,
+        sound: b.sound & r.sound,
     }
 }
 
 // The projection, or the action as it came under ClampMode Off.
-pub(crate) fn projection(s: Checks, z: SlowZone, pos: &[f64], prev: &[f64], a: [f64; 8]) -> Clamped
-    requires { ⌜ s .dim ≤ 8 ⌝ }
+pub(crate) fn projection(
+    s: Checks,
+    z: SlowZone,
+    pos: &[f64],
+    inside: bool,
+    prev: &[f64],
+    a: [f64; 8],
+) -> Clamped
+    requires { ⌜ (s .dim ≤ 8) × (inside ≡ true → outOfWorkspace binary64 s a ≡ pure false) ⌝ }
     ensures { λ r. ⌜ r ≡ clampedFrom (projection binary64 s (s .clamp) (slowOf z) (now (pos .entry)) (now (prev .entry)) a) ⌝ }
 {
     let mode = s.clamp;
@@ -132,7 +141,7 @@ pub(crate) fn projection(s: Checks, z: SlowZone, pos: &[f64], prev: &[f64], a: [
             mask: 0,
             sound: true,
         },
-        ClampMode::Project => project(s, z, pos, prev, a),
+        ClampMode::Project => project(s, z, pos, inside, prev, a),
     }
 }
 
@@ -149,10 +158,24 @@ fn put_row(r: [f64; 8], k: usize, n: usize, out: &mut [f64])
 }
 
 // A row after its moves, from the projected one before it.
-fn next_row(s: Checks, z: SlowZone, pos: &[f64], first: bool, q: [f64; 8], a: [f64; 8]) -> Row
+fn next_row(
+    s: Checks,
+    z: SlowZone,
+    pos: &[f64],
+    inside: bool,
+    first: bool,
+    q: [f64; 8],
+    a: [f64; 8],
+) -> Row
+    requires { ⌜ (inside ≡ true → outOfWorkspace binary64 s a ≡ pure false) ⌝ }
     ensures { λ r. ⌜ r ≡ rowFrom (moves binary64 s (slowOf z) (now (pos .entry)) first q a) ⌝ }
 {
-    moves(s, z, pos, first, &q, a)
+    let b = moved_inside(s, inside, a);
+    let inner = b.at;
+    let r = pulls(s, z, pos, first, &q, inner);
+    let at = r.at;
+    let sound = b.sound & r.sound;
+    Row { at, sound }
 }
 
 // The projected rows, each from the projected one before it; q0 stands before row 0.
@@ -160,12 +183,13 @@ fn run_rows(
     s: Checks,
     z: SlowZone,
     pos: &[f64],
+    inside: bool,
     rows: &[f64],
     q0: [f64; 8],
     h: usize,
     out: &mut [f64],
 ) -> MovedRows
-    requires { ⌜ (s .dim ≤ 8) × (h ≤ 64) × (h * s .dim ≤ length (now rows)) × (h * s .dim ≤ length (now out)) ⌝ }
+    requires { ⌜ (s .dim ≤ 8) × (h ≤ 64) × (h * s .dim ≤ length (now rows)) × (h * s .dim ≤ length (now out)) × (inside ≡ true → someOutOfWorkspace binary64 s (now rows) h ≡ pure false) ⌝ }
     ensures { λ r. ⌜ (r ≡ runFrom (runRows binary64 s (slowOf z) (now (pos .entry)) (now (rows .entry)) q0 (now (out .entry)) h)) × (now (out .exit) ≡ runRows binary64 s (slowOf z) (now (pos .entry)) (now (rows .entry)) q0 (now (out .entry)) h .value .out) ⌝ }
 {
     let n = s.dim;
@@ -175,7 +199,7 @@ fn run_rows(
     let mut i = 0usize;
     while i < h {
         let a = raw_row(rows, n, i);
-        let r = next_row(s, z, pos, i == 0, q, a);
+        let r = next_row(s, z, pos, inside, i == 0, q, a);
         let at = r.at;
         mask = mask | moved_dims(&a, &at, n);
         put_row(at, i * n, n, out);
@@ -191,12 +215,13 @@ pub(crate) fn projected_rows(
     s: Checks,
     z: SlowZone,
     pos: &[f64],
+    inside: bool,
     rows: &[f64],
     q: [f64; 8],
     h: usize,
     out: &mut [f64],
 ) -> MovedRows
-    requires { ⌜ (s .dim ≤ 8) × (h ≤ 64) × (h * s .dim ≤ length (now rows)) × (h * s .dim ≤ length (now out)) ⌝ }
+    requires { ⌜ (s .dim ≤ 8) × (h ≤ 64) × (h * s .dim ≤ length (now rows)) × (h * s .dim ≤ length (now out)) × (inside ≡ true → someOutOfWorkspace binary64 s (now rows) h ≡ pure false) ⌝ }
     ensures { λ r. ⌜ (r ≡ movedRowsFrom (projectedRows binary64 s (s .clamp) (slowOf z) (now (pos .entry)) (now (rows .entry)) q (now (out .entry)) h)) × (now (out .exit) ≡ projectedRows binary64 s (s .clamp) (slowOf z) (now (pos .entry)) (now (rows .entry)) q (now (out .entry)) h .value .rows) ⌝ }
 {
     let mode = s.clamp;
@@ -208,6 +233,6 @@ pub(crate) fn projected_rows(
                 sound: true,
             }
         }
-        ClampMode::Project => run_rows(s, z, pos, rows, q, h, out),
+        ClampMode::Project => run_rows(s, z, pos, inside, rows, q, h, out),
     }
 }

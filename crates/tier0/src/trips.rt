@@ -5,7 +5,7 @@ ghost use lib.ListN.{length, replicate};
 ghost use lib.Ieee.{binary64};
 ghost use Rattle.checked.specs.Checked.{each};
 ghost use Rattle.checked.specs.Finite.{+0};
-ghost use Rattle.tier0.specs.Rule.{outOfBox, outOfReach, tripBits};
+ghost use Rattle.tier0.specs.Rule.{outOfWorkspace, outOfReach, tripBits};
 ghost use Rattle.tier0.specs.Chunk.{bends, jolts, someOf, largeAt, further, tripOf, tooLarge};
 ghost use Rattle.tier0.specs.declared.Difference.the-variants.{Accel, Jerk};
 ghost use Rattle.checked.specs.Of.{rowFrom, testFrom};
@@ -21,9 +21,9 @@ use checked::Row;
 use checked::Test;
 use envelope::TripMask;
 
-// WORKSPACE, where it is armed.
-pub(crate) fn out_of_box(s: Checks, a: &[f64]) -> Test
-    ensures { λ r. ⌜ r ≡ testFrom (outOfBox binary64 s (now (a .entry))) ⌝ }
+// WORKSPACE, where it is armed: past the edge of a disc, or beyond a wall on a shared coordinate.
+pub(crate) fn out_of_workspace(s: Checks, a: &[f64]) -> Test
+    ensures { λ r. ⌜ r ≡ testFrom (outOfWorkspace binary64 s (now (a .entry))) ⌝ }
 {
     if !armed(s, TripMask::WORKSPACE) {
         return Test {
@@ -31,9 +31,10 @@ pub(crate) fn out_of_box(s: Checks, a: &[f64]) -> Test
             sound: true,
         };
     }
+    let shape = s.shape;
     let walls = s.walls;
     let n = box_dims(s);
-    workspace::outside(walls, a, n)
+    workspace::outside(shape, walls, a, n)
 }
 
 // REACH, where it is armed.
@@ -94,7 +95,7 @@ pub(crate) fn step_rows(s: Checks, slow: f64, q: [f64; 8], rows: &[f64], h: usiz
         peak = fmath::max(peak, n);
         fast = fast | (s.step_max < n);
         close = close | (slow < n);
-        let beyond = out_of_box(s, &a);
+        let beyond = out_of_workspace(s, &a);
         out = out | beyond.holds;
         told = told & beyond.sound;
         sound = sound & fmath::finite(n);

@@ -1,6 +1,6 @@
 // One action checked, for the desk to try: a record from standard input, one line to standard output.
 //
-// A record has 117 little-endian words: the 50 numbers and the 33 counts of a configuration, in the places of include/lictor.h; the
+// A record has 121 little-endian words: the 53 numbers and the 34 counts of a configuration, in the places of include/lictor.h; the
 // position, how many numbers it has and eight of them; the camera's, likewise; eight of the row before, and eight of the action. The line
 // is the refusal's number or, accepted, 0 with the trips, the moved coordinates, the peak speed and the projected row, whose numbers are
 // the sixteen hexadecimal digits of their bits, and the masks of the low and the high walls that moved it. The answer is that of
@@ -15,9 +15,9 @@ use libc::STDOUT_FILENO;
 use refusal::Refusal;
 use tier0::Tier0Out;
 
-type Words = [u64; 117];
+type Words = [u64; 121];
 
-type Numbers = [f64; 117];
+type Numbers = [f64; 121];
 
 // A record's words, and the numbers that they stand for.
 struct Record {
@@ -26,18 +26,18 @@ struct Record {
 }
 
 // Room for the bytes of a record.
-fn record_buffer() -> [u8; 936]
-    ensures { λ r. ⌜ 936 ≡ length r ⌝ }
+fn record_buffer() -> [u8; 968]
+    ensures { λ r. ⌜ 968 ≡ length r ⌝ }
 {
-    [0; 936]
+    [0; 968]
 }
 
 // The record that bytes stand for; a byte that is not there counts as 0.
 fn record_of(b: &[u8]) -> Record {
-    let mut words = [0; 117];
-    let mut numbers = [0.0; 117];
+    let mut words = [0; 121];
+    let mut numbers = [0.0; 121];
     let mut i = 0usize;
-    while i < 117 {
+    while i < 121 {
         let w = words::word(b, (8 * i) as u32);
         words[i] = w;
         numbers[i] = words::float_of(w);
@@ -49,24 +49,21 @@ fn record_of(b: &[u8]) -> Record {
 // The n numbers from word at on, or as many as there are.
 fn part(x: &Numbers, at: u16, n: u64) -> &[f64] {
     let all = &x[..];
-    let from = fmath::fewer(at as usize, 117);
-    let end = from + fmath::fewer(n as usize, 117 - from);
+    let from = fmath::fewer(at as usize, 121);
+    let end = from + fmath::fewer(n as usize, 121 - from);
     &all[from..end]
 }
 
 // The numbers of its configuration.
-fn config_numbers(x: &Numbers) -> [f64; 50] {
-    let mut n = [0.0; 50];
-    put(part(x, 0, 50), 50, &mut n);
+fn config_numbers(x: &Numbers) -> [f64; 53] {
+    let mut n = [0.0; 53];
+    put(part(x, 0, 53), 53, &mut n);
     n
 }
 
 // Its counts and codes.
-fn config_counts(w: &Words) -> [u64; 33] {
+fn config_counts(w: &Words) -> [u64; 34] {
     [
-        w[50],
-        w[51],
-        w[52],
         w[53],
         w[54],
         w[55],
@@ -97,6 +94,10 @@ fn config_counts(w: &Words) -> [u64; 33] {
         w[80],
         w[81],
         w[82],
+        w[83],
+        w[84],
+        w[85],
+        w[86],
     ]
 }
 
@@ -167,10 +168,10 @@ fn answer(w: &Words, x: &Numbers) -> bool {
     }
     let c: FuseConfig = layout::config::config_of(&n, &k);
     let t = unread();
-    let pos = part(x, 84, w[83]);
-    let aux = part(x, 93, w[92]);
-    let prev = part(x, 101, w[50]);
-    let act = part(x, 109, w[50]);
+    let pos = part(x, 88, w[87]);
+    let aux = part(x, 97, w[96]);
+    let prev = part(x, 105, w[53]);
+    let act = part(x, 113, w[53]);
     let mut out = [0.0; 8];
     let a = tier0::check_action(c, &t, &t, pos, aux, prev, act, &mut out);
     say_answer(a, &out)
@@ -188,7 +189,7 @@ fn main() {
         complain(b"tries: a read failed\n");
         return;
     }
-    if f.n < 936 {
+    if f.n < 968 {
         complain(b"tries: the input ends inside the record\n");
         return;
     }

@@ -18,15 +18,17 @@ use Rattle.bits.specs.Bits.{bit, bitsWhere}
 use Rattle.bits.specs.Choice.{if_then_else_}
 use Rattle.bits.proofs.Bits.{bit-where, no-bits, no-bit-past, bits-cut, bits-none, bits-or}
 use Rattle.checked.specs.Each.{at, some}
-use Rattle.checked.proofs.Each.{and-right, neither, over-at, some-none, some-none-at}
+use Rattle.checked.proofs.Each.{and-left, and-right, neither, some-none, some-none-at}
 use Rattle.checked.proofs.Ordered.{below-equal, above-equal}
 use Rattle.fmath.specs.declared.Sided.{Sided}
-use Rattle.fmath.specs.Clamp.{clamped, side, sided, raised, lowered}
+use Rattle.fmath.specs.Clamp.{side, sided, raised, lowered}
 use Rattle.fmath.proofs.Clamping.{side-read-back, raised-below, lowered-above, clamp-keeps, clamped-raised, clamped-lowered}
 use Rattle.workspace.specs.declared.WallMasks.{WallMasks}
+use Rattle.workspace.specs.Shape.{boxed}
 use Rattle.workspace.specs.Rule.{Walls, beyond, inward, raisedAt, loweredAt, wallMasks, anyMasks, unmoved}
-use Rattle.workspace.specs.Promises.{AxisTold, AxisOfAnyTold, MovedAsTold, Promised}
+use Rattle.workspace.specs.Promises.{AxisTold, AxisOfAnyTold, MovedAsTold}
 use Rattle.workspace.proofs.Gaps.{none-beyond}
+use Rattle.workspace.proofs.Inside.{inward-at}
 
 -- ---- the side, as a register holds it and a comparison reads it back
 
@@ -42,15 +44,16 @@ module _ (x lo hi : Float) {r : Sided} (e : r ≡ sided x lo hi) where
 
 -- ---- one axis
 
-above-or : (a b : Bool) → a || (not a && b) ≡ a || b
-above-or true b = refl
-above-or false b = refl
+either : (has l h : Bool) → (has && l) || (has && (not l && h)) ≡ has && (l || h)
+either false l h = refl
+either true true h = refl
+either true false h = refl
 
 -- a coordinate is moved exactly where it is beyond its walls
 pub moved-beyond : (w : Walls) (a : List Float) (j : ℕ) → raisedAt w a j || loweredAt w a j ≡ beyond w a j
 moved-beyond w a j =
     let x = at a j in
-    rw (raised-below x (at (w .lo) j) (at (w .hi) j), lowered-above x (at (w .lo) j) (at (w .hi) j)) (above-or (lt x (at (w .lo) j)) (lt (at (w .hi) j) x))
+    rw (raised-below x (at (w .lo) j) (at (w .hi) j), lowered-above x (at (w .lo) j) (at (w .hi) j)) (either (boxed (w .shape) j) (lt x (at (w .lo) j)) (lt (at (w .hi) j) x))
 
 -- so neither wall moves one that is inside
 pub unmoved-at : (w : Walls) (a : List Float) (j : ℕ) → beyond w a j ≡ false → (raisedAt w a j ≡ false) × (loweredAt w a j ≡ false)
@@ -98,14 +101,15 @@ masks-are w a n hl hh el eh =
 
 -- ---- what each bit tells
 
-not-both-sides : (a b : Bool) → a && (not a && b) ≡ false
-not-both-sides true b = refl
-not-both-sides false b = refl
+not-both-sides : (has l h : Bool) → (has && l) && (has && (not l && h)) ≡ false
+not-both-sides false l h = refl
+not-both-sides true true h = refl
+not-both-sides true false h = refl
 
 pub not-both-at : (w : Walls) (a : List Float) (j : ℕ) → raisedAt w a j && loweredAt w a j ≡ false
 not-both-at w a j =
     let x = at a j in
-    rw (raised-below x (at (w .lo) j) (at (w .hi) j), lowered-above x (at (w .lo) j) (at (w .hi) j)) (not-both-sides (lt x (at (w .lo) j)) (lt (at (w .hi) j) x))
+    rw (raised-below x (at (w .lo) j) (at (w .hi) j), lowered-above x (at (w .lo) j) (at (w .hi) j)) (not-both-sides (boxed (w .shape) j) (lt x (at (w .lo) j)) (lt (at (w .hi) j) x))
 
 module _ (w : Walls) (a : List Float) (n j : ℕ) (here : j < n) where
   low-is : bit (wallMasks w a n .low) j ≡ raisedAt w a j
@@ -116,7 +120,7 @@ module _ (w : Walls) (a : List Float) (n j : ℕ) (here : j < n) where
   unfolding wallMasks
   high-is = bit-where (loweredAt w a) n j here
 
-  axis-told : AxisTold w a j (wallMasks w a n)
+  pub axis-told : AxisTold w a j (wallMasks w a n)
   axis-told = record {
     low-bit = low-is;
     high-bit = high-is;
@@ -125,17 +129,16 @@ module _ (w : Walls) (a : List Float) (n j : ℕ) (here : j < n) where
     not-both = rw (low-is, high-is) (not-both-at w a j);
   }
 
-  moved-as-told : (f : Format) → j < length a → MovedAsTold f w a n j
-  unfolding inward
-  moved-as-told f there =
-      let at-j = over-at (λ (i : ℕ). clamped (at a i) (at (w .lo) i) (at (w .hi) i)) a n j here there in
+  pub moved-as-told : (f : Format) → j < length a → boxed (w .shape) j ≡ true → MovedAsTold f w a n j
+  moved-as-told f there bx =
+      let at-j = inward-at f w a n j here there bx in
       record {
-        low = λ e. at-j ∙ clamped-raised (at a j) (at (w .lo) j) (at (w .hi) j) (sym low-is ∙ e);
-        high = λ e. at-j ∙ clamped-lowered (at a j) (at (w .lo) j) (at (w .hi) j) (sym high-is ∙ e);
-        neither = λ l h. let t = neither (lt (at a j) (at (w .lo) j)) (lt (at (w .hi) j) (at a j)) (axis-told .clear-only l h) in at-j ∙ clamp-keeps (at a j) (at (w .lo) j) (at (w .hi) j) (t .0) (t .1);
+        low = λ e. at-j ∙ clamped-raised (at a j) (at (w .lo) j) (at (w .hi) j) (and-right (boxed (w .shape) j) (raised (at a j) (at (w .lo) j) (at (w .hi) j)) (sym low-is ∙ e));
+        high = λ e. at-j ∙ clamped-lowered (at a j) (at (w .lo) j) (at (w .hi) j) (and-right (boxed (w .shape) j) (lowered (at a j) (at (w .lo) j) (at (w .hi) j)) (sym high-is ∙ e));
+        neither = λ l h. let t = neither (lt (at a j) (at (w .lo) j)) (lt (at (w .hi) j) (at a j)) (rw bx at (axis-told .clear-only l h)) in at-j ∙ clamp-keeps (at a j) (at (w .lo) j) (at (w .hi) j) (t .0) (t .1);
       }
 
--- a coordinate that a wall moves is another number afterwards, and so is every y that equals it as a number
+-- a coordinate that a wall moves has a box and is another number afterwards, and so is every y that equals it as a number
 module _ (f : Format) (w : Walls) (a : List Float) (n j : ℕ) (here : j < n) (there : j < length a) (y : Float) (same : eq y (at (inward f w a n .value) j) ≡ true) where
   abbrev x : Float
   x = at a j
@@ -143,14 +146,16 @@ module _ (f : Format) (w : Walls) (a : List Float) (n j : ℕ) (here : j < n) (t
   raised-differs : raisedAt w a j ≡ true → ne x y ≡ true
   unfolding ne
   raised-differs e =
-      let at-wall = rw (moved-as-told w a n j here f there .low (low-is w a n j here ∙ e)) at same in
-      ap not (below-equal x y (at (w .lo) j) at-wall (sym (raised-below x (at (w .lo) j) (at (w .hi) j)) ∙ e))
+      let up = raised x (at (w .lo) j) (at (w .hi) j) in
+      let at-wall = rw (moved-as-told w a n j here f there (and-left (boxed (w .shape) j) up e) .low (low-is w a n j here ∙ e)) at same in
+      ap not (below-equal x y (at (w .lo) j) at-wall (sym (raised-below x (at (w .lo) j) (at (w .hi) j)) ∙ and-right (boxed (w .shape) j) up e))
 
   lowered-differs : loweredAt w a j ≡ true → ne x y ≡ true
   unfolding ne
   lowered-differs e =
-      let at-wall = rw (moved-as-told w a n j here f there .high (high-is w a n j here ∙ e)) at same in
-      let above = and-right (not (lt x (at (w .lo) j))) (lt (at (w .hi) j) x) (sym (lowered-above x (at (w .lo) j) (at (w .hi) j)) ∙ e) in
+      let down = lowered x (at (w .lo) j) (at (w .hi) j) in
+      let at-wall = rw (moved-as-told w a n j here f there (and-left (boxed (w .shape) j) down e) .high (high-is w a n j here ∙ e)) at same in
+      let above = and-right (not (lt x (at (w .lo) j))) (lt (at (w .hi) j) x) (sym (lowered-above x (at (w .lo) j) (at (w .hi) j)) ∙ and-right (boxed (w .shape) j) down e) in
       ap not (above-equal x y (at (w .hi) j) at-wall above)
 
   pub moved-differs : raisedAt w a j || loweredAt w a j ≡ true → ne x y ≡ true
@@ -175,7 +180,7 @@ module _ (w : Walls) (a : ℕ → List Float) (h n j : ℕ) (here : j < n) where
   unfolding anyMasks
   any-high-is = bit-where (λ (k : ℕ). some (λ (i : ℕ). loweredAt w (a i) k) h) n j here
 
-  axis-of-any-told : AxisOfAnyTold w a h j (anyMasks w a h n)
+  pub axis-of-any-told : AxisOfAnyTold w a h j (anyMasks w a h n)
   axis-of-any-told = record {
     low-bit = any-low-is;
     high-bit = any-high-is;
@@ -193,14 +198,3 @@ never-both true w a n j = go (decLe n j)
     go : Dec (n ≤ j) → bit (wallMasks w a n .low) j && bit (wallMasks w a n .high) j ≡ false
     go (yes l) = rw (no-bit-past (raisedAt w a) n j l)
     go (no l) = axis-told w a n j (lt-of-not-le l) .not-both
-
-pub promised : Promised
-unfolding wallMasks anyMasks some
-promised = record {
-  axis-told = axis-told;
-  axis-of-any-told = axis-of-any-told;
-  moved-as-told = λ f w a n j here. moved-as-told w a n j here f;
-  no-bit-past = λ w a n j h. (no-bit-past (raisedAt w a) n j h, no-bit-past (loweredAt w a) n j h);
-  no-bit-of-any-past = λ w a k n j h. (no-bit-past (λ (j : ℕ). some (λ (i : ℕ). raisedAt w (a i) j) k) n j h, no-bit-past (λ (j : ℕ). some (λ (i : ℕ). loweredAt w (a i) j) k) n j h);
-  any-of-one = λ w a n. refl;
-}

@@ -48,7 +48,7 @@ of-requires-2 c κs = search needs
 
 returns-2 : tie.Need-returns-2
 unfolding brakeAnswer brakeOutput
-returns-2 c = let g = c .before .before .before .before .before .before .before .before .before .before .before .before .before .args in let w = row-unsound binary64 (g .c) (tables (now (g .center)) (now (g .scale))) (now (g .out)) (either (c .before .before .before .before .before .before .before .before .all-finite .ensures) (c .before .before .before .before .before .before .before .all-finite2 .ensures)) (brakeSent binary64 (g .c) (now (g .pos)) (now (g .vel))) (sent.Done (masksSent binary64 (g .c) (now (g .pos)))) (brake-judged binary64 (g .c) (now (g .pos)) (now (g .vel)) (tables (now (g .center)) (now (g .scale))) (length (now (g .out)))) (sym (c .before .before .before .before .before .before .row-refusal .ensures _ (compiled-number (c .before .before .before .before .before .before .before .before .before .compile .ensures))) ∙ c .before .before .before .before .before .if1 .left) (brake-is-sent binary64 (g .c) (now (g .pos)) (now (g .vel)) (c .before .before .before .before .workspace-of .ensures ∙ ap workspaceFrom (compiled-derived (c .before .before .before .before .before .before .before .before .before .compile .ensures))) (c .before .before .before .brake-row .ensures)) (not-true _ (c .before .if2 .taken)) (c .of2 .ensures) in (w .gives, w .leaves)
+returns-2 c = let g = c .before .before .before .before .before .before .before .before .before .before .before .before .before .args in let w = row-unsound binary64 (g .c) (tables (now (g .center)) (now (g .scale))) (now (g .out)) (either (c .before .before .before .before .before .before .before .before .all-finite .ensures) (c .before .before .before .before .before .before .before .all-finite2 .ensures)) (brakeSent binary64 (g .c) (now (g .pos)) (now (g .vel))) (sent.Done (masksSent binary64 (g .c) (now (g .pos)))) (brake-judged binary64 (g .c) (now (g .pos)) (now (g .vel)) (tables (now (g .center)) (now (g .scale))) (length (now (g .out)))) (sym (c .before .before .before .before .before .before .row-refusal .ensures _ (compiled-number (c .before .before .before .before .before .before .before .before .before .compile .ensures))) ∙ c .before .before .before .before .before .if1 .left) (brake-is-sent binary64 (g .c) (now (g .pos)) (now (g .vel)) (c .before .before .before .before .workspace-of .ensures ∙ ap (workspaceFrom (g .c .shape)) (compiled-derived (c .before .before .before .before .before .before .before .before .before .compile .ensures))) (c .before .before .before .brake-row .ensures)) (not-true _ (c .before .if2 .taken)) (c .of2 .ensures) in (w .gives, w .leaves)
 
 slice-aggregate-put : tie.Need-slice-aggregate-put
 slice-aggregate-put c = search needs
@@ -68,7 +68,7 @@ long c = search needs
 
 returns-3 : tie.Need-returns-3
 unfolding brakeAnswer brakeOutput
-returns-3 c = let g = c .before .before .before .before .before .before .before .before .before .before .before .before .before .before .before .before .before .before .before .args in let walls = c .before .before .before .before .before .before .before .before .before .before .workspace-of .ensures ∙ ap workspaceFrom (compiled-derived (c .before .before .before .before .before .before .before .before .before .before .before .before .before .before .before .compile .ensures)) in let w = row-done binary64 (g .c) (tables (now (g .center)) (now (g .scale))) (now (g .out)) (either (c .before .before .before .before .before .before .before .before .before .before .before .before .before .before .all-finite .ensures) (c .before .before .before .before .before .before .before .before .before .before .before .before .before .all-finite2 .ensures)) (brakeSent binary64 (g .c) (now (g .pos)) (now (g .vel))) (sent.Done (masksSent binary64 (g .c) (now (g .pos)))) (brake-judged binary64 (g .c) (now (g .pos)) (now (g .vel)) (tables (now (g .center)) (now (g .scale))) (length (now (g .out)))) (sym (c .before .before .before .before .before .before .before .before .before .before .before .before .row-refusal .ensures _ (compiled-number (c .before .before .before .before .before .before .before .before .before .before .before .before .before .before .before .compile .ensures))) ∙ c .before .before .before .before .before .before .before .before .before .before .before .if1 .left) (brake-is-sent binary64 (g .c) (now (g .pos)) (now (g .vel)) walls (c .before .before .before .before .before .before .before .before .before .brake-row .ensures)) (not-false _ (c .before .before .before .before .before .before .before .if2 .left)) (long (c .before .before .before)) (c .before .before .before .put .ensures) (masks-are-sent binary64 (g .c) (now (g .pos)) walls (c .sent-masks .ensures)) in (w .gives, w .leaves)
+returns-3 c = let g = c .before .before .before .before .before .before .before .before .before .before .before .before .before .before .before .before .before .before .before .args in let walls = c .before .before .before .before .before .before .before .before .before .before .workspace-of .ensures ∙ ap (workspaceFrom (g .c .shape)) (compiled-derived (c .before .before .before .before .before .before .before .before .before .before .before .before .before .before .before .compile .ensures)) in let w = row-done binary64 (g .c) (tables (now (g .center)) (now (g .scale))) (now (g .out)) (either (c .before .before .before .before .before .before .before .before .before .before .before .before .before .before .all-finite .ensures) (c .before .before .before .before .before .before .before .before .before .before .before .before .before .all-finite2 .ensures)) (brakeSent binary64 (g .c) (now (g .pos)) (now (g .vel))) (sent.Done (masksSent binary64 (g .c) (now (g .pos)))) (brake-judged binary64 (g .c) (now (g .pos)) (now (g .vel)) (tables (now (g .center)) (now (g .scale))) (length (now (g .out)))) (sym (c .before .before .before .before .before .before .before .before .before .before .before .before .row-refusal .ensures _ (compiled-number (c .before .before .before .before .before .before .before .before .before .before .before .before .before .before .before .compile .ensures))) ∙ c .before .before .before .before .before .before .before .before .before .before .before .if1 .left) (brake-is-sent binary64 (g .c) (now (g .pos)) (now (g .vel)) walls (c .before .before .before .before .before .before .before .before .before .brake-row .ensures)) (not-false _ (c .before .before .before .before .before .before .before .if2 .left)) (long (c .before .before .before)) (c .before .before .before .put .ensures) (masks-are-sent binary64 (g .c) (now (g .pos)) walls (c .sent-masks .ensures)) in (w .gives, w .leaves)
 
 pub brake-action-spec : {M : Type 1} → statement M
 brake-action-spec =

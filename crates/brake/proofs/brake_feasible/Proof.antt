@@ -32,7 +32,7 @@ forecast-requires c κs =
     let g = r .before .before .before .before .before .before .args in
     let e = sym (r .forecast-refusal .ensures _ (compiled-number (r .before .compile .ensures))) ∙ c .before .before .if1 .left in (
       planned binary64 (g .c) (tables (now (g .center)) (now (g .scale))) (now (g .pos)) (now (g .vel)) (now (g .rows)) (g .header) (g .from) (length (now (g .slack))) e,
-      c .before .workspace-of .ensures ∙ ap workspaceFrom (compiled-derived (r .before .compile .ensures)),
+      c .before .workspace-of .ensures ∙ ap (workspaceFrom (g .c .shape)) (compiled-derived (r .before .compile .ensures)),
     )
 
 same-length : tie.Need-same-length

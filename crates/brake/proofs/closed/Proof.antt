@@ -1,6 +1,6 @@
 -- `brake::closed` meets its contract: the run is the forecast's, and so is the stop distance where the run is sound.
 use mathlib.Core.Path.{_≡_, sym, ap, _∙_}
-use mathlib.Core.Bool.{true}
+use mathlib.Core.Bool.{true, false≢true}
 use borrow.Author.Needs.{needs}
 use denote.Ref.{now}
 use lib.Ieee.{binary64}
@@ -12,6 +12,7 @@ use Rattle.checked.specs.Of.{reckonedFrom}
 use Rattle.stopping.specs.Rule.{Task, reaction, stand, stopDistance, forecast}
 use Rattle.stopping.specs.Of.{taskOf}
 use Rattle.course.proofs.Leading.{leading-whole}
+use Rattle.brake.specs.Of.{Settles}
 use Rattle.brake.proofs.Outcome.{done-few}
 use Rattle.brake.proofs.closed.Statement.{statement}
 use Rattle.brake.proofs.closed.Tie as tie
@@ -32,7 +33,7 @@ settled-requires : tie.Need-settled-requires
 settled-requires c κs =
     let r = c .before .before .before .before in
     let s = r .before .before .before .before in
-    done-few (forecast binary64 (task s)) (stand binary64 (task s)) (r .closed-form .result) (runs r) (s .pre .1)
+    done-few (forecast binary64 (task s)) (ap (λ (x : Run). x .done) (runs r)) (s .pre .1)
 
 -- where the run is sound it ends where the forecast does
 stops : (c : tie.After-stop-distance) → c .before .before .before .before .closed-form .result .sound ≡ true
@@ -53,7 +54,15 @@ returns : tie.Need-returns
 returns c =
     let r = c .before .before .before .before .before in
     let s = r .before .before .before .before in
-    (c .settled .ensures (forecast binary64 (task s)) (stand binary64 (task s)) (runs r) (stops (c .before)), rw (s .pre .0) at (r .closed-form .ensures .1))
+    let q = runs r in
+    let settles : Settles (forecast binary64 (task s)) (r .closed-form .result) (c .before .stop-distance .result) = record {
+      written = ap (λ (x : Run). x .done) q;
+      least = ap (λ (x : Run). x .margin) q;
+      whole = λ h. sym (ap (λ (x : Run). x .sound) q) ∙ h;
+      stops = stops (c .before);
+      unsound = λ h w. absurd (false≢true (sym h ∙ ap (λ (x : Run). x .sound) q ∙ w));
+    } in
+    (c .settled .ensures (forecast binary64 (task s)) settles, rw (s .pre .0) at (r .closed-form .ensures .1))
 
 pub closed-spec : {M : Type 1} → statement M
 closed-spec =

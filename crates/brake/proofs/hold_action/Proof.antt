@@ -42,7 +42,7 @@ of-requires-2 c κs = search needs
 
 returns-2 : tie.Need-returns-2
 unfolding holdAnswer holdOutput
-returns-2 c = let g = c .before .before .before .before .before .before .before .before .before .before .before .args in let w = row-unsound binary64 (g .c) (tables (now (g .center)) (now (g .scale))) (now (g .out)) (ap not (c .before .before .before .before .before .before .before .all-finite .ensures)) (holdSent binary64 (g .c) (now (g .pos))) (sent.Done (masksSent binary64 (g .c) (now (g .pos)))) (hold-judged binary64 (g .c) (now (g .pos)) (tables (now (g .center)) (now (g .scale))) (length (now (g .out)))) (sym (c .before .before .before .before .before .before .row-refusal .ensures _ (compiled-number (c .before .before .before .before .before .before .before .before .compile .ensures))) ∙ c .before .before .before .before .before .if1 .left) (hold-is-sent binary64 (g .c) (now (g .pos)) (c .before .before .before .before .workspace-of .ensures ∙ ap workspaceFrom (compiled-derived (c .before .before .before .before .before .before .before .before .compile .ensures))) (c .before .before .before .hold-row .ensures)) (not-true _ (c .before .if2 .taken)) (c .of2 .ensures) in (w .gives, w .leaves)
+returns-2 c = let g = c .before .before .before .before .before .before .before .before .before .before .before .args in let w = row-unsound binary64 (g .c) (tables (now (g .center)) (now (g .scale))) (now (g .out)) (ap not (c .before .before .before .before .before .before .before .all-finite .ensures)) (holdSent binary64 (g .c) (now (g .pos))) (sent.Done (masksSent binary64 (g .c) (now (g .pos)))) (hold-judged binary64 (g .c) (now (g .pos)) (tables (now (g .center)) (now (g .scale))) (length (now (g .out)))) (sym (c .before .before .before .before .before .before .row-refusal .ensures _ (compiled-number (c .before .before .before .before .before .before .before .before .compile .ensures))) ∙ c .before .before .before .before .before .if1 .left) (hold-is-sent binary64 (g .c) (now (g .pos)) (c .before .before .before .before .workspace-of .ensures ∙ ap (workspaceFrom (g .c .shape)) (compiled-derived (c .before .before .before .before .before .before .before .before .compile .ensures))) (c .before .before .before .hold-row .ensures)) (not-true _ (c .before .if2 .taken)) (c .of2 .ensures) in (w .gives, w .leaves)
 
 slice-aggregate-put : tie.Need-slice-aggregate-put
 slice-aggregate-put c = search needs
@@ -62,7 +62,7 @@ long c = search needs
 
 returns-3 : tie.Need-returns-3
 unfolding holdAnswer holdOutput
-returns-3 c = let g = c .before .before .before .before .before .before .before .before .before .before .before .before .before .before .before .before .before .args in let walls = c .before .before .before .before .before .before .before .before .before .before .workspace-of .ensures ∙ ap workspaceFrom (compiled-derived (c .before .before .before .before .before .before .before .before .before .before .before .before .before .before .compile .ensures)) in let w = row-done binary64 (g .c) (tables (now (g .center)) (now (g .scale))) (now (g .out)) (ap not (c .before .before .before .before .before .before .before .before .before .before .before .before .before .all-finite .ensures)) (holdSent binary64 (g .c) (now (g .pos))) (sent.Done (masksSent binary64 (g .c) (now (g .pos)))) (hold-judged binary64 (g .c) (now (g .pos)) (tables (now (g .center)) (now (g .scale))) (length (now (g .out)))) (sym (c .before .before .before .before .before .before .before .before .before .before .before .before .row-refusal .ensures _ (compiled-number (c .before .before .before .before .before .before .before .before .before .before .before .before .before .before .compile .ensures))) ∙ c .before .before .before .before .before .before .before .before .before .before .before .if1 .left) (hold-is-sent binary64 (g .c) (now (g .pos)) walls (c .before .before .before .before .before .before .before .before .before .hold-row .ensures)) (not-false _ (c .before .before .before .before .before .before .before .if2 .left)) (long (c .before .before .before)) (c .before .before .before .put .ensures) (masks-are-sent binary64 (g .c) (now (g .pos)) walls (c .sent-masks .ensures)) in (w .gives, w .leaves)
+returns-3 c = let g = c .before .before .before .before .before .before .before .before .before .before .before .before .before .before .before .before .before .args in let walls = c .before .before .before .before .before .before .before .before .before .before .workspace-of .ensures ∙ ap (workspaceFrom (g .c .shape)) (compiled-derived (c .before .before .before .before .before .before .before .before .before .before .before .before .before .before .compile .ensures)) in let w = row-done binary64 (g .c) (tables (now (g .center)) (now (g .scale))) (now (g .out)) (ap not (c .before .before .before .before .before .before .before .before .before .before .before .before .before .all-finite .ensures)) (holdSent binary64 (g .c) (now (g .pos))) (sent.Done (masksSent binary64 (g .c) (now (g .pos)))) (hold-judged binary64 (g .c) (now (g .pos)) (tables (now (g .center)) (now (g .scale))) (length (now (g .out)))) (sym (c .before .before .before .before .before .before .before .before .before .before .before .before .row-refusal .ensures _ (compiled-number (c .before .before .before .before .before .before .before .before .before .before .before .before .before .before .compile .ensures))) ∙ c .before .before .before .before .before .before .before .before .before .before .before .if1 .left) (hold-is-sent binary64 (g .c) (now (g .pos)) walls (c .before .before .before .before .before .before .before .before .before .hold-row .ensures)) (not-false _ (c .before .before .before .before .before .before .before .if2 .left)) (long (c .before .before .before)) (c .before .before .before .put .ensures) (masks-are-sent binary64 (g .c) (now (g .pos)) walls (c .sent-masks .ensures)) in (w .gives, w .leaves)
 
 pub hold-action-spec : {M : Type 1} → statement M
 hold-action-spec =

@@ -6,15 +6,15 @@ use Rattle.envelope.specs.Refusals.{boxOk}
 use Rattle.envelope.proofs.box_ok.Statement.{statement}
 use Rattle.envelope.proofs.box_ok.Tie as tie
 
-all-finite-requires : tie.Need-all-finite-requires
-all-finite-requires c κs = search needs
+walls-finite-requires : tie.Need-walls-finite-requires
+walls-finite-requires c κs = search needs
 
-all-finite-requires-2 : tie.Need-all-finite-requires-2
-all-finite-requires-2 c κs = search needs
+walls-finite-requires-2 : tie.Need-walls-finite-requires-2
+walls-finite-requires-2 c κs = search needs
 
 returns : tie.Need-returns
 unfolding boxOk every
-returns c = (c .before .before .before .before .all-finite .ensures) &&≡ (c .all-finite2 .ensures)
+returns c = (c .before .walls-finite .ensures) &&≡ (c .walls-finite2 .ensures)
 
 pub box-ok-spec : {M : Type 1} → statement M
-box-ok-spec = tie.close (tie.spec all-finite-requires all-finite-requires-2 returns)
+box-ok-spec = tie.close (tie.spec walls-finite-requires walls-finite-requires-2 returns)

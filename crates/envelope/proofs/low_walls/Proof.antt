@@ -1,22 +1,28 @@
--- `envelope::low_walls` meets its contract: the loop fills the table from the front.
+-- `envelope::low_walls` meets its contract: the loop fills the table from the front, with the walls of axes that have a box.
 use Prim.Native.Nat.{ℕ, _≤_, _-_}
-use mathlib.Core.Path.{_≡_, refl}
+use mathlib.Core.Path.{_≡_, refl, _∙_}
+use mathlib.Core.Bool.{_&&_}
 use native.Mathlib.Omega.{arith}
 use borrow.Author.Needs.{needs}
-use lib.Dec.{ltb}
+use denote.Ref.{now}
+use lib.Dec.{leb, ltb}
 use lib.ListN.{length, take, length-set}
 use lib.Ieee.{binary64, add}
 use Rattle.checked.specs.Each.{at, table}
 use Rattle.checked.proofs.Each.{table-more, table-all}
 use Rattle.envelope.specs.Derive.{kept, lowWalls}
+use Rattle.envelope.proofs.Walls.{walls-kept}
 use Rattle.envelope.proofs.low_walls.Statement.{statement}
 use Rattle.envelope.proofs.low_walls.Tie as tie
 
 abbrev Inv-loop : tie.InvT-loop
-Inv-loop lo margin n walls₀ i₀ walls i = (i ≤ 8) × ((length walls ≡ 8) × (take i walls ≡ table (λ (k : ℕ). kept (ltb k n) (add binary64 (at lo k) margin)) i))
+Inv-loop lo margin n first walls₀ i₀ walls i = (i ≤ 8) × ((length walls ≡ 8) × (take i walls ≡ table (λ (k : ℕ). kept (leb first k && ltb k n) (add binary64 (at lo k) margin)) i))
 
 abbrev μ-loop : tie.MeasureT-loop
-μ-loop lo margin n walls₀ i₀ walls i = 8 - i
+μ-loop lo margin n first walls₀ i₀ walls i = 8 - i
+
+first-boxed-requires : tie.Need-first-boxed-requires Inv-loop μ-loop
+first-boxed-requires c κs = search needs
 
 loop-holds : tie.Need-loop-holds Inv-loop μ-loop
 unfolding table
@@ -48,7 +54,9 @@ loop-again c = let l = c .before .before .before .loop in (omega arith, (simp le
 
 returns : tie.Need-returns Inv-loop μ-loop
 unfolding lowWalls
-returns c = table-all _ _ _ _ (omega arith) (c .before .loop .inv .1 .0) (c .before .loop .inv .1 .1)
+returns c =
+    let s = c .before .before .before .args in
+    table-all _ _ _ _ (omega arith) (c .before .loop .inv .1 .0) (c .before .loop .inv .1 .1) ∙ walls-kept (s .shape) (c .before .before .first-boxed .ensures) (s .n) (λ (k : ℕ). add binary64 (at (now (s .lo)) k) (s .margin))
 
 pub low-walls-spec : {M : Type 1} → statement M
 low-walls-spec =
@@ -56,6 +64,7 @@ low-walls-spec =
     (tie.spec
     Inv-loop
     μ-loop
+    first-boxed-requires
     loop-holds
     mul-keep
     element-copy-out-keep

@@ -18,6 +18,9 @@ zones-ok-requires c κs = search needs
 norm-ok-requires : tie.Need-norm-ok-requires
 norm-ok-requires c κs = search needs
 
+shape-ok-requires : tie.Need-shape-ok-requires
+shape-ok-requires c κs = search needs
+
 box-ok-requires : tie.Need-box-ok-requires
 box-ok-requires c κs = search needs
 
@@ -30,9 +33,10 @@ calibration-ok-requires c κs = search needs
 returns : tie.Need-returns
 unfolding numbersFrom every
 returns c =
-    let n = c .before .before .before in
+    let n = c .before .before .before .before in
     let l = n .before .before .before in
     (l .limits-ok .ensures) &&≡ (n .before .before .brake-ok .ensures) &&≡ (n .before .zones-ok .ensures) &&≡ (n .norm-ok .ensures)
+    &&≡ (c .before .before .before .shape-ok .ensures)
     &&≡ (c .before .before .box-ok .ensures)
     &&≡ (c .before .derived-ok .ensures)
     &&≡ (c .calibration-ok .ensures)
@@ -45,6 +49,7 @@ numbers-ok-spec =
     brake-ok-requires
     zones-ok-requires
     norm-ok-requires
+    shape-ok-requires
     box-ok-requires
     derived-ok-requires
     calibration-ok-requires

@@ -101,7 +101,7 @@ returns-2 c =
           (wide-fails binary64 t l (k + i .s) (i .moved) (s .args .run .plant) (s .args .n) (i .margin) (i .at) (i .slack) (s .args .g) (s .args .w) (now (s .args .a)) (c .before .before .before .before .before .before .before .before .before .before .padded .result) u
           (i .inv .comes t l k u h go)
           (towards-next binary64 t l k (s .args .count) (i .s) (now (s .args .a)) (first (s .args .run .plant) (s .args .run .margin) (s .args .run .done)) (running (i .moved) (s .args .run .plant) (s .args .n) (i .margin) (i .at)) (now (s .args .slack)) (i .slack) h go (i .inv .comes t l k u h go) (omega arith))
-          (s .pre .0) (i .inv .places) (i .inv .rates) (long s .0) (long s .1) (taken-in (s .args .n) (now (s .args .a)) (s .pre .0) (s .pre .1) (c .before .before .before .before .before .before .before .before .before .before .padded .ensures)) (c .before .before .before .before .before .substep .result) (c .before .before .before .before .before .substep .ensures) (c .before .before .before .slack-abreast .result) (c .before .before .before .slack-abreast .ensures) (not-true _ (c .before .if2 .taken)))
+          (s .pre .0) (s .pre .3) (i .inv .places) (i .inv .rates) (long s .0) (long s .1) (taken-in (s .args .n) (now (s .args .a)) (s .pre .0) (s .pre .1) (c .before .before .before .before .before .before .before .before .before .before .padded .ensures)) (c .before .before .before .before .before .substep .result) (c .before .before .before .before .before .substep .ensures) (c .before .before .before .slack-abreast .result) (c .before .before .before .slack-abreast .ensures) (not-true _ (c .before .if2 .taken)))
           (s .args .count - i .s - 1)),
     )
 
@@ -144,7 +144,7 @@ loop-again c =
           (wide-advances binary64 t l (k + i .s) (i .moved) (s .args .run .plant) (s .args .n) (i .margin) (i .at) (i .slack) (s .args .g) (s .args .w) (now (s .args .a)) (c .before .before .before .before .before .before .before .before .before .before .padded .result) u
           (i .inv .comes t l k u h go)
           (towards-next binary64 t l k (s .args .count) (i .s) (now (s .args .a)) (first (s .args .run .plant) (s .args .run .margin) (s .args .run .done)) (running (i .moved) (s .args .run .plant) (s .args .n) (i .margin) (i .at)) (now (s .args .slack)) (i .slack) h go (i .inv .comes t l k u h go) (omega arith))
-          (s .pre .0) (i .inv .places) (i .inv .rates) (long s .0) (long s .1) (taken-in (s .args .n) (now (s .args .a)) (s .pre .0) (s .pre .1) (c .before .before .before .before .before .before .before .before .before .before .padded .ensures)) (c .before .before .before .before .before .substep .result) (c .before .before .before .before .before .substep .ensures) (c .before .before .before .slack-abreast .result) (c .before .before .before .slack-abreast .ensures) (not-false _ (c .before .if2 .left)) _ (c .min .ensures));
+          (s .pre .0) (s .pre .3) (i .inv .places) (i .inv .rates) (long s .0) (long s .1) (taken-in (s .args .n) (now (s .args .a)) (s .pre .0) (s .pre .1) (c .before .before .before .before .before .before .before .before .before .before .padded .ensures)) (c .before .before .before .before .before .substep .result) (c .before .before .before .before .before .substep .ensures) (c .before .before .before .slack-abreast .result) (c .before .before .before .slack-abreast .ensures) (not-false _ (c .before .if2 .left)) _ (c .min .ensures));
     }
 
 ended-requires-2 : tie.Need-ended-requires-2 Inv-loop μ-loop

@@ -8,6 +8,7 @@ use borrow.Author.Needs.{needs}
 use denote.Ref.{now}
 use lib.ListN.{length}
 use lib.Ieee.{Float, binary64}
+use Rattle.checked.specs.Checked.{pure}
 use Rattle.course.specs.declared.Course.{Course}
 use Rattle.course.specs.declared.Run.{Run}
 use Rattle.workspace.specs.declared.Workspace.{Workspace}
@@ -72,7 +73,7 @@ hold-requires c κs =
     let q = shape-of _ _ (s .pre .0) in
     let long : length (now (c .before .action .result)) ≡ s .args .c .dim =
     ap length (c .before .action .ensures) ∙ row-long (now (s .args .rows)) (s .args .c .horizon) (s .args .c .dim) (s .args .c .from + i .i) (q .rowed) (q .there) in
-    (q .axes, omega (arith, long, q .within), omega (arith, i .inv .written, i .inv .rows-left, i .inv .same, row-within (i .i) (leftOf (s .args .c) .0) (s .args .c .per .0) (omega (arith, i .inv .rows-left)), s .pre .1))
+    (q .axes, omega (arith, long, q .within), omega (arith, i .inv .written, i .inv .rows-left, i .inv .same, row-within (i .i) (leftOf (s .args .c) .0) (s .args .c .per .0) (omega (arith, i .inv .rows-left)), s .pre .1), s .pre .2)
 
 add-i : tie.Need-add-i Inv-loop μ-loop
 add-i c = omega arith
@@ -98,7 +99,7 @@ loop-again c =
           let t = taskOf (s .args .g) (s .args .w) (s .args .c) q (now (s .args .rows)) in
           along-at (forecast binary64 t) (after binary64 t) l ((i .i + 1) * per) (call .result) _ (i .i * per + per) (sym (row-more (i .i) per))
           (call .ensures .1 t l (i .i * per) (record { gains = refl; walls = refl; live = refl }) (i .inv .comes q l h)
-          (λ _ j b. aims-row binary64 t (i .i) j (still c) b ∙ sym (c .before .before .before .before .action .ensures)));
+          (λ _ j b. aims-row binary64 t (i .i) j (still c) b ∙ ap pure (sym (c .before .before .before .before .action .ensures))));
     }
 
 same-length : tie.Need-same-length Inv-loop μ-loop

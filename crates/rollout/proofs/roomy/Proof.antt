@@ -29,7 +29,7 @@ cast-result c = search needs
 returns : tie.Need-returns
 unfolding shaped roomy every
 returns c =
-    rw (c .before .before .before .before .before .before .before .substeps-in .ensures, c .before .before .before .before .before .before .before .before .rows-left .ensures)
+    rw (c .before .before .before .before .before .before .before .before .substeps-in .ensures, c .before .before .before .before .before .before .before .before .before .rows-left .ensures)
 
 pub roomy-spec : {M : Type 1} → statement M
 roomy-spec = tie.close (tie.spec rows-left-requires substeps-in-requires cast-shape cast-shape-2 mul-shape cast-result returns)

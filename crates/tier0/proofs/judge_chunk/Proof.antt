@@ -4,6 +4,7 @@ use native.Mathlib.Omega.{arith}
 use Rattle.chunk.proofs.Rows.{row-fits}
 use lib.Ieee.{binary64}
 use Rattle.tier0.specs.declared.Stride.{Stride}
+use Rattle.tier0.proofs.Stays.{found-inside}
 use Rattle.tier0.proofs.Rows.{judge-chunk-is, first-fits}
 use borrow.Author.Needs.{needs}
 use Rattle.tier0.proofs.judge_chunk.Statement.{statement}
@@ -43,16 +44,16 @@ trip-bits-requires : tie.Need-trip-bits-requires
 trip-bits-requires c κs = search needs
 
 projected-rows-requires : tie.Need-projected-rows-requires
-projected-rows-requires c κs = let w = c .before .before .before .before .before .before .before .before .before .before .before .before .before .before .before .before .before .before .before .before .before .pre in (w .0, w .3, w .4, w .5)
+projected-rows-requires c κs = let w = c .before .before .before .before .before .before .before .before .before .before .before .before .before .before .before .before .before .before .before .before .before .before .before .pre in (w .0, w .3, w .4, w .5, λ k. found-inside _ (ap (λ (t : Stride). t .out) (c .before .before .before .before .before .before .before .before .before .before .before .before .before .before .before .before .step-rows .ensures)) k)
 
 rows-masks-requires : tie.Need-rows-masks-requires
-rows-masks-requires c κs = let w = c .before .before .before .before .before .before .before .before .before .before .before .before .before .before .before .before .before .before .before .before .before .before .before .before .before .before .before .before .before .before .pre in (w .0, w .3, w .4, ap (λ (t : Stride). t .out .holds) (c .before .before .before .before .before .before .before .before .before .before .before .before .before .before .before .before .before .before .before .before .before .before .before .step-rows .ensures))
+rows-masks-requires c κs = let w = c .before .before .before .before .before .before .before .before .before .before .before .before .before .before .before .before .before .before .before .before .before .before .before .before .before .before .before .before .before .before .before .before .pre in (w .0, w .3, w .4, ap (λ (t : Stride). t .out .holds) (c .before .before .before .before .before .before .before .before .before .before .before .before .before .before .before .before .before .before .before .before .before .before .before .before .before .step-rows .ensures))
 
 same-length : tie.Need-same-length
 same-length c = search needs
 
 returns : tie.Need-returns
-returns c = judge-chunk-is binary64 _ _ _ _ _ _ (c .before .before .before .before .before .before .before .before .before .before .before .before .before .before .before .before .before .before .before .before .before .before .before .before .before .before .before .slow-zone .ensures) (c .before .before .before .before .before .before .before .before .before .before .before .before .before .before .before .before .before .before .before .before .before .before .before .before .before .before .start-row .ensures) (c .before .before .before .before .before .before .before .before .before .before .before .before .before .before .before .before .before .before .before .before .before .before .before .before .before .step-rows .ensures) (c .before .before .before .before .before .before .before .before .before .before .before .before .before .before .before .before .before .before .before .before .before .before .finite .ensures) (c .before .before .before .before .before .before .before .before .before .before .before .before .before .before .before .before .before .before .before .before .before .too-large .ensures) (c .before .before .before .before .before .before .before .before .before .before .before .before .before .before .before .before .before .before .before .before .too-large2 .ensures) (c .before .before .before .before .before .before .before .before .before .before .before .before .before .before .before .before .before .before .before .raw-row .ensures) (c .before .before .before .before .before .before .before .before .before .before .before .before .before .before .before .before .before .out-of-reach .ensures) (c .before .before .before .before .before .before .before .before .before .before .before .before .before .before .before .before .armed .ensures) (c .before .before .before .before .before .before .before .before .before .before .before .before .trip-bits .ensures) (c .before .before .before .before .before .before .before .before .before .before .projected-rows .ensures) (c .before .rows-masks .ensures)
+returns c = judge-chunk-is binary64 _ _ _ _ _ _ (c .before .before .before .before .before .before .before .before .before .before .before .before .before .before .before .before .before .before .before .before .before .before .before .before .before .before .before .before .before .slow-zone .ensures) (c .before .before .before .before .before .before .before .before .before .before .before .before .before .before .before .before .before .before .before .before .before .before .before .before .before .before .before .before .start-row .ensures) (c .before .before .before .before .before .before .before .before .before .before .before .before .before .before .before .before .before .before .before .before .before .before .before .before .before .before .before .step-rows .ensures) (c .before .before .before .before .before .before .before .before .before .before .before .before .before .before .before .before .before .before .before .before .before .before .before .before .finite .ensures) (c .before .before .before .before .before .before .before .before .before .before .before .before .before .before .before .before .before .before .before .before .before .before .before .too-large .ensures) (c .before .before .before .before .before .before .before .before .before .before .before .before .before .before .before .before .before .before .before .before .before .before .too-large2 .ensures) (c .before .before .before .before .before .before .before .before .before .before .before .before .before .before .before .before .before .before .before .before .before .raw-row .ensures) (c .before .before .before .before .before .before .before .before .before .before .before .before .before .before .before .before .before .before .before .out-of-reach .ensures) (c .before .before .before .before .before .before .before .before .before .before .before .before .before .before .before .before .before .before .armed .ensures) (c .before .before .before .before .before .before .before .before .before .before .before .before .before .before .trip-bits .ensures) (c .before .before .before .before .before .before .before .before .before .before .projected-rows .ensures) (c .before .rows-masks .ensures)
 
 pub judge-chunk-spec : {M : Type 1} → statement M
 judge-chunk-spec =

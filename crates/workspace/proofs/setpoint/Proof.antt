@@ -15,7 +15,7 @@ inward-requires c κs = search needs
 
 returns : tie.Need-returns
 unfolding setpoint
-returns c = rw (c .inward .ensures, eight-is (now (c .before .before .before .args .pos)) 8 (omega arith) (c .before .padded .ensures))
+returns c = rw (c .inward .ensures, eight-is (now (c .before .before .before .before .before .args .pos)) 8 (omega arith) (c .before .padded .ensures))
 
 pub setpoint-spec : {M : Type 1} → statement M
 setpoint-spec = tie.close (tie.spec padded-requires inward-requires returns)

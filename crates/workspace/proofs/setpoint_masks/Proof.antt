@@ -18,7 +18,7 @@ wall-masks-requires c κs = search needs
 
 returns : tie.Need-returns
 unfolding setpointMasks
-returns c = rw (c .wall-masks .ensures, eight-is (now (c .before .before .before .before .args .pos)) 8 (omega arith) (c .before .before .padded .ensures))
+returns c = rw (c .wall-masks .ensures, eight-is (now (c .before .before .before .before .before .before .args .pos)) 8 (omega arith) (c .before .before .padded .ensures))
 
 pub setpoint-masks-spec : {M : Type 1} → statement M
 setpoint-masks-spec = tie.close (tie.spec padded-requires slice-aggregate-wall-masks wall-masks-requires returns)

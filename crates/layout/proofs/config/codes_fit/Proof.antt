@@ -21,6 +21,9 @@ element-copy-out-result-4 c = search needs
 element-copy-out-result-5 : tie.Need-element-copy-out-result-5
 element-copy-out-result-5 c = search needs
 
+element-copy-out-result-6 : tie.Need-element-copy-out-result-6
+element-copy-out-result-6 c = search needs
+
 returns : tie.Need-returns
 unfolding codesFit every every-from
 returns c = refl
@@ -34,4 +37,5 @@ codes-fit-spec =
     element-copy-out-result-3
     element-copy-out-result-4
     element-copy-out-result-5
+    element-copy-out-result-6
     returns)

@@ -20,6 +20,21 @@ norm-of-requires c κs = search needs
 walls-of-requires : tie.Need-walls-of-requires
 walls-of-requires c κs = search needs
 
+element-copy-out-shape-of : tie.Need-element-copy-out-shape-of
+element-copy-out-shape-of c = search needs
+
+element-copy-out-shape-of-2 : tie.Need-element-copy-out-shape-of-2
+element-copy-out-shape-of-2 c = search needs
+
+element-copy-out-shape-of-3 : tie.Need-element-copy-out-shape-of-3
+element-copy-out-shape-of-3 c = search needs
+
+element-copy-out-shape-of-4 : tie.Need-element-copy-out-shape-of-4
+element-copy-out-shape-of-4 c = search needs
+
+shape-of-requires : tie.Need-shape-of-requires
+shape-of-requires c κs = search needs
+
 zones-of-requires : tie.Need-zones-of-requires
 zones-of-requires c κs = search needs
 
@@ -53,26 +68,41 @@ element-copy-out-absent-camera-of c = search needs
 absent-camera-of-requires : tie.Need-absent-camera-of-requires
 absent-camera-of-requires c κs = search needs
 
-element-copy-out-t16 : tie.Need-element-copy-out-t16
-element-copy-out-t16 c = search needs
+element-copy-out-t17 : tie.Need-element-copy-out-t17
+element-copy-out-t17 c = search needs
 
-element-copy-out-t30 : tie.Need-element-copy-out-t30
-element-copy-out-t30 c = search needs
+element-copy-out-t42 : tie.Need-element-copy-out-t42
+element-copy-out-t42 c = search needs
 
-element-copy-out-t34 : tie.Need-element-copy-out-t34
-element-copy-out-t34 c = search needs
+element-copy-out-t46 : tie.Need-element-copy-out-t46
+element-copy-out-t46 c = search needs
 
-element-copy-out-t38 : tie.Need-element-copy-out-t38
-element-copy-out-t38 c = search needs
+element-copy-out-t50 : tie.Need-element-copy-out-t50
+element-copy-out-t50 c = search needs
 
 returns : tie.Need-returns
 returns c =
     let a = c .before .before .before .before in
     let l = a .before .before .before .before in
     let b = l .before .before .before .before .before in
-    let k = b .before .before .before .before .before in
+    let w = b .before .before .before .before .before .before .before in
+    let k = w .before .before .before in
     let s = k .before .before .args in
-    whole-config (now (s .n)) (now (s .c)) (k .kind-of .ensures) (b .before .before .before .before .limits-of .ensures) (b .before .before .before .norm-of .ensures) (b .before .before .walls-of .ensures) (b .before .zones-of .ensures) (b .brake-of .ensures) (l .before .before .before .clamp-of .ensures) (l .before .to-u32 .ensures) (l .calibration-of .ensures) (a .before .before .to-u322 .ensures) (a .absent-camera-of .ensures)
+    whole-config
+    (now (s .n))
+    (now (s .c))
+    (k .kind-of .ensures)
+    (w .before .before .limits-of .ensures)
+    (w .before .norm-of .ensures)
+    (w .walls-of .ensures)
+    (b .before .before .shape-of .ensures)
+    (b .before .zones-of .ensures)
+    (b .brake-of .ensures)
+    (l .before .before .before .clamp-of .ensures)
+    (l .before .to-u32 .ensures)
+    (l .calibration-of .ensures)
+    (a .before .before .to-u322 .ensures)
+    (a .absent-camera-of .ensures)
 
 pub config-of-spec : {M : Type 1} → statement M
 config-of-spec =
@@ -83,6 +113,11 @@ config-of-spec =
     limits-of-requires
     norm-of-requires
     walls-of-requires
+    element-copy-out-shape-of
+    element-copy-out-shape-of-2
+    element-copy-out-shape-of-3
+    element-copy-out-shape-of-4
+    shape-of-requires
     zones-of-requires
     brake-of-requires
     element-copy-out-clamp-of
@@ -94,8 +129,8 @@ config-of-spec =
     to-u32-requires-2
     element-copy-out-absent-camera-of
     absent-camera-of-requires
-    element-copy-out-t16
-    element-copy-out-t30
-    element-copy-out-t34
-    element-copy-out-t38
+    element-copy-out-t17
+    element-copy-out-t42
+    element-copy-out-t46
+    element-copy-out-t50
     returns)

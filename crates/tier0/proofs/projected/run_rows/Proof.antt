@@ -7,17 +7,19 @@ use borrow.Author.Needs.{needs}
 use lib.ListN.{length}
 use lib.Ieee.{binary64}
 use Rattle.chunk.proofs.Rows.{row-fits, size-small}
+use Rattle.tier0.specs.Rule.{outOfWorkspace}
 use Rattle.tier0.specs.Chunk.{runRows}
 use Rattle.tier0.specs.Of.{slowOf}
+use Rattle.tier0.proofs.Stays.{each-inside}
 use Rattle.tier0.proofs.Rows.{Kept, begun, row-turn, ran, length-put}
 use Rattle.tier0.proofs.projected.run_rows.Statement.{statement}
 use Rattle.tier0.proofs.projected.run_rows.Tie as tie
 
 abbrev Inv-loop : tie.InvT-loop
-Inv-loop s z pos rows h out₀ n q₀ mask₀ sound₀ i₀ out q mask sound i = (i ≤ h) × ((length out ≡ length out₀) × Kept (runRows binary64 s (slowOf z) pos rows q₀ out₀ i) q out mask sound)
+Inv-loop s z pos inside rows h out₀ n q₀ mask₀ sound₀ i₀ out q mask sound i = (i ≤ h) × ((length out ≡ length out₀) × Kept (runRows binary64 s (slowOf z) pos rows q₀ out₀ i) q out mask sound)
 
 abbrev μ-loop : tie.MeasureT-loop
-μ-loop s z pos rows h out₀ n q₀ mask₀ sound₀ i₀ out q mask sound i = h - i
+μ-loop s z pos inside rows h out₀ n q₀ mask₀ sound₀ i₀ out q mask sound i = h - i
 
 loop-holds : tie.Need-loop-holds Inv-loop μ-loop
 loop-holds c = (search needs, (refl, begun binary64 _ _ _ _ _ _))
@@ -26,7 +28,7 @@ raw-row-requires : tie.Need-raw-row-requires Inv-loop μ-loop
 raw-row-requires c κs = let g = c .before .before .before .before .before in (g .pre .0, omega (arith, c .loop-test .taken, g .pre .1), row-fits _ _ _ _ (c .loop-test .taken) (g .pre .2))
 
 next-row-requires : tie.Need-next-row-requires Inv-loop μ-loop
-next-row-requires c κs = search needs
+next-row-requires c κs = let w = c .before .before .before .before .before .before in λ h. ap (outOfWorkspace binary64 _) (c .raw-row .ensures) ∙ each-inside binary64 _ _ _ (w .pre .4 h) _ (c .before .loop-test .taken)
 
 moved-dims-requires : tie.Need-moved-dims-requires Inv-loop μ-loop
 moved-dims-requires c κs = c .before .before .before .before .before .before .before .before .before .before .pre .0

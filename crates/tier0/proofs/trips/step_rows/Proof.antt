@@ -37,11 +37,11 @@ distance-requires c κs = search needs
 max-requires : tie.Need-max-requires Inv-loop μ-loop
 max-requires c κs = search needs
 
-slice-aggregate-out-of-box : tie.Need-slice-aggregate-out-of-box Inv-loop μ-loop
-slice-aggregate-out-of-box c = search needs
+slice-aggregate-out-of-workspace : tie.Need-slice-aggregate-out-of-workspace Inv-loop μ-loop
+slice-aggregate-out-of-workspace c = search needs
 
-out-of-box-requires : tie.Need-out-of-box-requires Inv-loop μ-loop
-out-of-box-requires c κs = search needs
+out-of-workspace-requires : tie.Need-out-of-workspace-requires Inv-loop μ-loop
+out-of-workspace-requires c κs = search needs
 
 finite-requires : tie.Need-finite-requires Inv-loop μ-loop
 finite-requires c κs = search needs
@@ -53,7 +53,7 @@ loop-less : tie.Need-loop-less Inv-loop μ-loop
 loop-less c = search needs
 
 loop-again : tie.Need-loop-again Inv-loop μ-loop
-loop-again c = let l = c .before .before .before .before .before .before .before .before .before .before .before .before .before .loop in (omega (arith, c .before .before .before .before .before .before .before .before .before .before .before .before .loop-test .taken), (l .inv .1 .0, stride binary64 _ _ _ _ _ _ _ _ _ _ _ (l .inv .1 .1) (c .before .before .before .before .before .before .before .before .before .before .before .raw-row .ensures) (c .before .before .before .before .before .before .before .before .before .before .row-before .ensures) (c .before .before .before .before .before .before .before .distance .ensures) (c .before .before .before .before .before .before .max .ensures) (c .before .before .before .out-of-box .ensures) (c .finite .ensures)))
+loop-again c = let l = c .before .before .before .before .before .before .before .before .before .before .before .before .before .loop in (omega (arith, c .before .before .before .before .before .before .before .before .before .before .before .before .loop-test .taken), (l .inv .1 .0, stride binary64 _ _ _ _ _ _ _ _ _ _ _ (l .inv .1 .1) (c .before .before .before .before .before .before .before .before .before .before .before .raw-row .ensures) (c .before .before .before .before .before .before .before .before .before .before .row-before .ensures) (c .before .before .before .before .before .before .before .distance .ensures) (c .before .before .before .before .before .before .max .ensures) (c .before .before .before .out-of-workspace .ensures) (c .finite .ensures)))
 
 returns : tie.Need-returns Inv-loop μ-loop
 returns c = let l = c .before .loop in let g = c .before .before .before .args in strides-are binary64 (g .s) (g .slow) _ _ (le-antisymm (l .inv .0) (c .loop-test .left)) (l .inv .1 .1)
@@ -71,8 +71,8 @@ step-rows-spec =
     slice-aggregate-distance-2
     distance-requires
     max-requires
-    slice-aggregate-out-of-box
-    out-of-box-requires
+    slice-aggregate-out-of-workspace
+    out-of-workspace-requires
     finite-requires
     add-i
     loop-less

@@ -6,7 +6,7 @@ use native.Mathlib.Omega.{arith}
 use borrow.Author.Needs.{needs}
 use Rattle.chunk.proofs.Rows.{row-fits}
 use Rattle.workspace.specs.declared.WallMasks.{WallMasks}
-use Rattle.workspace.specs.Of.{wallsOf}
+use Rattle.workspace.specs.Of.{wallsIn}
 use Rattle.workspace.specs.Rule.{anyMasks}
 use Rattle.workspace.proofs.Masks.{none-looked-at, one-more}
 use Rattle.tier0.specs.Chunk.{rawRow}
@@ -14,10 +14,10 @@ use Rattle.tier0.proofs.walls.any_masks.Statement.{statement}
 use Rattle.tier0.proofs.walls.any_masks.Tie as tie
 
 abbrev Inv-loop : tie.InvT-loop
-Inv-loop s rows h walls n low₀ high₀ i₀ low high i = (i ≤ h) × (_≡_ {A = WallMasks} (record { low = low; high = high }) (anyMasks (wallsOf walls) (rawRow rows (s .dim)) i n))
+Inv-loop s rows h shape walls n low₀ high₀ i₀ low high i = (i ≤ h) × (_≡_ {A = WallMasks} (record { low = low; high = high }) (anyMasks (wallsIn shape walls) (rawRow rows (s .dim)) i n))
 
 abbrev μ-loop : tie.MeasureT-loop
-μ-loop s rows h walls n low₀ high₀ i₀ low high i = h - i
+μ-loop s rows h shape walls n low₀ high₀ i₀ low high i = h - i
 
 box-dims-requires : tie.Need-box-dims-requires Inv-loop μ-loop
 box-dims-requires c κs = search needs

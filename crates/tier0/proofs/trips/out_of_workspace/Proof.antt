@@ -1,10 +1,10 @@
--- `tier0::trips::out_of_box` meets its contract, armed or not.
+-- `tier0::trips::out_of_workspace` meets its contract, armed or not.
 use borrow.Author.Tests.{not-true, not-false}
 use lib.Ieee.{binary64}
 use Rattle.tier0.proofs.Steps.{out-off, out-on}
 use borrow.Author.Needs.{needs}
-use Rattle.tier0.proofs.trips.out_of_box.Statement.{statement}
-use Rattle.tier0.proofs.trips.out_of_box.Tie as tie
+use Rattle.tier0.proofs.trips.out_of_workspace.Statement.{statement}
+use Rattle.tier0.proofs.trips.out_of_workspace.Tie as tie
 
 armed-requires : tie.Need-armed-requires
 armed-requires c κs = search needs
@@ -21,5 +21,5 @@ outside-requires c κs = search needs
 returns-2 : tie.Need-returns-2
 returns-2 c = out-on binary64 _ _ (c .before .before .before .before .armed .ensures) (not-false _ (c .before .before .before .if1 .left)) (c .before .box-dims .ensures) (c .outside .ensures)
 
-pub out-of-box-spec : {M : Type 1} → statement M
-out-of-box-spec = tie.close (tie.spec armed-requires returns box-dims-requires outside-requires returns-2)
+pub out-of-workspace-spec : {M : Type 1} → statement M
+out-of-workspace-spec = tie.close (tie.spec armed-requires returns box-dims-requires outside-requires returns-2)
