@@ -1,5 +1,5 @@
 /* One control tick of a packing arm over a table: from the position that was measured and the chunk that was planned to the
-   row that goes to the motors. bindings/rust/examples/tick.rs is the same in Rust. */
+   row that goes to the motors; and a row of the same arm over a turntable. bindings/rust/examples/tick.rs is the same in Rust. */
 #include "lictor.h"
 
 #include <math.h>
@@ -103,6 +103,27 @@ static uint64_t tick(struct guard *g, const struct measured *m, const char **dee
     return LICTOR_ACCEPTED;
 }
 
+/* The same arm over a turntable, whose edge is 0.75 from its middle, without the trays; its height keeps its walls. Follows a row to (x, y), or
+   brakes where it is beyond the edge. Gives the number of a refusal. */
+static uint64_t turntable(const struct guard *g, double x, double y) {
+    struct lictor_config config = g->config;
+    struct lictor_check_marks found;
+    struct lictor_wall_marks walls;
+    const double pos[AXES] = {0.25, 0.25, 0.0}, vel[AXES] = {0.0, 0.0, 0.0}, planned[AXES] = {x, y, 0.0};
+    const char *deed = "follow";
+    double row[AXES], speed;
+    uint64_t number;
+    config.counts.shape = LICTOR_DISC, config.numbers.disc_x = config.numbers.disc_y = 0.0, config.numbers.disc_radius = 0.75;
+    config.counts.contact = 0;
+    if ((number = lictor_guard_check_action(&config, pos, AXES, NULL, 0, pos, AXES, planned, AXES, row, AXES, &found, &speed))) return number;
+    if (found.trips & LICTOR_TRIP_WORKSPACE) {
+        deed = "beyond the edge, brake";
+        if ((number = lictor_guard_brake_action(&config, pos, AXES, vel, AXES, row, AXES, &walls))) return number;
+    }
+    printf("turntable: %s %g %g %g\n", deed, row[0], row[1], row[2]);
+    return LICTOR_ACCEPTED;
+}
+
 /* Says why a call was refused, and gives its number. */
 static uint64_t refused(const char *what, uint64_t number) {
     if (number) fprintf(stderr, "%s: refused with %u, %s\n", what, (unsigned)number, lictor_refusal_text(number));
@@ -144,5 +165,7 @@ int main(void) {
             printf("tick %u: refused with %u, hold %g %g %g\n", (unsigned)t, (unsigned)number, row[0], row[1], row[2]);
         }
     }
+    /* both rows are between the walls, and the second is 0.79 from the middle */
+    if (refused("the turntable", turntable(&g, 0.5, 0.5)) || refused("the turntable", turntable(&g, 0.75, 0.25))) return 1;
     return 0;
 }

@@ -36,10 +36,10 @@
 /* ---- the version of this file, and so of the archive that it was installed with */
 
 #define LICTOR_VERSION_MAJOR 0
-#define LICTOR_VERSION_MINOR 6
+#define LICTOR_VERSION_MINOR 7
 #define LICTOR_VERSION_PATCH 0
-#define LICTOR_VERSION "0.6.0"
-/* for comparisons: LICTOR_VERSION_NUMBER >= 600 is 0.6.0 or later */
+#define LICTOR_VERSION "0.7.0"
+/* for comparisons: LICTOR_VERSION_NUMBER >= 700 is 0.7.0 or later */
 #define LICTOR_VERSION_NUMBER (LICTOR_VERSION_MAJOR * 10000 + LICTOR_VERSION_MINOR * 100 + LICTOR_VERSION_PATCH)
 
 /* ---- what a compiler is told: a result that is dropped and a null pointer are mistakes */
@@ -71,9 +71,10 @@ extern "C" {
    refused as the table has it (65536 substeps with LICTOR_STEPS, a trail's head of 256 with LICTOR_SIZE), and with LICTOR_MISFIT
    where the table has nothing against it; a zone's two channels are judged by themselves in this, so that a pair that its fields cannot
    hold, with nothing against it alone, is LICTOR_MISFIT also where another zone has the same pair. What is not there is not judged: a term
-   past n_terms, the numbers and channels of a zone past the count, the calibration's counts without a calibration, and what the header of
-   a buffer that holds no chunk says of one. (What is there and not read is judged, as react_ticks is for the second-order brake.) The
-   width of an argument that is passed by itself is its C type; C cuts what is wider before the call. */
+   past n_terms, the numbers and channels of a zone past the count, the centre and the radius of a round table where the shape is the box,
+   the walls of the first two axes where it is a disc, the calibration's counts without a calibration, and what the header of a buffer that
+   holds no chunk says of one. (What is there and not read is judged, as react_ticks is for the second-order brake.) The width of an
+   argument that is passed by itself is its C type; C cuts what is wider before the call. */
 
 enum lictor_refusal {
     LICTOR_ACCEPTED = 0,
@@ -85,6 +86,8 @@ enum lictor_refusal {
     LICTOR_STEPS = 3,
     /* a zone's two channels are equal, one is at or above aux_count, or two zones name the same pair in the same order */
     LICTOR_CHANNELS = 4,
+    /* a round table, and dim or pos_dim is below 2 */
+    LICTOR_SHAPE = 15,
     /* a calibration's mask or one of its counted terms has the bit of LICTOR_STALL, which is not computed */
     LICTOR_WITHDRAWN = 17,
     /* a chunk, in the order of judging: no rows or no width, over 64 rows, over 8 wide, executes more rows than it has, other
@@ -116,6 +119,7 @@ static inline const char *lictor_refusal_text(uint64_t number) {
     case LICTOR_NUMBER: return "a configuration number is not finite or out of its range";
     case LICTOR_STEPS: return "a count of steps or ticks is out of range";
     case LICTOR_CHANNELS: return "a zone's channels are equal, past the declared ones or another's pair";
+    case LICTOR_SHAPE: return "a round table, and a dimension is below 2";
     case LICTOR_WITHDRAWN: return "the calibration's mask or a counted term names Stall, which is not computed";
     case LICTOR_EMPTY: return "the chunk is empty";
     case LICTOR_TOO_LONG: return "the chunk has too many rows";
@@ -266,7 +270,7 @@ uint64_t lictor_trail_len(const double numbers[256], const struct lictor_trail_m
 LICTOR_MUST_USE LICTOR_NOT_NULL
 uint64_t lictor_trail_is_empty(const double numbers[256], const struct lictor_trail_marks *marks, uint64_t *empty);
 
-/* ---- the configuration: 50 numbers, 33 counts and codes, and the calibration's two tables */
+/* ---- the configuration: 53 numbers, 34 counts and codes, and the calibration's two tables */
 
 /* How many slow zones one arm may have. The first one is contact_radius, contact_v_max, contact_a0 and contact_a1; the fields of the others,
    contact1, contact2 and contact3, stand at the ends of the two structs. A zone past the count is not read. */
@@ -277,11 +281,13 @@ struct lictor_numbers {
     double brake_k_p, brake_k_v, brake_dt;             /*  6.. 8 */
     double contact_radius, contact_v_max;              /*  9..10: how far the first slow zone reaches, and the speed inside it */
     double norm_center[8], norm_scale[8];              /* 11..26 */
-    double box_lo[8], box_hi[8];                       /* 27..42 */
+    double box_lo[8], box_hi[8];                       /* 27..42: the walls of each axis; of the first two not read where shape is LICTOR_DISC */
     double tau;                                        /* 43     */
     double contact1_radius, contact1_v_max;            /* 44..45: likewise of the second zone, read where contact is 2 or more */
     double contact2_radius, contact2_v_max;            /* 46..47: of the third */
     double contact3_radius, contact3_v_max;            /* 48..49: of the fourth */
+    double disc_x, disc_y, disc_radius;                /* 50..52: the centre and the radius of a round table, above 0; read where shape is
+                                                             LICTOR_DISC */
 };
 
 struct lictor_counts {
@@ -305,6 +311,7 @@ struct lictor_counts {
     uint64_t contact1_a0, contact1_a1;        /* 27..28: the second zone's channels, likewise; read where contact is 2 or more */
     uint64_t contact2_a0, contact2_a1;        /* 29..30: the third's */
     uint64_t contact3_a0, contact3_a1;        /* 31..32: the fourth's */
+    uint64_t shape;                           /* 33: a code, LICTOR_BOX or LICTOR_DISC */
 };
 
 /* codes of kind */
@@ -331,6 +338,13 @@ struct lictor_counts {
 #define LICTOR_ABSENT_CAMERA_SLOW 0
 #define LICTOR_ABSENT_CAMERA_NO_ZONE 1
 
+/* codes of shape: what the workspace is. All zeros has the first: each axis of the position has its walls, and disc_x, disc_y and disc_radius
+   are not read. With the second the first two axes have a round table in their place: the distance from its centre (disc_x, disc_y) is at
+   most disc_radius, which the margin does not move; box_lo and box_hi of these two are not read, and derived as 0.0. Further axes keep their
+   walls. A round table with dim or pos_dim below 2 is LICTOR_SHAPE. */
+#define LICTOR_BOX 0
+#define LICTOR_DISC 1
+
 /* trip bits */
 #define LICTOR_TRIP_WORKSPACE 1
 #define LICTOR_TRIP_SPEED 2
@@ -344,28 +358,31 @@ struct lictor_counts {
 struct lictor_derived {
     double inv_dt, inv_dt2, inv_dt3, step_max; /* 1 / dt and its powers; v_max x dt */
     double norm_scale_iso;                     /* the least norm scale */
-    double box_lo[8], box_hi[8];               /* the box moved inward by the margin; 0 past pos_dim */
+    double box_lo[8], box_hi[8];               /* the box moved inward by the margin; 0 past pos_dim, and on the first two axes of a disc */
     double inv_norm_scale[8];                  /* 1 / scale; 0 past dim */
 };
 
 /* Judges a configuration and derives from it. The tables hold feature j of time bin b at b x 12 + j. LICTOR_MISFIT,
-   LICTOR_SIZE, LICTOR_NUMBER, LICTOR_STEPS, LICTOR_CHANNELS, LICTOR_WITHDRAWN. */
+   LICTOR_SIZE, LICTOR_NUMBER, LICTOR_STEPS, LICTOR_CHANNELS, LICTOR_SHAPE, LICTOR_WITHDRAWN. */
 LICTOR_MUST_USE LICTOR_NOT_NULL
 uint64_t lictor_derive(const struct lictor_numbers *numbers, const struct lictor_counts *counts,
                        const double center[192], const double scale[192], struct lictor_derived *derived);
 
 /* ---- the checks: limits held against planned rows, which are projected inside them
 
-   A limit trips where a row as it came strictly exceeds it; LICTOR_TRIP_CONTACT where a step exceeds that of any slow zone that the arm is
-   inside. Under LICTOR_CLAMP_PROJECT the output is the rows moved inside the armed limits, each by the box, the leash to the projected row
-   before it and, the first row, the reach; under LICTOR_CLAMP_OFF it is the rows as they came. The leash's length is the least of v_max x dt,
+   A limit trips where a row as it came strictly exceeds it; LICTOR_TRIP_WORKSPACE where a coordinate of it passes a wall or, on a round table,
+   its distance from the centre exceeds the radius; LICTOR_TRIP_CONTACT where a step exceeds that of any slow zone that the arm is inside.
+   Under LICTOR_CLAMP_PROJECT the output is the rows moved inside the armed limits, each by the workspace, the leash to the projected row
+   before it and, the first row, the reach; under LICTOR_CLAMP_OFF it is the rows as they came. The workspace moves a coordinate onto the
+   wall that it passes, and a point beyond a round table towards its centre, to disc_radius x (1 - 2^-36): rounded, it may still lie past the
+   edge (from a centre at 2^53 with a radius of 1.5 the point 2^53 + 4 comes to 2^53 + 2). The leash's length is the least of v_max x dt,
    where LICTOR_TRIP_SPEED is armed, and, where LICTOR_TRIP_CONTACT is, of the steps of the zones that the arm is inside; where there is
    neither there is no leash. */
 
 /* Bit j of the last three is coordinate j, counted from 0. low_dims and high_dims tell of the box alone, row by row as it came: an axis may
    have both, neither the leash nor the reach sets one, and one stays where they bring the coordinate back, which clamped_dims then may
    not tell. They are cut at min(dim, pos_dim), and 0 under LICTOR_CLAMP_OFF and where LICTOR_TRIP_WORKSPACE is not armed. A row on its
-   wall sets none. */
+   wall sets none, and a round table sets none of its two axes. */
 struct lictor_check_marks {
     uint64_t trips;        /* trip bits */
     uint64_t clamped_dims; /* a bit for each coordinate that was moved in any row */
@@ -377,7 +394,8 @@ struct lictor_check_marks {
    coordinates, absent_camera says whether the arm counts as inside that zone or there is no such zone; its distance is not computed then. So
    lend what the camera sent in this tick, and nothing where it sent nothing: an older message, or zeros in its place, is a camera that sees.
    Where LICTOR_TRIP_CONTACT is armed, the distance of every counted zone that is seen is computed, and the step of every one that the arm
-   is inside: LICTOR_COMPUTED comes from any of them. Writes the first horizon x dim numbers of out, the marks, and the greatest speed.
+   is inside: LICTOR_COMPUTED comes from any of them. Where LICTOR_TRIP_WORKSPACE is armed, so does it from every row's distance to the centre
+   of a round table, under either clamp code. Writes the first horizon x dim numbers of out, the marks, and the greatest speed.
    LICTOR_MISFIT, LICTOR_SIZE to LICTOR_COMPUTED. */
 LICTOR_MUST_USE LICTOR_NOT_NULL
 uint64_t lictor_check_chunk(const struct lictor_numbers *numbers, const struct lictor_counts *counts,
@@ -498,7 +516,11 @@ uint64_t lictor_trip(const double center[192], const double scale[192], double t
 LICTOR_MUST_USE LICTOR_NOT_NULL
 uint64_t lictor_time_bin(uint32_t t, uint32_t horizon_ticks, uint64_t *bin);
 
-/* ---- the brake: whether the arm can still stop inside its box, and the rows that brake and hold */
+/* ---- the brake: whether the arm can still stop inside its workspace, and the rows that brake and hold
+
+   A slack is how far a position is from the nearest wall or edge, and negative beyond it: the least, over the axes that have walls, of
+   position - low wall and high wall - position, the walls moved inward by the margin, and, on a round table, of disc_radius - distance. The
+   closed kinds take their stopping radius off each. */
 
 struct lictor_forecast_marks {
     uint64_t count;    /* how many slacks are written */
@@ -512,7 +534,9 @@ struct lictor_forecast_distances {
 
 /* Forecasts from row `from` of a chunk through the committed rows and the braking after them. Writes the slacks in order, the
    marks and the distances; the rest of the slacks stays. A refusal sets place: for LICTOR_COMPUTED it is the place of the first
-   number that isn't finite, counted from 1, and the slacks before it are written; for any other number it is 0.
+   number that isn't finite, counted from 1, and the slacks before it are written; for any other number it is 0. The second-order brake
+   holds the position that the rows leave, moved inside its workspace; on a round table that is computed also where brake_steps is 0, at the
+   place of the first substep after the rows.
    LICTOR_MISFIT leaves place as it was. LICTOR_MISFIT, LICTOR_SIZE to LICTOR_COMPUTED. */
 LICTOR_MUST_USE LICTOR_NOT_NULL
 uint64_t lictor_brake_feasible(const struct lictor_numbers *numbers, const struct lictor_counts *counts,
@@ -523,15 +547,15 @@ uint64_t lictor_brake_feasible(const struct lictor_numbers *numbers, const struc
                                struct lictor_forecast_distances *distances, uint64_t *place);
 
 /* At which wall the position of a row that brakes or holds was stopped: bit j is coordinate j, counted from 0, of the first min(dim,
-   pos_dim). A position on its wall sets none, and what a short one lacks counts as 0. Both are 0 for LICTOR_EE_DELTA and
-   LICTOR_JOINT_VELOCITY; what is armed and the clamp code don't matter. */
+   pos_dim). A position on its wall sets none, a round table sets none of its two axes, and what a short position lacks counts as 0. Both are
+   0 for LICTOR_EE_DELTA and LICTOR_JOINT_VELOCITY; what is armed and the clamp code don't matter. */
 struct lictor_wall_marks {
     uint64_t low_dims;  /* a bit for each axis that was raised to its low wall */
     uint64_t high_dims; /* a bit for each axis that was lowered to its high wall */
 };
 
-/* The row that brakes, over the first dim numbers of out: the position inside its box, or the velocity ramped down; and the marks of
-   the walls that moved it. A position or velocity may be short: what is missing counts as 0. LICTOR_MISFIT, LICTOR_SIZE to
+/* The row that brakes, over the first dim numbers of out: the position moved inside its workspace, or the velocity ramped down; and the marks
+   of the walls that moved it. A position or velocity may be short: what is missing counts as 0. LICTOR_MISFIT, LICTOR_SIZE to
    LICTOR_WITHDRAWN, LICTOR_SHORT to LICTOR_COMPUTED. */
 LICTOR_MUST_USE LICTOR_NOT_NULL
 uint64_t lictor_brake_action(const struct lictor_numbers *numbers, const struct lictor_counts *counts,
@@ -539,8 +563,9 @@ uint64_t lictor_brake_action(const struct lictor_numbers *numbers, const struct 
                              size_t position_count, const double *velocity, size_t velocity_count, double *out,
                              size_t out_count, struct lictor_wall_marks *walls);
 
-/* The row that holds, over the first dim numbers of out: the latched position inside its box, or no velocity; and the marks likewise.
-   LICTOR_MISFIT, LICTOR_SIZE to LICTOR_WITHDRAWN, LICTOR_SHORT to LICTOR_COMPUTED, the last never at a box. */
+/* The row that holds, over the first dim numbers of out: the latched position moved inside its workspace, or no velocity; and the marks
+   likewise. LICTOR_MISFIT, LICTOR_SIZE to LICTOR_WITHDRAWN, LICTOR_SHORT to LICTOR_COMPUTED. The last is for a position whose distance from
+   the centre of a round table, or what is computed to move it, isn't finite: at a box it is never given. */
 LICTOR_MUST_USE LICTOR_NOT_NULL
 uint64_t lictor_hold_action(const struct lictor_numbers *numbers, const struct lictor_counts *counts,
                             const double center[192], const double scale[192], const double *position,
@@ -744,8 +769,8 @@ static inline uint64_t lictor_guard_hold_action(const struct lictor_config *conf
 #endif
 LICTOR_ASSERT(lictor_chunk_header, 6);
 LICTOR_ASSERT(lictor_trail_marks, 2);
-LICTOR_ASSERT(lictor_numbers, 50);
-LICTOR_ASSERT(lictor_counts, 33);
+LICTOR_ASSERT(lictor_numbers, 53);
+LICTOR_ASSERT(lictor_counts, 34);
 LICTOR_ASSERT(lictor_derived, 29);
 LICTOR_ASSERT(lictor_check_marks, 4);
 LICTOR_ASSERT(lictor_held_marks, 2);
@@ -755,7 +780,7 @@ LICTOR_ASSERT(lictor_forecast_distances, 2);
 LICTOR_ASSERT(lictor_wall_marks, 2);
 LICTOR_ASSERT(lictor_scores, 25);
 LICTOR_ASSERT(lictor_marks, 2);
-LICTOR_ASSERT(lictor_config, 50 + 33 + 192 + 192);
+LICTOR_ASSERT(lictor_config, 53 + 34 + 192 + 192);
 #undef LICTOR_ASSERT
 
 #ifdef __cplusplus

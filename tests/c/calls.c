@@ -139,7 +139,7 @@ static int shown(uint64_t at, uint64_t value) {
     return 0;
 }
 
-/* the place of a count among the configuration's 33 */
+/* the place of a count among the configuration's 34 */
 #define AT(count) (offsetof(struct lictor_counts, count) / sizeof(uint64_t))
 
 /* Both sides of the edge of each count that the table or its field bounds. */
@@ -189,6 +189,9 @@ static void widths(void) {
         {AT(horizon_ticks), most, 255},
         {AT(absent_camera), 0, 0}, {AT(absent_camera), 1, 0}, {AT(absent_camera), 2, 255}, {AT(absent_camera), bits, 255},
         {AT(absent_camera), most, 255},
+        /* of one axis a disc is too much, and of two it is not (round_tables) */
+        {AT(shape), 0, 0}, {AT(shape), 1, 15}, {AT(shape), 2, 255}, {AT(shape), 255, 255}, {AT(shape), 256, 255}, {AT(shape), bits, 255},
+        {AT(shape), bits + 1, 255}, {AT(shape), most, 255},
     };
     const struct {
         uint64_t a0, a1, aux, due;
@@ -199,7 +202,7 @@ static void widths(void) {
     };
     struct lictor_counts c;
     n.dt = n.v_max = n.a_max = n.j_max = n.reach_max = 1.0;
-    n.brake_k_v = n.brake_dt = n.contact_v_max = 1.0;
+    n.brake_k_v = n.brake_dt = n.contact_v_max = n.disc_radius = 1.0;
     for (int i = 0; i < 8; i++) n.norm_scale[i] = 1.0;
     for (int i = 0; i < 192; i++) scale[i] = 1.0;
 #define DUE(due) EXPECT(lictor_derive(&n, &c, center, scale, &d) == (due))
@@ -244,6 +247,13 @@ static void widths(void) {
     DUE(4);
     c.substeps = 0;
     DUE(3);
+    /* a disc of one axis comes after the channels, and before that bit */
+    c = good, c.shape = LICTOR_DISC, c.mask = 128;
+    DUE(15);
+    c.contact_a1 = 0;
+    DUE(4);
+    c = good, c.shape = LICTOR_DISC, c.mask = 128, c.dim = c.pos_dim = 2;
+    DUE(17);
     c = good, c.substeps = 0, c.brake_steps = 65536;
     DUE(3);
     c = good, c.kind = 5, c.dim = 0;
@@ -251,7 +261,7 @@ static void widths(void) {
 #undef DUE
 }
 
-/* the place of a number among the configuration's 50 */
+/* the place of a number among the configuration's 53 */
 #define NUMBER(number) (offsetof(struct lictor_numbers, number) / sizeof(double))
 
 /* where each zone's radius and first channel stand; its speed and its second channel are next to them */
@@ -403,6 +413,154 @@ static void several_zones(void) {
 #undef CHUNK
 #undef ACTION
 #undef HELD
+}
+
+/* A round table of radius 5 about the origin, a height between -1 and 1, and a NaN in every wall that is not read. */
+static void table(struct lictor_numbers *n, struct lictor_counts *c) {
+    const struct lictor_numbers no_numbers = {0};
+    const struct lictor_counts no_counts = {0};
+    *n = no_numbers, *c = no_counts;
+    n->dt = n->a_max = n->j_max = n->brake_k_p = n->brake_k_v = n->brake_dt = 1.0, n->v_max = n->reach_max = 1e300;
+    for (int i = 0; i < 8; i++) n->norm_scale[i] = 1.0, n->box_lo[i] = -1.0, n->box_hi[i] = 1.0;
+    n->box_lo[0] = n->box_lo[1] = n->box_hi[0] = n->box_hi[1] = NAN, n->disc_radius = 5.0;
+    c->dim = c->pos_dim = 3, c->substeps = 1, c->clamp = LICTOR_CLAMP_PROJECT, c->armed = LICTOR_TRIP_WORKSPACE, c->shape = LICTOR_DISC;
+}
+
+/* Centre, radius and walls under either shape, on both sides of their edges; both counts of axes; what is derived. */
+static void round_tables(void) {
+    const double never = NAN, always = INFINITY;
+    const struct {
+        double value;
+        uint64_t centre, radius;
+    } numbers[] = {
+        {never, 2, 2}, {always, 2, 2}, {-always, 2, 2}, {-1.0, 0, 2}, {-0x1p-1074, 0, 2}, {-0.0, 0, 2}, {0.0, 0, 2}, {0x1p-1074, 0, 0},
+        {1.0, 0, 0}, {0x1.fffffffffffffp1023, 0, 0},
+    };
+    struct lictor_numbers n;
+    struct lictor_counts c;
+    struct lictor_derived d = {0};
+#define DUE(due) EXPECT(lictor_derive(&n, &c, center, scale, &d) == (due) || shown(i, c.shape))
+    for (uint64_t i = 0; i < sizeof numbers / sizeof *numbers; i++) {
+        double *const places[7] = {&n.disc_x, &n.disc_y, &n.disc_radius, &n.box_lo[0], &n.box_lo[1], &n.box_hi[0], &n.box_hi[1]};
+        for (int k = 0; k < 7; k++) {
+            table(&n, &c), *places[k] = numbers[i].value;
+            DUE(k < 2 ? numbers[i].centre : k < 3 ? numbers[i].radius : 0);
+            /* with the box the walls are read, which are at -1 and 1, and the others are not */
+            table(&n, &c), c.shape = LICTOR_BOX;
+            n.box_lo[0] = n.box_lo[1] = -1.0, n.box_hi[0] = n.box_hi[1] = 1.0, *places[k] = numbers[i].value;
+            if (k < 3) DUE(0);
+            if (k > 2 && numbers[i].centre) DUE(2);
+        }
+        /* the margin is judged, and moves the third axis alone */
+        table(&n, &c), n.margin = numbers[i].value;
+        DUE(numbers[i].value >= 0.0 && numbers[i].value <= 1.0 ? 0 : 2);
+        c.dim = c.pos_dim = 2;
+        DUE(numbers[i].value >= 0.0 && numbers[i].value < always ? 0 : 2);
+    }
+    for (uint64_t i = 0; i < 100; i++) {
+        const uint64_t dim = i / 10, pos_dim = i % 10, size = dim < 1 || dim > 8 || pos_dim < 1 || pos_dim > 8;
+        table(&n, &c), c.dim = dim, c.pos_dim = pos_dim;
+        DUE(size ? 1 : dim < 2 || pos_dim < 2 ? 15 : 0);
+        c.shape = LICTOR_BOX, n.box_lo[0] = n.box_lo[1] = n.box_hi[0] = n.box_hi[1] = 0.0;
+        DUE(size);
+        /* a code that is none comes before all */
+        c.shape = 2;
+        DUE(255);
+    }
+#undef DUE
+    table(&n, &c), n.margin = 0.25, n.disc_x = n.disc_y = 7.0;
+    EXPECT(lictor_derive(&n, &c, center, scale, &d) == LICTOR_ACCEPTED && d.box_lo[2] == -0.75 && d.box_hi[2] == 0.75);
+    EXPECT(d.box_lo[0] == 0.0 && d.box_lo[1] == 0.0 && d.box_hi[0] == 0.0 && d.box_hi[1] == 0.0);
+}
+
+/* Each entry that moves, measures or brakes on a round table. */
+static void turntable(void) {
+    const double origin[3] = {0.0, 0.0, 0.0}, edge[3] = {3.0, 4.0, 1.0}, far[3] = {6.0, 8.0, 9.0}, lost[3] = {1e200, 0.0, 0.0}, fast[3] = {0.0, 4.0, 0.0};
+    const double high[3] = {1e200, 0.0, 9.0};
+    const double pulled = 5.0 * (1.0 - 1.0 / 68719476736.0) / 10.0, two53 = 9007199254740992.0;
+    double out[3] = {7.0, 7.0, 7.0}, slacks[2] = {7.0, 7.0}, speed = 7.0;
+    struct lictor_numbers n;
+    struct lictor_counts c;
+    struct lictor_check_marks m = {7, 7, 7, 7};
+    struct lictor_forecast_marks f = {7, 7};
+    struct lictor_forecast_distances r = {7.0, 7.0};
+    struct lictor_wall_marks w = {7, 7};
+    uint64_t place = 7;
+#define CHUNK(from, row) lictor_check_chunk(&n, &c, center, scale, from, 3, LICTOR_NONE, 0, row, 3, 1, 3, 1, out, 3, &m, &speed)
+#define ACTION(from, row) lictor_check_action(&n, &c, center, scale, from, 3, LICTOR_NONE, 0, from, 3, row, 3, out, 3, &m, &speed)
+#define MOVING(from, vel, first) \
+    lictor_brake_feasible(&n, &c, center, scale, from, 3, vel, 3, origin, 3, 1, 3, 1, first, slacks, 2, &f, &r, &place)
+#define FORECAST(from, first) MOVING(from, origin, first)
+#define BRAKE(pos, count) lictor_brake_action(&n, &c, center, scale, pos, count, origin, 3, out, 3, &w)
+#define HOLD(pos, count) lictor_hold_action(&n, &c, center, scale, pos, count, out, 3, &w)
+#define OUT(x, y, z) (out[0] == (x) && out[1] == (y) && out[2] == (z))
+#define MARKS(raised, moved, low, high) (m.trips == (raised) && m.clamped_dims == (moved) && m.low_dims == (low) && m.high_dims == (high))
+    table(&n, &c);
+    EXPECT(CHUNK(origin, edge) == LICTOR_ACCEPTED && MARKS(0, 0, 0, 0) && OUT(3.0, 4.0, 1.0));
+    EXPECT(ACTION(origin, edge) == LICTOR_ACCEPTED && MARKS(0, 0, 0, 0) && OUT(3.0, 4.0, 1.0));
+    EXPECT(CHUNK(origin, far) == LICTOR_ACCEPTED && MARKS(LICTOR_TRIP_WORKSPACE, 7, 0, 4) && OUT(6.0 * pulled, 8.0 * pulled, 1.0));
+    EXPECT(ACTION(origin, far) == LICTOR_ACCEPTED && MARKS(LICTOR_TRIP_WORKSPACE, 7, 0, 4) && OUT(6.0 * pulled, 8.0 * pulled, 1.0));
+    /* a distance that is not finite, from where the step is; it is computed where the check is armed, under either clamp code, and whatever the
+       third axis says */
+    for (c.clamp = LICTOR_CLAMP_OFF; c.clamp <= LICTOR_CLAMP_PROJECT; c.clamp++) {
+        out[0] = 7.0, c.armed = LICTOR_TRIP_WORKSPACE;
+        EXPECT(CHUNK(lost, lost) == LICTOR_COMPUTED && ACTION(lost, lost) == LICTOR_COMPUTED && out[0] == 7.0);
+        EXPECT(CHUNK(high, high) == LICTOR_COMPUTED && ACTION(high, high) == LICTOR_COMPUTED && out[0] == 7.0);
+        c.armed = LICTOR_TRIP_SPEED | LICTOR_TRIP_REACH;
+        EXPECT(CHUNK(lost, lost) == LICTOR_ACCEPTED && ACTION(lost, lost) == LICTOR_ACCEPTED && MARKS(0, 0, 0, 0) && out[0] == 1e200);
+    }
+    /* a closed kind at rest: the radius less the distance, and the least of it with the third axis */
+    table(&n, &c), c.brake = LICTOR_BOUNDED_ACCEL;
+    EXPECT(FORECAST(edge, 0) == LICTOR_ACCEPTED && f.count == 1 && f.feasible == 1 && r.margin == 0.0 && slacks[0] == 0.0 && slacks[1] == 7.0);
+    n.disc_radius = 5.5, n.box_hi[2] = 9.0;
+    EXPECT(FORECAST(edge, 0) == LICTOR_ACCEPTED && r.margin == 0.5 && r.stop_dist == 0.0);
+    n.box_hi[2] = 1.25;
+    EXPECT(FORECAST(edge, 0) == LICTOR_ACCEPTED && r.margin == 0.25);
+    EXPECT(FORECAST(far, 0) == LICTOR_ACCEPTED && f.feasible == 0 && r.margin == -7.75);
+    /* a velocity of (0, 4, 0), which an a_max of 1 takes 8 to stop */
+    n.box_hi[2] = 99.0, n.box_lo[2] = -99.0;
+    EXPECT(MOVING(edge, fast, 0) == LICTOR_ACCEPTED && f.feasible == 0 && r.margin == 0.5 - 8.0);
+    n.box_hi[2] = 1.25, n.box_lo[2] = -1.0;
+    EXPECT(FORECAST(far, 0) == LICTOR_ACCEPTED && r.margin == -7.75);
+    EXPECT(FORECAST(lost, 0) == LICTOR_COMPUTED && place == 1 && slacks[0] == -7.75);
+    /* the second-order kind: its setpoint is made without a braking step, too */
+    table(&n, &c);
+    for (uint64_t steps = 0; steps < 2; steps++) {
+        c.brake_steps = steps, place = 7, slacks[0] = 7.0;
+        EXPECT(FORECAST(lost, 0) == LICTOR_COMPUTED && place == 1 && slacks[0] == 7.0);
+        EXPECT(FORECAST(lost, SIZE_MAX) == LICTOR_COMPUTED && place == 1 && slacks[0] == 7.0);
+        EXPECT(FORECAST(edge, 0) == LICTOR_ACCEPTED && f.count == steps && f.feasible == 1 && r.margin == (steps ? 0.0 : INFINITY));
+    }
+    c.brake_steps = 0, c.shape = LICTOR_BOX, n.box_lo[0] = n.box_lo[1] = n.box_hi[0] = n.box_hi[1] = 0.0;
+    EXPECT(FORECAST(lost, 0) == LICTOR_ACCEPTED && f.count == 0 && r.margin == INFINITY);
+    /* brake and hold, whatever is armed; what a position lacks is 0 */
+    for (uint64_t armed = 0; armed < 2; armed++) {
+        table(&n, &c), c.armed = armed, c.clamp = armed;
+        EXPECT(HOLD(edge, 3) == LICTOR_ACCEPTED && OUT(3.0, 4.0, 1.0) && w.low_dims == 0 && w.high_dims == 0);
+        EXPECT(BRAKE(far, 3) == LICTOR_ACCEPTED && OUT(6.0 * pulled, 8.0 * pulled, 1.0) && w.low_dims == 0 && w.high_dims == 4);
+        EXPECT(HOLD(far, 2) == LICTOR_ACCEPTED && OUT(6.0 * pulled, 8.0 * pulled, 0.0) && w.low_dims == 0 && w.high_dims == 0);
+        out[0] = w.low_dims = 7;
+        EXPECT(HOLD(lost, 1) == LICTOR_COMPUTED && BRAKE(lost, 3) == LICTOR_COMPUTED && out[0] == 7.0 && w.low_dims == 7);
+        n.disc_x = 10.0;
+        EXPECT(HOLD(origin, 0) == LICTOR_ACCEPTED && OUT(10.0 + -10.0 * pulled, 0.0, 0.0));
+        n.disc_x = 1e200;
+        EXPECT(HOLD(origin, 0) == LICTOR_COMPUTED && HOLD(lost, 3) == LICTOR_ACCEPTED && out[0] == 1e200);
+        c.kind = LICTOR_JOINT_VELOCITY;
+        EXPECT(HOLD(origin, 0) == LICTOR_ACCEPTED && OUT(0.0, 0.0, 0.0) && w.low_dims == 0);
+    }
+    /* about 2^53 a point that is pulled lies past the edge */
+    table(&n, &c), n.disc_x = two53, n.disc_radius = 1.5;
+    const double there[3] = {two53, 0.0, 0.0}, beyond[3] = {two53 + 4.0, 0.0, 0.0}, past[3] = {two53 + 2.0, 0.0, 0.0};
+    EXPECT(ACTION(there, beyond) == LICTOR_ACCEPTED && m.trips == LICTOR_TRIP_WORKSPACE && out[0] == two53 + 2.0);
+    EXPECT(ACTION(there, past) == LICTOR_ACCEPTED && m.trips == LICTOR_TRIP_WORKSPACE);
+#undef CHUNK
+#undef ACTION
+#undef MOVING
+#undef FORECAST
+#undef BRAKE
+#undef HOLD
+#undef OUT
+#undef MARKS
 }
 
 /* the place of a count in a header */
@@ -579,8 +737,8 @@ static void cameras(void) {
 #undef PASSED
 }
 
-/* The edges of the choice's code and of the count of zones, and a fourth zone that is refused, at every entry that takes a configuration: a
-   refused call writes nothing. */
+/* The edges of the choice's code, of the shape's code and of the count of zones, and a fourth zone that is refused, at every entry that takes a
+   configuration: a refused call writes nothing. */
 static void codes(void) {
     static struct lictor_tier1 t;
     const uint64_t most = UINT64_MAX, bits = UINT64_C(1) << 32;
@@ -593,6 +751,8 @@ static void codes(void) {
         {AT(contact), 0, 0}, {AT(contact), 1, 0}, {AT(contact), 2, 0}, {AT(contact), 3, 0}, {AT(contact), 4, 0}, {AT(contact), 5, 1},
         {AT(contact), 256, 1}, {AT(contact), bits + 1, 1}, {AT(contact), most, 1},
         {AT(contact3_a0), 7, 4}, {AT(contact3_a1), 8, 4}, {AT(contact3_a1), 300, 4},
+        {AT(shape), 0, 0}, {AT(shape), 1, 15}, {AT(shape), 2, 255}, {AT(shape), 3, 255}, {AT(shape), 256, 255}, {AT(shape), bits, 255},
+        {AT(shape), bits + 1, 255}, {AT(shape), most, 255},
     };
     struct lictor_numbers n;
     struct lictor_counts c;
@@ -608,7 +768,7 @@ static void codes(void) {
         double out[1] = {7.0}, slacks[1] = {7.0}, speed = 7.0;
         uint64_t place = 7;
         four_zones(&n, &c, 4);
-        c.commit = 1, ((uint64_t *)&c)[cases[i].at] = cases[i].value;
+        c.commit = 1, n.disc_radius = 1.0, ((uint64_t *)&c)[cases[i].at] = cases[i].value;
         lictor_tier1_new(LICTOR_TIER1_PARTS(&t));
 #define CODE(call) EXPECT((call) == due || shown(cases[i].at, cases[i].value))
         CODE(lictor_derive(&n, &c, center, scale, &d));
@@ -776,11 +936,13 @@ int main(void) {
     configuration();
     widths();
     zones();
+    round_tables();
     held_widths();
     checks();
     walls();
     cameras();
     several_zones();
+    turntable();
     codes();
     features();
     brakes();

@@ -31,7 +31,7 @@ static void draw(double *numbers, size_t count) {
 #define ROWS 5
 #define CHANNELS 4
 
-/* An arm of three axes that is accepted, with four zones of which none is counted. */
+/* An arm of three axes that is accepted, with four zones of which none is counted, and a round table that is not its shape. */
 static struct lictor_config arm(void) {
     struct lictor_config c;
     memset(&c, 0, sizeof c);
@@ -47,6 +47,7 @@ static struct lictor_config arm(void) {
     c.counts.contact2_a0 = 1, c.counts.contact2_a1 = 0, c.counts.contact3_a0 = 3, c.counts.contact3_a1 = 1;
     c.counts.calibrated = 1, c.counts.mask = 0xf7f, c.counts.n_terms = 2, c.counts.terms[0] = 3, c.counts.terms[1] = 60;
     c.counts.horizon_ticks = 200;
+    c.numbers.disc_x = 0.25, c.numbers.disc_y = -0.25, c.numbers.disc_radius = 0.75;
     return c;
 }
 
@@ -81,7 +82,7 @@ static void forms(void) {
     static struct tick a, b;
     int refusals = 0;
     const struct lictor_wall_marks none = {0, 0};
-    uint64_t answer, stopped = 0, slowed[LICTOR_MAX_ZONES + 1] = {0};
+    uint64_t answer, stopped = 0, turned = 0, slowed[LICTOR_MAX_ZONES + 1] = {0};
     lictor_tier1_new(LICTOR_TIER1_PARTS(&a.state));
     for (uint32_t t = 0; t < 2000; t++) {
         struct lictor_config c = arm();
@@ -89,13 +90,17 @@ static void forms(void) {
         const size_t from = below(4), i = below(7), pos = AXES - (below(30) == 0), aux = below(CHANNELS + 1), ext = below(5);
         draw(a.pos, AXES), draw(a.vel, AXES), draw(a.aux, CHANNELS), draw(a.ext, 4), draw(a.rows, ROWS * AXES), draw(a.previous, AXES);
         c.counts.brake = below(5), c.counts.kind = below(5), c.counts.contact = below(5), c.counts.clamp = below(2);
-        c.counts.absent_camera = below(2);
+        c.counts.absent_camera = below(2), c.counts.shape = below(3) == 0 ? LICTOR_DISC : LICTOR_BOX;
         c.numbers.margin = below(2) ? 1.5 : 0.0;
         if (below(30) == 0) chunk.exec_steps = 9;
         if (below(30) == 0) a.rows[4] = NAN;
         if (below(30) == 0) c.numbers.margin = -1.0;
         if (below(30) == 0) c.counts.kind = 5;
         if (below(30) == 0) c.counts.absent_camera = 2;
+        if (below(30) == 0) c.counts.shape = 2 + below(300);
+        if (below(30) == 0) c.numbers.disc_radius = 0.0;
+        if (below(30) == 0) c.numbers.disc_y = NAN;
+        if (below(30) == 0) c.counts.pos_dim = 1;
         if (below(30) == 0) c.counts.contact = 5 + below(300);
         if (below(30) == 0) c.numbers.contact3_v_max = NAN;
         if (below(30) == 0) c.counts.contact2_a0 = 0, c.counts.contact2_a1 = 1;
@@ -126,10 +131,12 @@ static void forms(void) {
         SAME(lictor_brake_feasible(PARTS, a.pos, pos, a.vel, AXES, a.rows, ROWS * AXES, ROWS, AXES, chunk.exec_steps, from, a.slacks,
                                    64, &a.forecast, &a.distances, &a.place),
              lictor_guard_brake_feasible(&c, a.pos, pos, a.vel, AXES, &chunk, from, b.slacks, 64, &b.forecast, &b.distances, &b.place));
+        a.row[0] = b.row[0] = a.pos[0];
         a.walls = b.walls = none;
         SAME(lictor_brake_action(PARTS, a.pos, pos, a.vel, AXES, a.row, AXES, &a.walls),
              lictor_guard_brake_action(&c, a.pos, pos, a.vel, AXES, b.row, AXES, &b.walls));
         stopped |= a.walls.low_dims | a.walls.high_dims << AXES;
+        if (answer == LICTOR_ACCEPTED && c.counts.shape == LICTOR_DISC && c.counts.kind == LICTOR_EE_POSITION) turned += a.row[0] != a.pos[0];
         a.walls = b.walls = none;
         SAME(lictor_hold_action(PARTS, a.pos, pos, a.row, AXES, &a.walls), lictor_guard_hold_action(&c, a.pos, pos, b.row, AXES, &b.walls));
         a.length = lictor_action(a.rows, ROWS * AXES, ROWS, AXES, i, a.row, AXES);
@@ -141,6 +148,8 @@ static void forms(void) {
     /* the draws reach refused calls too, and not those alone; a brake is stopped at each wall; each count of zones slows a chunk,
        and without a zone none is slowed */
     EXPECT(refusals > 500 && refusals < 12000 && stopped == (1 << 2 * AXES) - 1);
+    /* a brake is moved onto a round table, and left where it is */
+    EXPECT(turned > 20 && turned < 200);
     EXPECT(slowed[0] == 0);
     for (int i = 1; i <= LICTOR_MAX_ZONES; i++) EXPECT(slowed[i] > 50);
 }
@@ -349,17 +358,83 @@ static void zones(void) {
     }
 }
 
+/* By every guard form that takes a configuration: the shape's code on both sides of its edge and wider than its field, the centre and the radius
+   under either shape, and the least axes of a disc. */
+static void tables(void) {
+    static struct tick a;
+    const struct lictor_chunk chunk = {a.rows, ROWS * AXES, 0, 0, ROWS, AXES, 2}, flat = {a.rows, ROWS, 0, 0, ROWS, 1, 2};
+    const uint64_t wide = UINT64_C(1) << 32;
+    struct lictor_config c;
+    lictor_tier1_new(LICTOR_TIER1_PARTS(&a.state));
+#define DUE(due)                                                                                                                            \
+    do {                                                                                                                                    \
+        const struct lictor_chunk *const lent = c.counts.dim == 1 ? &flat : &chunk;                                                         \
+        EXPECT(lictor_guard_derive(&c, &a.derived) == (due));                                                                              \
+        EXPECT(lictor_guard_check_chunk(&c, a.pos, AXES, NULL, 0, lent, a.out, ROWS * AXES, &a.found, &a.speed) == (due));                 \
+        EXPECT(lictor_guard_check_action(&c, a.pos, AXES, NULL, 0, a.previous, AXES, a.rows, AXES, a.row, AXES, &a.found, &a.speed) ==     \
+               (due));                                                                                                                     \
+        EXPECT(lictor_guard_features(&c, &a.state, a.pos, AXES, NULL, 0, lent, &a.scores, &a.marks) == (due));                             \
+        EXPECT(lictor_guard_brake_feasible(&c, a.pos, AXES, a.vel, AXES, lent, 0, a.slacks, 64, &a.forecast, &a.distances, &a.place) ==    \
+               (due));                                                                                                                     \
+        EXPECT(lictor_guard_brake_action(&c, a.pos, AXES, a.vel, AXES, a.row, AXES, &a.walls) == (due));                                   \
+        EXPECT(lictor_guard_hold_action(&c, a.pos, AXES, a.row, AXES, &a.walls) == (due));                                                 \
+    } while (0)
+    for (uint64_t shape = 0; shape < 4; shape++) {
+        const enum lictor_refusal misfit = shape > LICTOR_DISC ? LICTOR_MISFIT : LICTOR_ACCEPTED;
+        c = arm(), c.counts.shape = shape;
+        DUE(misfit);
+        /* what a box does not read, and a disc does */
+        c.numbers.disc_radius = 0.0;
+        DUE(shape == LICTOR_DISC ? LICTOR_NUMBER : misfit);
+        c = arm(), c.counts.shape = shape, c.numbers.disc_x = NAN;
+        DUE(shape == LICTOR_DISC ? LICTOR_NUMBER : misfit);
+        c = arm(), c.counts.shape = shape, c.numbers.disc_y = INFINITY, c.numbers.disc_radius = NAN;
+        DUE(shape == LICTOR_DISC ? LICTOR_NUMBER : misfit);
+        /* what a disc does not read, and a box does */
+        c = arm(), c.counts.shape = shape, c.numbers.box_lo[0] = NAN, c.numbers.box_hi[1] = -9.0;
+        DUE(shape == LICTOR_BOX ? LICTOR_NUMBER : misfit);
+        c = arm(), c.counts.shape = shape, c.numbers.box_lo[2] = 9.0;
+        DUE(misfit ? misfit : LICTOR_NUMBER);
+        /* one axis of a row, or of a position */
+        c = arm(), c.counts.shape = shape, c.counts.dim = 1;
+        DUE(shape == LICTOR_DISC ? LICTOR_SHAPE : misfit);
+        c = arm(), c.counts.shape = shape, c.counts.pos_dim = 1;
+        DUE(shape == LICTOR_DISC ? LICTOR_SHAPE : misfit);
+        c.counts.pos_dim = 2;
+        DUE(misfit);
+        /* after the channels, and before the bit of LICTOR_STALL */
+        c = arm(), c.counts.shape = shape, c.counts.pos_dim = 1, c.counts.contact = 1, c.counts.contact_a1 = 0;
+        DUE(misfit ? misfit : LICTOR_CHANNELS);
+        c = arm(), c.counts.shape = shape, c.counts.pos_dim = 1, c.counts.mask |= 1 << LICTOR_STALL;
+        DUE(shape == LICTOR_DISC ? LICTOR_SHAPE : misfit ? misfit : LICTOR_WITHDRAWN);
+    }
+    c = arm(), c.counts.shape = wide;
+    DUE(LICTOR_MISFIT);
+    c.counts.shape = wide + LICTOR_DISC;
+    DUE(LICTOR_MISFIT);
+    c.counts.shape = UINT64_MAX;
+    DUE(LICTOR_MISFIT);
+#undef DUE
+    /* all zeros is the box; a hold that cannot be measured is refused at a disc alone */
+    memset(&c, 0, sizeof c);
+    EXPECT(c.counts.shape == LICTOR_BOX);
+    c = arm(), a.pos[0] = 1e200, a.row[0] = 7.0;
+    EXPECT(lictor_guard_hold_action(&c, a.pos, AXES, a.row, AXES, &a.walls) == LICTOR_ACCEPTED && a.row[0] == 2.0);
+    c.counts.shape = LICTOR_DISC, a.row[0] = 7.0;
+    EXPECT(lictor_guard_hold_action(&c, a.pos, AXES, a.row, AXES, &a.walls) == LICTOR_COMPUTED && a.row[0] == 7.0);
+}
+
 /* Each number has a text of its own, and the version's parts agree. */
 static void words(void) {
     const char *unknown = lictor_refusal_text(14);
     char version[32];
     for (uint64_t i = 0; i < 300; i++) {
-        const int known = i <= LICTOR_COMPUTED || i == LICTOR_WITHDRAWN || i == LICTOR_MISFIT;
+        const int known = i <= LICTOR_COMPUTED || i == LICTOR_SHAPE || i == LICTOR_WITHDRAWN || i == LICTOR_MISFIT;
         EXPECT((strcmp(lictor_refusal_text(i), unknown) != 0) == known);
         for (uint64_t j = 0; known && j < i; j++) EXPECT(strcmp(lictor_refusal_text(i), lictor_refusal_text(j)) != 0);
     }
     snprintf(version, sizeof version, "%d.%d.%d", LICTOR_VERSION_MAJOR, LICTOR_VERSION_MINOR, LICTOR_VERSION_PATCH);
-    EXPECT(strcmp(version, LICTOR_VERSION) == 0 && LICTOR_VERSION_NUMBER >= 600);
+    EXPECT(strcmp(version, LICTOR_VERSION) == 0 && LICTOR_VERSION_NUMBER >= 700);
 }
 
 int main(void) {
@@ -369,6 +444,7 @@ int main(void) {
     arming();
     cameras();
     zones();
+    tables();
     words();
     puts(failed ? "guard forms: failed" : "guard forms: as expected");
     return failed;

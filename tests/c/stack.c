@@ -133,10 +133,12 @@ int main(void) {
     n.contact_radius = n.contact1_radius = n.contact2_radius = n.contact3_radius = 1.0, c.aux_count = 8;
     n.contact_v_max = n.contact1_v_max = n.contact2_v_max = n.contact3_v_max = 1.0;
     c.contact_a0 = c.contact1_a1 = 0, c.contact_a1 = c.contact1_a0 = 1, c.contact2_a0 = c.contact3_a1 = 2, c.contact2_a1 = c.contact3_a0 = 3;
-    /* every brake and every kind of action, without a slow zone and with one to four, with a camera and without one, and either choice in turn */
+    n.disc_radius = 1.0;
+    /* every brake and every kind of action, without a slow zone and with one to four, with a camera and without one, and either choice and either
+       shape in turn */
     for (unsigned setting = 0; setting < 100; setting++) {
         c.brake = setting / 2 % 5, c.kind = setting / 10 % 5, c.contact = setting % 2 * (1 + setting / 2 % LICTOR_MAX_ZONES);
-        camera = setting < 50 ? 8 : 0, c.absent_camera = setting / 8 % 2;
+        camera = setting < 50 ? 8 : 0, c.absent_camera = setting / 8 % 2, c.shape = setting % 3 == 0 ? LICTOR_DISC : LICTOR_BOX;
         for (size_t i = 0; i < sizeof calls / sizeof *calls; i++) {
             /* once before, so that what the loader does at a first call is not counted */
             used(calls[i].call);

@@ -3,7 +3,7 @@
 use lictor::{
     brake,
     chunk::ChunkView,
-    config::{trip, AbsentCamera, BrakeKind, BrakeModel, Config, ConfigBuilder, Contact},
+    config::{trip, AbsentCamera, BrakeKind, BrakeModel, Config, ConfigBuilder, Contact, Shape},
     tier0, Refusal,
 };
 
@@ -61,6 +61,11 @@ fn main() -> Result<(), Refusal> {
     let rows = ChunkView::new(0, 1, 2, 1, &[0.0, 0.0]);
     let told = brake::brake_feasible(&arm, &[2.0, 0.0], &origin, rows, 0, &mut [0.0; 4])?;
     assert!(told.feasible);
+    // On a round table neither, unless the start is too far from the centre to be measured: where the arm would hold is computed.
+    let table = ARM.shape(Shape::Disc { center: origin, radius: 1.0 }).build()?;
+    assert!(brake::brake_feasible(&table, &[2.0, 0.0], &origin, rows, 0, &mut [0.0; 4])?.feasible);
+    let lost = brake::brake_feasible(&table, &[1e200, 0.0], &origin, rows, 1, &mut [0.0; 4]);
+    assert_eq!(lost, Err(Refusal::Computed { place: 1 }));
     println!("none of the four beliefs holds");
     Ok(())
 }

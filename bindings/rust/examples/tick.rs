@@ -1,10 +1,10 @@
 //! One control tick of a packing arm over a table: from the position that was measured and the chunk that was planned to the
-//! row that goes to the motors. `examples/tick.c` is the same in C.
+//! row that goes to the motors; and a row of the same arm over a turntable. `examples/tick.c` is the same in C.
 
 use lictor::{
     brake,
     chunk::ChunkView,
-    config::{trip, BrakeKind, BrakeModel, Config, Contact},
+    config::{trip, BrakeKind, BrakeModel, Config, ConfigBuilder, Contact, Shape},
     conformal::{self, feature, Calibration, Scores},
     tier0,
     tier1::{self, Tier1},
@@ -41,40 +41,42 @@ struct Measured<'a> {
     aux: &'a [f64; CHANNELS],
 }
 
+/// The arm's limits, brake and calibration.
+fn arm() -> ConfigBuilder {
+    let calibration = Calibration {
+        center: [0.0; 192],
+        scale: [1.0; 192],
+        tau: 0.25,
+        mask: 1 << feature::REACH,
+        n_terms: 1,
+        terms: [1 << feature::REACH, 0, 0, 0, 0, 0, 0, 0],
+    };
+    let brake = BrakeModel {
+        kind: BrakeKind::PdSecondOrder,
+        k_p: 2.0,
+        k_v: 1.0,
+        dt: 0.5,
+        substeps: 2,
+        commit: 1,
+        brake_steps: 4,
+        react_ticks: 1,
+    };
+    Config::builder()
+        .axes(AXES)
+        .dt(0.5)
+        .v_max(1.0)
+        .a_max(4.0)
+        .j_max(32.0)
+        .reach_max(1.0)
+        .walls([-1.0; 8], [1.0; 8])
+        .brake(brake)
+        .calibration(calibration, 200)
+}
+
 impl Guard {
-    /// The arm's limits, brake, calibration and a slow zone round each tray, judged.
+    /// The arm with a slow zone round each tray, judged.
     fn new() -> Answer<Self> {
-        let calibration = Calibration {
-            center: [0.0; 192],
-            scale: [1.0; 192],
-            tau: 0.25,
-            mask: 1 << feature::REACH,
-            n_terms: 1,
-            terms: [1 << feature::REACH, 0, 0, 0, 0, 0, 0, 0],
-        };
-        let brake = BrakeModel {
-            kind: BrakeKind::PdSecondOrder,
-            k_p: 2.0,
-            k_v: 1.0,
-            dt: 0.5,
-            substeps: 2,
-            commit: 1,
-            brake_steps: 4,
-            react_ticks: 1,
-        };
-        let config = Config::builder()
-            .axes(AXES)
-            .dt(0.5)
-            .v_max(1.0)
-            .a_max(4.0)
-            .j_max(32.0)
-            .reach_max(1.0)
-            .walls([-1.0; 8], [1.0; 8])
-            .brake(brake)
-            .calibration(calibration, 200)
-            .zones(&TRAYS)
-            .aux_count(CHANNELS)
-            .build()?;
+        let config = arm().zones(&TRAYS).aux_count(CHANNELS).build()?;
         let (state, scores, window) = (Tier1::new(), Scores::default(), Window::default());
         Ok(Self { config, state, scores, window, slacks: [0.0; 64] })
     }
@@ -106,6 +108,20 @@ impl Guard {
         log_walls(m.t, "brake", walls.low_dims, walls.high_dims);
         Ok(("brake", row))
     }
+}
+
+/// The same arm over a turntable, whose edge is 0.75 from its middle, without the trays; its height keeps its walls. Follows a row to (x, y), or
+/// brakes where it is beyond the edge.
+fn turntable(x: f64, y: f64) -> Answer<()> {
+    let config = arm().shape(Shape::Disc { center: [0.0, 0.0], radius: 0.75 }).build()?;
+    let (pos, vel, mut row, mut deed) = ([0.25, 0.25, 0.0], [0.0; AXES], [0.0; AXES], "follow");
+    let found = tier0::check_action(&config, &pos, &[], &pos, &[x, y, 0.0], &mut row)?;
+    if found.trips & trip::WORKSPACE != 0 {
+        deed = "beyond the edge, brake";
+        brake::brake_action(&config, &pos, &vel, &mut row)?;
+    }
+    println!("turntable: {deed} {} {} {}", row[0], row[1], row[2]);
+    Ok(())
 }
 
 /// Writes to the log which axes the box stopped at which wall, in the chunk or in a row that brakes or holds. Axes are counted
@@ -163,5 +179,7 @@ fn main() -> Answer<()> {
             }
         }
     }
-    Ok(())
+    // both rows are between the walls, and the second is 0.79 from the middle
+    turntable(0.5, 0.5)?;
+    turntable(0.75, 0.25)
 }

@@ -1,4 +1,4 @@
-//! Whether the arm can still stop inside its box, and the rows that brake and hold.
+//! Whether the arm can still stop inside its workspace, and the rows that brake and hold.
 
 use crate::{
     chunk::ChunkView,
@@ -22,7 +22,7 @@ pub struct BrakeOut {
 
 /// At which wall the position of a row that brakes or holds was stopped. Bit j is coordinate j, counted from 0, of the first
 /// min(dim, `pos_dim`): an axis past `pos_dim` sets none, though its box of 0..0 may move it. A position that touches its wall sets
-/// none, and what a short one lacks counts as 0. Both are 0 for the velocity kinds, `EeDelta` and `JointVelocity`; what is armed and the
+/// none, a round table sets none of its two axes, and what a short position lacks counts as 0. Both are 0 for the velocity kinds, `EeDelta` and `JointVelocity`; what is armed and the
 /// clamp mode do not matter.
 #[derive(Clone, Copy, Debug, Default, PartialEq, Eq)]
 pub struct WallMarks {
@@ -41,6 +41,10 @@ impl WallMarks {
 /// Forecasts from row `from` of a chunk through the committed rows and the braking after them. The slacks are written in
 /// order over the first `count` numbers of `slacks`. Where it is refused with 13, the slacks before the refusal's place are
 /// written.
+///
+/// A slack is how far a position is from the nearest wall or, on a round table, from its edge, and negative beyond it; the closed kinds take
+/// their stopping radius off that. The second-order brake holds the position that the rows leave, moved inside its workspace: on a round table
+/// that is computed also for `brake_steps` 0, at the place of the first substep after the rows.
 ///
 /// ```
 /// # use lictor::config::{BrakeKind, BrakeModel, Config};
@@ -99,8 +103,8 @@ pub fn brake_feasible(
     given_at(number, place, BrakeOut { count: marks[0] as usize, margin, feasible: marks[1] == 1, stop_dist })
 }
 
-/// The row that brakes, over the first dim numbers of `out`: the position inside its box, or the velocity ramped down. Gives the walls
-/// that stopped it. A short position or velocity counts as 0 past its end.
+/// The row that brakes, over the first dim numbers of `out`: the position moved inside its workspace, or the velocity ramped down. Gives the
+/// walls that stopped it. A short position or velocity counts as 0 past its end.
 ///
 /// ```
 /// # use lictor::config::{BrakeKind, BrakeModel, Config};
@@ -146,8 +150,8 @@ pub fn brake_action(c: &Config, pos: &[f64], vel: &[f64], out: &mut [f64]) -> An
     given(number, WallMarks::of(walls))
 }
 
-/// The row that holds, over the first dim numbers of `out`: the latched position inside its box, or no velocity. Gives the walls that
-/// stopped it.
+/// The row that holds, over the first dim numbers of `out`: the latched position moved inside its workspace, or no velocity. Gives the walls
+/// that stopped it.
 ///
 /// ```
 /// # use lictor::config::{BrakeKind, BrakeModel, Config};
@@ -163,6 +167,23 @@ pub fn brake_action(c: &Config, pos: &[f64], vel: &[f64], out: &mut [f64]) -> An
 /// let above = builder.walls([0.5; 8], [1.0; 8]).build()?;
 /// let walls = lictor::brake::hold_action(&above, &[], &mut row)?;
 /// assert_eq!((row, walls.low_dims, walls.high_dims), ([0.5], 1, 0));
+/// # Ok::<(), lictor::Refusal>(())
+/// ```
+///
+/// On a round table the position is measured from the centre, so that one too far away to measure is refused.
+///
+/// ```
+/// # use lictor::config::{BrakeKind, BrakeModel, Config};
+/// # let brake = BrakeModel {
+/// #     kind: BrakeKind::PdSecondOrder, k_p: 2.0, k_v: 1.0, dt: 0.5, substeps: 2, commit: 1, brake_steps: 1, react_ticks: 1,
+/// # };
+/// # let builder = Config::builder().axes(2).dt(1.0).v_max(1.0).a_max(9.0).j_max(9.0).reach_max(99.0).brake(brake);
+/// use lictor::{brake::{hold_action, WallMarks}, config::Shape, Refusal};
+/// let table = builder.shape(Shape::Disc { center: [0.0, 0.0], radius: 5.0 }).build()?;
+/// let mut row = [0.0; 2];
+/// assert_eq!(hold_action(&table, &[6.0, 8.0], &mut row), Ok(WallMarks::default()));
+/// assert!(row[0] < 3.0 && 2.999 < row[0]);
+/// assert_eq!(hold_action(&table, &[1e200, 0.0], &mut row), Err(Refusal::Computed { place: 0 }));
 /// # Ok::<(), lictor::Refusal>(())
 /// ```
 ///

@@ -8,7 +8,7 @@ use crate::{
 
 /// The bits of the checks. A bit of `armed` that is none of them arms nothing, and no number refuses it.
 pub mod trip {
-    /// A row leaves the walls.
+    /// A row passes a wall, or the edge of a round table.
     pub const WORKSPACE: u32 = 1;
     /// A step is longer than `v_max` allows.
     pub const SPEED: u32 = 2;
@@ -179,6 +179,53 @@ pub enum AbsentCamera {
     NoZone,
 }
 
+/// What the workspace is.
+///
+/// The margin moves walls and not a disc. What a shape does not have is not read: with a disc the walls of the first two axes, which are then
+/// derived as 0.
+///
+/// ```
+/// # use lictor::config::{BrakeKind, BrakeModel, Config};
+/// # let brake = BrakeModel {
+/// #     kind: BrakeKind::PdSecondOrder, k_p: 2.0, k_v: 1.0, dt: 0.5, substeps: 2, commit: 1, brake_steps: 1, react_ticks: 1,
+/// # };
+/// # let builder = Config::builder().dt(1.0).v_max(9.0).a_max(9.0).j_max(9.0).reach_max(99.0).brake(brake);
+/// use lictor::{config::Shape, Refusal};
+/// let table = builder.shape(Shape::Disc { center: [0.5, 0.0], radius: 1.5 });
+/// // two axes have no wall at all, and a third has its own
+/// assert!(table.axes(2).build().is_ok());
+/// assert_eq!(table.axes(3).build().unwrap_err(), Refusal::Number);
+/// let derived = table.axes(3).walls([-1.0; 8], [2.0; 8]).margin(0.25).build()?.derive()?;
+/// assert_eq!((&derived.box_lo[..4], &derived.box_hi[..4]), (&[0.0, 0.0, -0.75, 0.0][..], &[0.0, 0.0, 1.75, 0.0][..]));
+/// // a table has two axes, and a radius above 0
+/// assert_eq!(table.axes(1).build().unwrap_err(), Refusal::Shape);
+/// assert_eq!(table.axes(2).shape(Shape::Disc { center: [0.5, 0.0], radius: 0.0 }).build().unwrap_err(), Refusal::Number);
+/// # Ok::<(), lictor::Refusal>(())
+/// ```
+#[derive(Clone, Copy, Debug, Default, PartialEq)]
+pub enum Shape {
+    /// Each axis of a position has its walls.
+    #[default]
+    Box,
+    /// A round table over the first two axes; further axes have their walls. A position on its edge is inside.
+    Disc {
+        /// Where its middle is.
+        center: [f64; 2],
+        /// How far it reaches, above 0.
+        radius: f64,
+    },
+}
+
+impl Shape {
+    /// The code that the library takes, with the centre and the radius; of a box they are not read.
+    const fn laid(self) -> (u64, [f64; 2], f64) {
+        match self {
+            Self::Box => (0, [0.0; 2], 0.0),
+            Self::Disc { center, radius } => (1, center, radius),
+        }
+    }
+}
+
 /// The raw configuration. [`Config::builder`] starts from defaults; here every number is named.
 #[derive(Clone, Copy, Debug, PartialEq)]
 pub struct FuseConfig {
@@ -204,10 +251,12 @@ pub struct FuseConfig {
     pub norm_center: [f64; 8],
     /// The scale of each coordinate of a row, above 0.
     pub norm_scale: [f64; 8],
-    /// The low wall of each coordinate of a position; the first `pos_dim` are read, as of the high wall.
+    /// The low wall of each coordinate of a position; the first `pos_dim` are read, as of the high wall, without those of a disc.
     pub box_lo: [f64; 8],
     /// The high wall.
     pub box_hi: [f64; 8],
+    /// Whether the first two coordinates of a position have their walls or a round table.
+    pub shape: Shape,
     /// The slow zones.
     pub zones: Zones,
     /// What holds of a zone that the camera does not show.
@@ -268,6 +317,7 @@ impl Config {
     ///     norm_scale: [1.0; 8],
     ///     box_lo: [-1.0; 8],
     ///     box_hi: [1.0; 8],
+    ///     shape: Shape::Box,
     ///     zones: Zones::NONE,
     ///     absent_camera: AbsentCamera::Slow,
     ///     brake: BrakeModel {
@@ -288,7 +338,7 @@ impl Config {
     /// # Errors
     ///
     /// [`Size`](crate::Refusal::Size), [`Number`](crate::Refusal::Number), [`Steps`](crate::Refusal::Steps),
-    /// [`Channels`](crate::Refusal::Channels), [`Withdrawn`](crate::Refusal::Withdrawn).
+    /// [`Channels`](crate::Refusal::Channels), [`Shape`](crate::Refusal::Shape), [`Withdrawn`](crate::Refusal::Withdrawn).
     pub fn new(c: &FuseConfig) -> Answer<Self> {
         let config = Self::unjudged(c);
         config.derive()?;
@@ -306,6 +356,7 @@ impl Config {
     pub fn unjudged(c: &FuseConfig) -> Self {
         let gate = c.calibration.unwrap_or(NO_CALIBRATION);
         let [zone, zone1, zone2, zone3] = &c.zones.list;
+        let (shape, [disc_x, disc_y], disc_radius) = c.shape.laid();
         let b = &c.brake;
         let numbers = raw::Numbers {
             dt: c.dt,
@@ -330,6 +381,9 @@ impl Config {
             contact2_v_max: zone2.v_max,
             contact3_radius: zone3.radius,
             contact3_v_max: zone3.v_max,
+            disc_x,
+            disc_y,
+            disc_radius,
         };
         let counts = raw::Counts {
             dim: c.dim as u64,
@@ -358,6 +412,7 @@ impl Config {
             contact2_a1: zone2.a1.into(),
             contact3_a0: zone3.a0.into(),
             contact3_a1: zone3.a1.into(),
+            shape,
         };
         Self { numbers, counts, gate }
     }
@@ -424,12 +479,13 @@ impl Config {
 /// | Part | Starts as |
 /// | --- | --- |
 /// | `axes` (`dim`, `pos_dim`) | 0, refused with [`Size`](crate::Refusal::Size) |
-/// | `dt`, `v_max`, `a_max`, `j_max`, `reach_max`, `walls` | NaN, refused with [`Number`](crate::Refusal::Number) |
+/// | `dt`, `v_max`, `a_max`, `j_max`, `reach_max`, `walls` | NaN, refused with [`Number`](crate::Refusal::Number) where they are read |
 /// | `brake` | gains that are NaN, refused with [`Number`](crate::Refusal::Number) |
 /// | `kind` | [`ActionKind::EePosition`] |
 /// | `clamp` | [`ClampMode::Project`]: rows are moved inside the limits |
 /// | `armed` | [`trip::ALL`]: every check is made |
 /// | `margin` | 0: the walls as they are |
+/// | `shape` | [`Shape::Box`]: each axis has its walls |
 /// | `norm` | centers 0 and scales 1: coordinates as they are |
 /// | `zones`, `aux_count` | no slow zone, and no camera |
 /// | `absent_camera` | [`AbsentCamera::Slow`]: a zone that the camera does not show is slow everywhere |
@@ -471,6 +527,7 @@ impl ConfigBuilder {
         norm_scale: [1.0; 8],
         box_lo: [f64::NAN; 8],
         box_hi: [f64::NAN; 8],
+        shape: Shape::Box,
         zones: Zones::NONE,
         absent_camera: AbsentCamera::Slow,
         brake: BrakeModel {
@@ -543,15 +600,38 @@ impl ConfigBuilder {
         self
     }
 
-    /// The low and the high wall of each coordinate of a position; past `pos_dim` they are not read.
+    /// The low and the high wall of each coordinate of a position; past `pos_dim` they are not read, and the first two not with a disc.
     pub const fn walls(mut self, lo: [f64; 8], hi: [f64; 8]) -> Self {
         (self.0.box_lo, self.0.box_hi) = (lo, hi);
         self
     }
 
-    /// How far the walls are moved inward.
+    /// How far the walls are moved inward; a disc stays as it is.
     pub const fn margin(mut self, margin: f64) -> Self {
         self.0.margin = margin;
+        self
+    }
+
+    /// What the workspace is: the walls of each axis, or a round table for the first two.
+    ///
+    /// ```
+    /// # use lictor::config::{BrakeKind, BrakeModel, Config};
+    /// # let brake = BrakeModel {
+    /// #     kind: BrakeKind::PdSecondOrder, k_p: 2.0, k_v: 1.0, dt: 0.5, substeps: 2, commit: 1, brake_steps: 1, react_ticks: 1,
+    /// # };
+    /// # let builder = Config::builder().axes(2).dt(1.0).v_max(9.0).a_max(9.0).j_max(9.0).reach_max(99.0).brake(brake);
+    /// use lictor::{config::{trip, Shape}, tier0};
+    /// let table = builder.shape(Shape::Disc { center: [1.0, 0.0], radius: 5.0 }).build()?;
+    /// let mut out = [0.0; 2];
+    /// // (4, 4) is 5 away from the centre, and stays; (4, 5) is farther, and is moved towards it
+    /// let on_the_edge = tier0::check_action(&table, &[4.0; 2], &[], &[4.0; 2], &[4.0, 4.0], &mut out)?;
+    /// assert_eq!((on_the_edge.trips, out), (0, [4.0, 4.0]));
+    /// let beyond = tier0::check_action(&table, &[4.0; 2], &[], &[4.0; 2], &[4.0, 5.0], &mut out)?;
+    /// assert_eq!((beyond.trips, out[1] < 5.0), (trip::WORKSPACE, true));
+    /// # Ok::<(), lictor::Refusal>(())
+    /// ```
+    pub const fn shape(mut self, shape: Shape) -> Self {
+        self.0.shape = shape;
         self
     }
 
@@ -665,7 +745,7 @@ impl ConfigBuilder {
     }
 }
 
-/// What is derived: the box moved inward, inverse scales and inverse powers of dt, 0 past the counted entries.
+/// What is derived: the box moved inward, inverse scales and inverse powers of dt, 0 past the counted entries and for the walls of a disc's axes.
 #[repr(C)]
 #[derive(Clone, Copy, Debug, Default, PartialEq)]
 pub struct Derived {
@@ -721,7 +801,22 @@ mod tests {
         }
         assert_eq!(core::mem::offset_of!(raw::Numbers, contact1_radius), 44 * 8);
         assert_eq!(core::mem::offset_of!(raw::Counts, contact1_a0), 27 * 8);
-        assert_eq!(core::mem::size_of::<raw::Numbers>(), 50 * 8);
-        assert_eq!(core::mem::size_of::<raw::Counts>(), 33 * 8);
+    }
+
+    /// The code, the centre and the radius at the ends, and zeros for a box.
+    #[test]
+    fn the_shape_has_its_place() {
+        let laid = |shape| Config::unjudged(&FuseConfig { shape, ..ConfigBuilder::START });
+        for (shape, due) in
+            [(Shape::Box, (0, [0.0; 3])), (Shape::Disc { center: [1.0, 2.0], radius: 3.0 }, (1, [1.0, 2.0, 3.0]))]
+        {
+            let Config { numbers: m, counts: c, .. } = laid(shape);
+            assert_eq!((c.shape, [m.disc_x, m.disc_y, m.disc_radius]), due);
+        }
+        assert_eq!((Shape::default(), ConfigBuilder::START.shape), (Shape::Box, Shape::Box));
+        assert_eq!(core::mem::offset_of!(raw::Numbers, disc_x), 50 * 8);
+        assert_eq!(core::mem::offset_of!(raw::Counts, shape), 33 * 8);
+        assert_eq!(core::mem::size_of::<raw::Numbers>(), 53 * 8);
+        assert_eq!(core::mem::size_of::<raw::Counts>(), 34 * 8);
     }
 }

@@ -28,6 +28,9 @@ pub struct Numbers {
     pub contact2_v_max: f64,
     pub contact3_radius: f64,
     pub contact3_v_max: f64,
+    pub disc_x: f64,
+    pub disc_y: f64,
+    pub disc_radius: f64,
 }
 
 #[repr(C)]
@@ -59,6 +62,7 @@ pub struct Counts {
     pub contact2_a1: u64,
     pub contact3_a0: u64,
     pub contact3_a1: u64,
+    pub shape: u64,
 }
 
 extern "C" {

@@ -22,6 +22,8 @@ pub enum Refusal {
     Steps,
     /// 4: a zone's two channels are equal, one is at or above `aux_count`, or two zones name the same pair in the same order.
     Channels,
+    /// 15: a round table, and dim or `pos_dim` is below 2.
+    Shape,
     /// 17: a calibration's mask or one of its counted terms names Stall, which is not computed.
     Withdrawn,
     /// 5: a chunk has no rows or no width.
@@ -60,11 +62,12 @@ pub type Answer<T> = Result<T, Refusal>;
 
 impl Refusal {
     /// The refusals that have a number of their own, in the order of judging, the boundary's last; a place is 0.
-    pub const ALL: [Self; 15] = [
+    pub const ALL: [Self; 16] = [
         Self::Size,
         Self::Number,
         Self::Steps,
         Self::Channels,
+        Self::Shape,
         Self::Withdrawn,
         Self::Empty,
         Self::TooLong,
@@ -90,6 +93,7 @@ impl Refusal {
             Self::Number => 2,
             Self::Steps => 3,
             Self::Channels => 4,
+            Self::Shape => 15,
             Self::Withdrawn => 17,
             Self::Empty => 5,
             Self::TooLong => 6,
@@ -133,6 +137,7 @@ impl Refusal {
             Self::Number => "a configuration number is not finite or out of its range",
             Self::Steps => "a count of steps or ticks is out of range",
             Self::Channels => "a zone's channels are equal, past the declared ones or another's pair",
+            Self::Shape => "a round table, and a dimension is below 2",
             Self::Withdrawn => "the calibration's mask or a counted term names Stall, which is not computed",
             Self::Empty => "the chunk is empty",
             Self::TooLong => "the chunk has too many rows",

@@ -11,7 +11,7 @@ use crate::{
 ///
 /// `low_dims` and `high_dims` tell of the box alone, row by row as it came, on the first min(dim, `pos_dim`) coordinates. Neither the
 /// leash nor the reach sets one, and one stays where they bring the coordinate back, which `clamped_dims` then may not tell. A row
-/// that touches its wall sets none. Under [`ClampMode::Off`](crate::config::ClampMode) and where `WORKSPACE` is not armed both are 0.
+/// that touches its wall sets none, and a round table sets none of its two axes. Under [`ClampMode::Off`](crate::config::ClampMode) and where `WORKSPACE` is not armed both are 0.
 #[derive(Clone, Copy, Debug, PartialEq)]
 pub struct Tier0Out {
     /// The limits that a row as it came strictly exceeds, bits of [`trip`](crate::config::trip).
@@ -39,7 +39,7 @@ impl Tier0Out {
 /// where `pos` has one coordinate; the distance of such a zone is not computed. Lend what the camera sent in this tick, and nothing where it
 /// sent nothing: an older message, or zeros in its place, is a camera that sees. Where `CONTACT` is armed,
 /// [`Computed`](crate::Refusal::Computed) comes from the distance of any counted zone that is seen, and from the step of any that the arm is
-/// inside.
+/// inside. Where `WORKSPACE` is armed, so does it from every row's distance to the centre of a round table, under either clamp mode.
 ///
 /// ```
 /// # use lictor::config::{BrakeKind, BrakeModel, Config};
@@ -75,6 +75,26 @@ impl Tier0Out {
 /// let off = builder.armed(trip::WORKSPACE).clamp(ClampMode::Off).build()?;
 /// let found = tier0::check_chunk(&off, &[0.0; 3], &[], rows, &mut out)?;
 /// assert_eq!((found.trips, found.low_dims, found.high_dims), (trip::WORKSPACE, 0, 0));
+/// # Ok::<(), lictor::Refusal>(())
+/// ```
+///
+/// A round table of radius 5, and a height that keeps its walls: the first row passes both, the second touches both.
+///
+/// ```
+/// # use lictor::config::{BrakeKind, BrakeModel, Config};
+/// # let brake = BrakeModel {
+/// #     kind: BrakeKind::PdSecondOrder, k_p: 2.0, k_v: 1.0, dt: 0.5, substeps: 2, commit: 1, brake_steps: 1, react_ticks: 1,
+/// # };
+/// # let builder = Config::builder().axes(3).dt(1.0).v_max(5.0).a_max(9.0).j_max(9.0).reach_max(99.0).walls([-9.0; 8], [9.0; 8]).brake(brake);
+/// # use lictor::{chunk::ChunkView, config::{trip, Shape}, tier0};
+/// let rows = ChunkView::new(0, 1, 3, 1, &[6.0, 8.0, 10.0, 3.0, 4.0, 9.0]);
+/// let table = Shape::Disc { center: [0.0, 0.0], radius: 5.0 };
+/// let (config, mut out) = (builder.armed(trip::WORKSPACE).shape(table).build()?, [0.0; 6]);
+/// let found = tier0::check_chunk(&config, &[0.0; 3], &[], rows, &mut out)?;
+/// assert_eq!((found.trips, found.clamped_dims), (trip::WORKSPACE, 0b111));
+/// assert_eq!((found.low_dims, found.high_dims), (0, 0b100)); // of the table no side is told
+/// assert!(out[0] < 3.0 && 2.999 < out[0]); // towards the centre, to just below the radius
+/// assert_eq!(out[2..], [9.0, 3.0, 4.0, 9.0]);
 /// # Ok::<(), lictor::Refusal>(())
 /// ```
 ///

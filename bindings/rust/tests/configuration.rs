@@ -1,10 +1,11 @@
 //! What the crate itself does with a configuration: its defaults, its judging, and that no part of it gets lost on the way to the library.
 
 use lictor::{
+    brake,
     chunk::ChunkView,
     config::{
         trip, AbsentCamera, ActionKind, BrakeKind, BrakeModel, ClampMode, Config, ConfigBuilder, Contact, FuseConfig,
-        Zones,
+        Shape, Zones,
     },
     conformal::{self, Calibration, Scores},
     tier0, Refusal,
@@ -88,6 +89,8 @@ fn each_part_of_the_builder_comes_to_the_library() {
         (arm().reach_max(0.0), Refusal::Number),
         (arm().margin(-1.0), Refusal::Number),
         (arm().margin(1.5), Refusal::Number),
+        (arm().shape(Shape::Disc { center: [0.0; 2], radius: 0.0 }), Refusal::Number),
+        (arm().dim(1).shape(Shape::Disc { center: [0.0; 2], radius: 1.0 }), Refusal::Shape),
         (arm().norm([f64::NAN; 8], [1.0; 8]), Refusal::Number),
         (arm().norm([0.0; 8], [0.0; 8]), Refusal::Number),
         (arm().walls([2.0; 8], [1.0; 8]), Refusal::Number),
@@ -119,7 +122,7 @@ fn kind_clamp_and_armed_come_to_the_library() {
     assert_eq!(check(arm().armed(!trip::ALL)), Ok((0, false)));
     let hold = |kind| {
         let mut row = [7.0; 2];
-        lictor::brake::hold_action(&arm().kind(kind).build()?, &[0.5, 0.5], &mut row)?;
+        brake::hold_action(&arm().kind(kind).build()?, &[0.5, 0.5], &mut row)?;
         Ok::<_, Refusal>(row)
     };
     assert_eq!(hold(ActionKind::EePosition), Ok([0.5, 0.5]));
@@ -261,6 +264,115 @@ fn any_zone_that_the_arm_is_inside_holds_it() {
     }
 }
 
+/// A round table of radius 5 about this centre, and a height between -1 and 1. The walls of the first two axes would be refused.
+fn table(x: f64, y: f64) -> ConfigBuilder {
+    let (mut lo, mut hi) = ([-1.0; 8], [1.0; 8]);
+    lo[..2].fill(f64::NAN);
+    hi[..2].fill(f64::NEG_INFINITY);
+    let shape = Shape::Disc { center: [x, y], radius: 5.0 };
+    arm().axes(3).v_max(1e300).reach_max(1e300).walls(lo, hi).armed(trip::WORKSPACE).shape(shape)
+}
+
+/// Trips, the clamped, the low and the high mask of a row from the origin, and the row that goes out; by a chunk and by an action.
+fn sent(builder: &ConfigBuilder, row: [f64; 3]) -> Result<([u32; 4], [f64; 3]), Refusal> {
+    let (config, origin) = (builder.build()?, [0.0; 3]);
+    let (mut rows, mut out) = ([7.0; 3], [7.0; 3]);
+    let chunk = tier0::check_chunk(&config, &origin, &[], ChunkView::new(0, 0, 3, 1, &row), &mut rows);
+    let action = tier0::check_action(&config, &origin, &[], &origin, &row, &mut out);
+    assert_eq!((chunk, rows), (action, out));
+    let found = action?;
+    Ok(([found.trips, found.clamped_dims, found.low_dims, found.high_dims], out))
+}
+
+#[test]
+fn a_form_without_a_shape_is_a_box() {
+    assert_eq!(Shape::default(), Shape::Box);
+    assert_eq!(ConfigBuilder::START.shape, Shape::Box);
+    // what is set replaces what was set
+    let boxed = arm().shape(Shape::Disc { center: [0.0; 2], radius: 5.0 }).shape(Shape::Box).build().unwrap();
+    assert_eq!(boxed.derive().unwrap().box_hi[..3], [1.0, 1.0, 0.0]);
+    assert_eq!(table(0.0, 0.0).build().unwrap().derive().unwrap().box_hi[..3], [0.0, 0.0, 1.0]);
+    assert_eq!(table(0.0, 0.0).shape(Shape::Box).build().unwrap_err(), Refusal::Number);
+}
+
+/// The centre in its order, the radius and what is beyond it; no wall of the table's two axes, and those of the third.
+#[test]
+fn a_round_table_comes_to_the_library() {
+    let pulled = 5.0 * (1.0 - 1.0 / 68_719_476_736.0) / 10.0;
+    assert_eq!(sent(&table(0.0, 0.0), [3.0, 4.0, 1.0]), Ok(([0; 4], [3.0, 4.0, 1.0])));
+    let far = ([trip::WORKSPACE, 0b111, 0, 0b100], [6.0 * pulled, 8.0 * pulled, 1.0]);
+    assert_eq!(sent(&table(0.0, 0.0), [6.0, 8.0, 9.0]), Ok(far));
+    assert_eq!(sent(&table(3.0, 0.0), [8.0, 0.0, 0.0]), Ok(([0; 4], [8.0, 0.0, 0.0])));
+    assert_eq!(sent(&table(0.0, 3.0), [0.0, 8.0, 0.0]), Ok(([0; 4], [0.0, 8.0, 0.0])));
+    assert_eq!(sent(&table(0.0, 3.0), [8.0, 0.0, 0.0]).map(|(marks, _)| marks[0]), Ok(trip::WORKSPACE));
+    // the margin moves the third axis alone
+    assert_eq!(sent(&table(0.0, 0.0).margin(0.5), [3.0, 4.0, 0.5]), Ok(([0; 4], [3.0, 4.0, 0.5])));
+    let off = ([trip::WORKSPACE, 0, 0, 0], [6.0, 8.0, 9.0]);
+    assert_eq!(sent(&table(0.0, 0.0).clamp(ClampMode::Off), [6.0, 8.0, 9.0]), Ok(off));
+    assert_eq!(sent(&table(0.0, 0.0).armed(0), [6.0, 8.0, 9.0]), Ok(([0; 4], [6.0, 8.0, 9.0])));
+    // the step of 1e154 is finite, and the distance is not
+    let away = table(-1e154, 0.0).clamp(ClampMode::Off);
+    assert_eq!(sent(&away, [1e154, 0.0, 0.0]), Err(Refusal::Computed { place: 0 }));
+}
+
+#[test]
+fn a_round_table_is_refused_by_the_library() {
+    let with = |center, radius| table(0.0, 0.0).shape(Shape::Disc { center, radius }).build().err();
+    for radius in [f64::NAN, f64::INFINITY, -1.0, -0.0, 0.0] {
+        assert_eq!(with([0.0; 2], radius), Some(Refusal::Number), "radius {radius}");
+    }
+    for x in [f64::NAN, f64::INFINITY, f64::NEG_INFINITY] {
+        assert_eq!([with([x, 0.0], 1.0), with([0.0, x], 1.0)], [Some(Refusal::Number); 2], "centre {x}");
+    }
+    assert_eq!([with([0.0; 2], 5e-324), with([f64::MAX; 2], f64::MAX)], [None; 2]);
+    for (dim, pos_dim) in [(1, 1), (1, 2), (2, 1), (2, 2), (8, 1), (1, 8), (8, 2), (2, 8)] {
+        let due = if dim < 2 || pos_dim < 2 { Some(Refusal::Shape) } else { None };
+        assert_eq!(table(0.0, 0.0).dim(dim).pos_dim(pos_dim).build().err(), due, "{dim}, {pos_dim}");
+    }
+    let flat = table(0.0, 0.0).axes(1);
+    let zone = Contact { radius: 1.0, v_max: 0.5, a0: 0, a1: 0 };
+    let stall = Calibration { mask: 1 << conformal::feature::STALL, ..CALIBRATION };
+    assert_eq!(flat.contact(zone).build().unwrap_err(), Refusal::Channels, "15 comes after 4");
+    assert_eq!(flat.calibration(stall, 200).build().unwrap_err(), Refusal::Shape, "and before 17");
+}
+
+/// The forecast, the brake and the hold on a round table: slacks from the edge, rows on it, and 13 with its place.
+#[test]
+fn an_arm_stops_on_a_round_table() {
+    let config = table(0.0, 0.0).build().unwrap();
+    let rows = ChunkView::new(0, 0, 3, 1, &[0.0; 3]);
+    let closed =
+        table(0.0, 0.0).brake(BrakeModel { kind: BrakeKind::BoundedAccel, commit: 0, ..BRAKE }).build().unwrap();
+    let margin = |p: [f64; 3]| brake::brake_feasible(&closed, &p, &[0.0; 3], rows, 0, &mut [0.0]).map(|r| r.margin);
+    assert_eq!(
+        [margin([3.0, 0.0, 0.5]), margin([3.0, 4.0, 0.0]), margin([6.0, 8.0, 0.0])],
+        [Ok(0.5), Ok(0.0), Ok(-5.0)]
+    );
+    // at a speed of 2, with a_max 4 and one tick of 0.5 to react: half a metre to stop and one on the way
+    let moving = brake::brake_feasible(&closed, &[0.0; 3], &[0.0, 2.0, 0.0], rows, 0, &mut [0.0]).map(|r| r.margin);
+    assert_eq!(moving, Ok(1.0 - 1.5), "by the third axis");
+    let tall = table(0.0, 0.0).walls([-99.0; 8], [99.0; 8]).brake(BrakeModel {
+        kind: BrakeKind::BoundedAccel,
+        commit: 0,
+        ..BRAKE
+    });
+    let moving = brake::brake_feasible(&tall.build().unwrap(), &[3.0, 0.0, 0.0], &[0.0, 2.0, 0.0], rows, 0, &mut [0.0]);
+    assert_eq!(moving.map(|r| r.margin), Ok(2.0 - 1.5), "by the table");
+    for brake_steps in [0, 1] {
+        let model = BrakeModel { commit: 1, brake_steps, ..BRAKE };
+        let config = table(0.0, 0.0).brake(model).build().unwrap();
+        let (mut slacks, lost) = ([7.0; 4], [1e200, 0.0, 0.0]);
+        let told = brake::brake_feasible(&config, &lost, &[0.0; 3], rows, 1, &mut slacks);
+        assert_eq!((told, slacks), (Err(Refusal::Computed { place: 1 }), [7.0; 4]));
+    }
+    let (pulled, mut row) = (5.0 * (1.0 - 1.0 / 68_719_476_736.0) / 10.0, [7.0; 3]);
+    let walls = brake::hold_action(&config, &[6.0, 8.0, -9.0], &mut row).unwrap();
+    assert_eq!((walls.low_dims, walls.high_dims, row), (0b100, 0, [6.0 * pulled, 8.0 * pulled, -1.0]));
+    let kept = row;
+    let braked = brake::brake_action(&config, &[0.0, 1e200], &[], &mut row);
+    assert_eq!((braked, row), (Err(Refusal::Computed { place: 0 }), kept));
+}
+
 #[test]
 fn the_calibration_is_handed_over_once() {
     let config = arm().calibration(CALIBRATION, 200).build().unwrap();
@@ -289,7 +401,7 @@ fn a_configuration_that_is_not_judged_is_refused_by_each_call() {
     let unfit = Config::unjudged(&ConfigBuilder::START);
     let chunk = ChunkView::new(0, 0, 2, 1, &[0.0, 0.0]);
     assert_eq!(tier0::check_chunk(&unfit, &[0.0; 2], &[], chunk, &mut [0.0; 2]), Err(Refusal::Size));
-    assert_eq!(lictor::brake::brake_action(&unfit, &[], &[], &mut [0.0; 2]), Err(Refusal::Size));
+    assert_eq!(brake::brake_action(&unfit, &[], &[], &mut [0.0; 2]), Err(Refusal::Size));
 }
 
 #[test]
