@@ -2,8 +2,8 @@
 
 use differential::rng::Rng;
 use model::{
-    AbsentCamera, BrakeModel, Calibration, ChunkBuf, ChunkView, ClampMode, ContactLimit, FuseConfig, Scores, Tier1Rt,
-    Trail, Zones, NAMED,
+    AbsentCamera, BrakeModel, Calibration, ChunkBuf, ChunkView, ClampMode, ContactLimit, FuseConfig, Scores, Shape,
+    Tier1Rt, Trail, Zones, NAMED,
 };
 
 /// Numbers in [0, 1), the same in every run.
@@ -46,6 +46,11 @@ pub fn zoned(dim: usize, count: usize) -> FuseConfig {
     let zones = [(4.0, 0), (5.0, 2), (6.0, 4), (7.0, 6)];
     let zones = zones.map(|(v_max, a0)| ContactLimit { radius: 5.0, v_max, a0, a1: a0 + 1 });
     FuseConfig { zones: Zones::of(&zones[..count]), aux_count: 8, ..all_armed(dim) }
+}
+
+/// The same on a round table, beyond which some of the numbers in [0, 1) lie and most of those about the walls.
+pub fn round(cfg: FuseConfig) -> FuseConfig {
+    FuseConfig { shape: Shape::disc([0.5, 0.5], 0.5), ..cfg }
 }
 
 /// What the camera sends: every centre near the position.

@@ -68,8 +68,13 @@ fn main() {
     chunk(&port);
     window(&port);
     trail(&port);
-    forecast(&port, 1);
-    forecast(&port, 8);
+    for axes in [1, 2, 8] {
+        forecast(&port, &format!("forecast 4,096 substeps, axes: {axes}"), &inputs::second_order(axes));
+    }
+    for axes in [2, 8] {
+        let cfg = inputs::round(inputs::second_order(axes));
+        forecast(&port, &format!("forecast 4,096, round table: {axes}"), &cfg);
+    }
     check_chunk(&port, "check_chunk 64 x 8, all armed", &inputs::all_armed(8), &inputs::numbers(512));
     check_chunk(&port, "check_chunk 64 x 8, rows outside", &inputs::all_armed(8), &inputs::about_the_walls(512));
     check_action(&port, "check_action, 8 axes, all armed", &inputs::all_armed(8));
@@ -78,6 +83,10 @@ fn main() {
         check_chunk(&port, &format!("check_chunk 64 x 8, {zones}"), &cfg, &inputs::numbers(512));
         check_action(&port, &format!("check_action, 8 axes, {zones}"), &cfg);
     }
+    let round = inputs::round(inputs::all_armed(8));
+    check_chunk(&port, "check_chunk 64 x 8, round table", &round, &inputs::numbers(512));
+    check_chunk(&port, "check_chunk 64 x 8, beyond a table", &round, &inputs::about_the_walls(512));
+    check_action(&port, "check_action, 8 axes, round table", &round);
     features(&port, true);
     features(&port, false);
     gate(&port);
@@ -167,23 +176,23 @@ fn trail(port: &Port) {
     line("trail path, 20 samples of 8", 1000, Some(rust), ported);
 }
 
-fn forecast(port: &Port, dim: usize) {
-    let cfg = inputs::second_order(dim);
-    let raw = oracle::config(&cfg);
+fn forecast(port: &Port, name: &str, cfg: &FuseConfig) {
+    let (raw, dim) = (in_the_rust(cfg), cfg.dim);
     let (p, v, data) = (inputs::numbers(dim), inputs::numbers(dim), inputs::numbers(64 * dim));
     let ch = inputs::chunk(dim, &data);
-    let rust = calls(10, || brake::brake_feasible(black_box(&raw), &p, &v, oracle::chunk_view(ch), 0));
+    let rust =
+        raw.as_ref().map(|raw| calls(10, || brake::brake_feasible(black_box(raw), &p, &v, oracle::chunk_view(ch), 0)));
     let mut slacks = vec![0.0; 4096];
-    let (cfg, ch, p, v) = (linked::config(&cfg), linked::chunk_view(&ch), &p, &v);
+    let (cfg, ch, p, v) = (linked::config(cfg), linked::chunk_view(&ch), &p, &v);
     let ported = port
         .brake_feasible
         .map(|_| calls(10, move || lictor::brake::brake_feasible(black_box(&cfg), p, v, ch, 0, &mut slacks)));
-    line(&format!("forecast 4,096 substeps, axes: {dim}"), 10, Some(rust), ported);
+    line(name, 10, rust, ported);
 }
 
-/// The configuration as the Rust has it, which is with one zone or none.
+/// The configuration as the Rust has it, which is with a box, and with one zone or none.
 fn in_the_rust(cfg: &FuseConfig) -> Option<rust::FuseConfig> {
-    (cfg.zones.count <= 1).then(|| oracle::config(cfg))
+    (!cfg.shape.disc && cfg.zones.count <= 1).then(|| oracle::config(cfg))
 }
 
 /// Everything armed. Beside the Rust's trips and moved axes the port gives the walls that stopped them.

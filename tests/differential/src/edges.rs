@@ -1,11 +1,11 @@
-//! Refusals 1 to 4 and 17 of the configuration at the edge of each condition. The numbers stand here as the scope document's
-//! table and requests f and h give them, written by hand; the model and the linked entries are both held to them.
+//! Refusals 1 to 4, 15 and 17 of the configuration at the edge of each condition. The numbers stand here as the scope document's
+//! table and requests a, f and h give them, written by hand; the model and the linked entries are both held to them.
 
 use std::fmt::Debug;
 
 use model::{
     brake, conformal, envelope, tier0, tier1, AbsentCamera, ChunkView, ContactLimit, FuseConfig, Refusal, Scores,
-    Tier1Rt, Zones, CONTACT, MAX_SUBSTEPS, MAX_ZONES,
+    Shape, Tier1Rt, Zones, CONTACT, MAX_SUBSTEPS, MAX_ZONES, WORKSPACE,
 };
 
 use crate::{part::CHOICES, port::Port};
@@ -515,6 +515,144 @@ fn withdrawn() -> Vec<Condition> {
     ]
 }
 
+/// The configuration with a round table about the origin.
+fn disc(c: &mut FuseConfig) -> &mut FuseConfig {
+    c.shape = Shape::disc([0.0; 2], 1.0);
+    c
+}
+
+/// What a round table has, and what a box has not: its centre and its radius.
+fn round() -> Vec<Condition> {
+    const CENTRE: [(&str, Number); 2] =
+        [("centre[0] of a disc", |c| &mut c.shape.center[0]), ("centre[1] of a disc", |c| &mut c.shape.center[1])];
+    const BOXED: [(&str, Number); 3] = [
+        ("centre[0] of a box", |c| &mut c.shape.center[0]),
+        ("centre[1] of a box", |c| &mut c.shape.center[1]),
+        ("radius of a box", |c| &mut c.shape.radius),
+    ];
+    const ANY: [(f64, u8); 8] =
+        [(NAN, 0), (OTHER_NAN, 0), (INF, 0), (-INF, 0), (-1.0, 0), (-TINY, 0), (0.0, 0), (MAX, 0)];
+    // no farther than what brake and hold measure
+    let centre = [
+        (NAN, 2),
+        (OTHER_NAN, 2),
+        (INF, 2),
+        (-INF, 2),
+        (-1e150, 0),
+        (-TINY, 0),
+        (-0.0, 0),
+        (0.0, 0),
+        (TINY, 0),
+        (1e150, 0),
+    ];
+    let radius = [
+        (NAN, 2),
+        (OTHER_NAN, 2),
+        (INF, 2),
+        (-INF, 2),
+        (-1.0, 2),
+        (-TINY, 2),
+        (-0.0, 2),
+        (0.0, 2),
+        (TINY, 0),
+        (1.0, 0),
+        (NEARLY_MAX, 0),
+        (MAX, 0),
+    ];
+    let of_disc = |(field, number): (&'static str, Number)| {
+        at("a disc's centre isn't finite", field, |c, x| *number(disc(c)) = x, &centre)
+    };
+    let mut all: Vec<Condition> = CENTRE.into_iter().map(of_disc).collect();
+    all.extend(each("a box has no centre and no radius", &BOXED, &ANY));
+    all.push(at("a disc's radius isn't finite and above 0", "radius", |c, x| disc(c).shape.radius = x, &radius));
+    let armed = |c: &mut FuseConfig, (armed, x): (u32, f64)| (c.armed = armed, disc(c).shape.radius = x).1;
+    all.push(at(
+        "a disc's radius isn't finite and above 0",
+        "(armed, radius)",
+        armed,
+        &[((0, 0.0), 2), ((WORKSPACE, 0.0), 2), ((0, TINY), 0), ((WORKSPACE, TINY), 0)],
+    ));
+    all
+}
+
+/// The walls of the first two axes are unread with a disc; the others are judged, and the margin is.
+fn walls_of_a_disc() -> Vec<Condition> {
+    const UNREAD: [(&str, Number); 4] = [
+        ("box_lo[0] of a disc", |c| &mut c.box_lo[0]),
+        ("box_lo[1] of a disc", |c| &mut c.box_lo[1]),
+        ("box_hi[0] of a disc", |c| &mut c.box_hi[0]),
+        ("box_hi[1] of a disc", |c| &mut c.box_hi[1]),
+    ];
+    const ANY: [(f64, u8); 9] =
+        [(NAN, 0), (OTHER_NAN, 0), (INF, 0), (-INF, 0), (-2.0, 0), (2.0, 0), (OVER_1, 0), (MAX, 0), (-MAX, 0)];
+    let words = "a disc has no walls on the first two axes";
+    let unread = |(field, number): (&'static str, Number)| {
+        at(words, field, |c, x| ((c.dim, c.pos_dim) = (3, 3), *number(disc(c)) = x).1, &ANY)
+    };
+    let mut all: Vec<Condition> = UNREAD.into_iter().map(unread).collect();
+    let margin = |pos_dim: usize| move |c: &mut FuseConfig, m: f64| (c.pos_dim = pos_dim, disc(c).margin = m).1;
+    const JUDGED: [(f64, u8); 4] = [(NAN, 2), (INF, 2), (-TINY, 2), (0.0, 0)];
+    all.extend([
+        at(
+            "every further axis to pos_dim is judged",
+            "axis of a disc with box_lo above box_hi",
+            |c, i| ((c.dim, c.pos_dim) = (8, 8), disc(c).box_lo[i] = OVER_1).1,
+            &[(0, 0), (1, 0), (2, 2), (3, 2), (7, 2)],
+        ),
+        at(
+            "every further axis to pos_dim is judged",
+            "(dim, pos_dim) of a disc with a NaN in box_hi[2]",
+            |c, n: (usize, usize)| ((c.dim, c.pos_dim) = n, disc(c).box_hi[2] = NAN).1,
+            &[((2, 2), 0), ((3, 2), 0), ((8, 2), 0), ((2, 3), 2), ((8, 3), 2)],
+        ),
+        at(
+            "the margin is judged, and moves no disc",
+            "margin of a disc on two axes",
+            margin(2),
+            &[&JUDGED[..], &[(1.0, 0), (OVER_1, 0), (MAX, 0)]].concat(),
+        ),
+        at(
+            "the margin is judged, and moves no disc",
+            "margin of a disc on three axes",
+            margin(3),
+            &[&JUDGED[..], &[(1.0, 0), (OVER_1, 2), (MAX, 2)]].concat(),
+        ),
+    ]);
+    all
+}
+
+/// 15 on both sides of both counts; a box has any.
+fn axes_of_a_disc() -> Vec<Condition> {
+    const DIMS: [((usize, usize), u8); 14] = [
+        ((0, 0), 1),
+        ((0, 1), 1),
+        ((1, 0), 1),
+        ((1, 1), 15),
+        ((1, 2), 15),
+        ((2, 1), 15),
+        ((2, 2), 0),
+        ((1, 3), 15),
+        ((3, 1), 15),
+        ((8, 1), 15),
+        ((1, 8), 15),
+        ((8, 2), 0),
+        ((2, 8), 0),
+        ((9, 1), 1),
+    ];
+    let boxed = DIMS.map(|(dims, due)| (dims, if due == 15 { 0 } else { due }));
+    let with = |is: bool, armed: u32| {
+        move |c: &mut FuseConfig, (dim, pos_dim): (usize, usize)| {
+            disc(c).shape.disc = is;
+            (c.dim, c.pos_dim, c.armed) = (dim, pos_dim, armed);
+        }
+    };
+    vec![
+        at("a disc with dim or pos_dim below 2", "(dim, pos_dim)", with(true, 0), &DIMS),
+        at("a disc with dim or pos_dim below 2", "(dim, pos_dim), armed", with(true, WORKSPACE), &DIMS),
+        at("a box with dim or pos_dim below 2", "(dim, pos_dim) of a box", with(false, WORKSPACE), &boxed),
+    ]
+}
+
 /// A configured contact is judged whether its check is armed or not.
 fn unarmed() -> Vec<Condition> {
     const BITS: [u32; 3] = [0, !CONTACT & 63, CONTACT];
@@ -573,7 +711,7 @@ fn clear_flag() -> Vec<Condition> {
     ]
 }
 
-/// Every set of the first four numbers at once, without 17 and with it: the first in the order of judging is given.
+/// Every set of the first four numbers at once, without 15 and 17, with one of them and with both: the first in the order of judging is given.
 fn together() -> Vec<Condition> {
     const DUE: [([bool; 4], u8); 16] = [
         ([false, false, false, false], 0),
@@ -593,20 +731,37 @@ fn together() -> Vec<Condition> {
         ([true, true, true, false], 1),
         ([true, true, true, true], 1),
     ];
-    let mut with_17 = DUE;
-    with_17[0].1 = 17;
+    let (mut with_15, mut with_17) = (DUE, DUE);
+    (with_15[0].1, with_17[0].1) = (15, 17);
     type Four = [fn(&mut FuseConfig); 4];
-    let set = |changes: Four, term: u32, c: &mut FuseConfig, which: [bool; 4]| {
+    let set = |changes: Four, term: u32, table: bool, c: &mut FuseConfig, which: [bool; 4]| {
         c.cal.terms[0] = term;
+        if table {
+            // too few axes of a row, and a third wall for the margin
+            (disc(c).dim, c.pos_dim) = (1, 3);
+        }
         changes.iter().zip(which).filter(|(_, is)| *is).for_each(|(change, _)| change(c));
     };
-    let broken = |field: [&'static str; 2], changes: Four| {
+    let broken = |field: [&'static str; 4], changes: Four| {
         let words = "the first number that applies is given";
         [
-            at(words, field[0], |c, which| set(changes, 1, c, which), &DUE),
-            at(words, field[1], |c, which| set(changes, 1 << 7, c, which), &with_17),
+            at(words, field[0], |c, which| set(changes, 1, false, c, which), &DUE),
+            at(words, field[1], |c, which| set(changes, 1 << 7, false, c, which), &with_17),
+            at(words, field[2], |c, which| set(changes, 1, true, c, which), &with_15),
+            at(words, field[3], |c, which| set(changes, 1 << 7, true, c, which), &with_15),
         ]
     };
+    /// The field alone, with bit 7, on a disc of one axis, and with both.
+    macro_rules! ways {
+        ($field:literal) => {
+            [
+                $field,
+                concat!($field, ", with bit 7"),
+                concat!($field, ", on a disc of one axis"),
+                concat!($field, ", on a disc of one axis with bit 7"),
+            ]
+        };
+    }
     let plain: Four = [|c| c.dim = 9, |c| c.dt = 0.0, |c| c.brake.substeps = 0, |c| zone(c).a1 = 0];
     let calibrated: Four =
         [|c| c.cal.mask = 1 << 12, |c| c.cal.tau = NAN, |c| c.horizon_ticks = 0, |c| c.aux_count = 1];
@@ -619,16 +774,10 @@ fn together() -> Vec<Condition> {
         |c| (c.zones.list[1], c.zones.count) = (c.zones.list[0], c.zones.count.max(2)),
     ];
     [
-        broken(
-            ["[zone count, contact v_max, commit, a pair]", "[zone count, contact v_max, commit, a pair], with bit 7"],
-            zoned,
-        ),
-        broken(["[dim, dt, substeps, a1]", "[dim, dt, substeps, a1], with bit 7"], plain),
-        broken(
-            ["[mask, tau, horizon_ticks, aux_count]", "[mask, tau, horizon_ticks, aux_count], with bit 7"],
-            calibrated,
-        ),
-        broken(["[pos_dim, margin, brake_steps, a0]", "[pos_dim, margin, brake_steps, a0], with bit 7"], derived),
+        broken(ways!("[zone count, contact v_max, commit, a pair]"), zoned),
+        broken(ways!("[dim, dt, substeps, a1]"), plain),
+        broken(ways!("[mask, tau, horizon_ticks, aux_count]"), calibrated),
+        broken(ways!("[pos_dim, margin, brake_steps, a0]"), derived),
     ]
     .concat()
 }
@@ -648,6 +797,9 @@ fn table() -> Vec<Condition> {
         channels(),
         every_zone(),
         pairs_of_zones(),
+        round(),
+        walls_of_a_disc(),
+        axes_of_a_disc(),
         withdrawn(),
         unarmed(),
         clear_flag(),

@@ -1,8 +1,8 @@
 //! Good inputs, and their parts.
 
 use model::{
-    AbsentCamera, BrakeModel, Calibration, ChunkBuf, ChunkView, ClampMode, ContactLimit, FuseConfig, Scores, Trail,
-    Zones, BINS, HELD, MAX_D, MAX_H, NAMED, NFEAT, STALL,
+    AbsentCamera, BrakeModel, Calibration, ChunkBuf, ChunkView, ClampMode, ContactLimit, FuseConfig, Scores, Shape,
+    Trail, Zones, BINS, HELD, MAX_D, MAX_H, NAMED, NFEAT, STALL, WORKSPACE,
 };
 
 use crate::{
@@ -226,7 +226,7 @@ fn fill_axes(rng: &mut Rng, field: Field, cfg: &mut FuseConfig, room: f64) {
 }
 
 /// A configuration that is accepted, unless the field's size is too much for a derived number. Of two, one has limits
-/// that the field's numbers seldom exceed. It has the old choice and no more than one zone, which is what the Rust has.
+/// that the field's numbers seldom exceed. It has the box, the old choice and no more than one zone, which is what the Rust has.
 pub fn config(rng: &mut Rng, field: Field) -> FuseConfig {
     let room = if rng.one_in(2) { 32.0 } else { 1.0 };
     let dim = rng.within(1, MAX_D);
@@ -245,6 +245,7 @@ pub fn config(rng: &mut Rng, field: Field) -> FuseConfig {
         margin,
         box_lo: [f64::NAN; 8],
         box_hi: [f64::NEG_INFINITY; 8],
+        shape: Shape::BOX,
         norm_center: [f64::NAN; 8],
         norm_scale: [-1.0; 8],
         zones: contact(rng, field, aux_count),
@@ -265,15 +266,30 @@ pub fn config(rng: &mut Rng, field: Field) -> FuseConfig {
     cfg
 }
 
-/// All parts but the choice for an absent camera: one part more would change the inputs that the kept sample was made of.
+/// All parts but the shape and the choice for an absent camera: one part more would change the inputs that the kept sample was made of.
 pub fn config_parts(c: &mut FuseConfig) -> Vec<Part<'_>> {
     let mut parts = config_parts_with_choice(c);
     parts.pop();
     parts
 }
 
-/// All parts, the choice last.
+/// All parts but the shape, the choice last.
 pub fn config_parts_with_choice(c: &mut FuseConfig) -> Vec<Part<'_>> {
+    let mut parts = all_config_parts(c);
+    parts.pop();
+    parts
+}
+
+/// All parts but the choice, the shape last.
+pub fn config_parts_with_shape(c: &mut FuseConfig) -> Vec<Part<'_>> {
+    let mut parts = all_config_parts(c);
+    let choice = parts.len() - 2;
+    parts.remove(choice);
+    parts
+}
+
+/// All parts, the choice and the shape last.
+fn all_config_parts(c: &mut FuseConfig) -> Vec<Part<'_>> {
     let mut parts = vec![
         Part::Usize(&mut c.dim),
         Part::Usize(&mut c.pos_dim),
@@ -305,10 +321,11 @@ pub fn config_parts_with_choice(c: &mut FuseConfig) -> Vec<Part<'_>> {
     ];
     parts.extend(calibration_parts(&mut c.cal));
     parts.push(Part::Absent(&mut c.absent_camera));
+    parts.push(Part::Shape(&mut c.shape));
     parts
 }
 
-/// All parts, with each of several zones in the place of the one.
+/// All parts but the shape, with each of several zones in the place of the one.
 pub fn config_parts_with_zones(c: &mut FuseConfig) -> Vec<Part<'_>> {
     let several = |part| match part {
         Part::Contact(zones) => Part::Zones(zones),
@@ -330,6 +347,72 @@ pub fn lay_walls(rng: &mut Rng, cfg: &mut FuseConfig, c: usize, points: Vec<&mut
     for x in points {
         let wall = rng.pick(&[cfg.box_lo[c], cfg.box_hi[c]]);
         *x = if by_zero { rng.pick(&[0.0, -0.0, 5e-324, -5e-324]) } else { at_limit(rng, wall) };
+    }
+}
+
+/// Numbers that may stand where nothing reads them.
+const ANYTHING: [f64; 8] = [f64::NAN, f64::INFINITY, f64::NEG_INFINITY, -1.0, 0.0, 0.5, f64::MAX, 1e200];
+
+/// A round table, mostly armed, with anything in the first two walls; of eight workspaces one is a box with anything in its centre and
+/// radius. Of sixteen tables one is so large or so small that numbers near 1 are lost beside it.
+pub fn lay_table(rng: &mut Rng, field: Field, cfg: &mut FuseConfig) {
+    if rng.one_in(8) {
+        cfg.shape =
+            Shape { disc: false, center: [rng.pick(&ANYTHING), rng.pick(&ANYTHING)], radius: rng.pick(&ANYTHING) };
+        return;
+    }
+    let center = if rng.one_in(3) { [0.0; 2] } else { [field.number(rng), field.number(rng)] };
+    let radius = match rng.below(16) {
+        0 => rng.pick(&[5e-324, 1e-200, 1e200, f64::MAX]),
+        1..=6 => 8.0 * field.above(rng),
+        _ => field.above(rng),
+    };
+    cfg.shape = Shape::disc(center, radius);
+    if !rng.one_in(3) {
+        for wall in cfg.box_lo[..2].iter_mut().chain(&mut cfg.box_hi[..2]) {
+            *wall = rng.pick(&ANYTHING);
+        }
+    }
+    if !rng.one_in(8) {
+        cfg.armed |= WORKSPACE;
+    }
+}
+
+/// The first two coordinates of a point at the centre, on the edge of the table or a step of the format to either side, a little or far
+/// beyond it, or so far out that the distance is not finite; of four points one stays where it was, and so does each of a box.
+pub fn lay_on_table(rng: &mut Rng, shape: &Shape, point: &mut [f64]) {
+    let (true, [x, y, ..]) = (shape.disc, point) else { return };
+    let ([cx, cy], r) = (shape.center, shape.radius);
+    let (along, across) = rng.pick(&[(1.0, 0.0), (-1.0, 0.0), (0.0, 1.0), (0.0, -1.0), (0.6, 0.8), (-0.8, 0.6)]);
+    let at = match rng.below(16) {
+        0 | 1 => [cx, cy],
+        2..=6 => [at_limit(rng, cx + along * r), at_limit(rng, cy + across * r)],
+        7 | 8 => [cx + along * r, cy + across * r].map(|x| x + x / 64.0),
+        9 | 10 => [cx + 8.0 * along * r, cy + 8.0 * across * r],
+        11 => [rng.pick(&[1e200, -1e200, 1e150, f64::MAX]), cy],
+        _ => [*x, *y],
+    };
+    (*x, *y) = (at[0], at[1]);
+}
+
+/// Points about as far out as a distance can be, all the same way: the steps between them are finite, and of some the distance from the centre
+/// is not.
+pub fn lay_far_out<'a>(rng: &mut Rng, points: impl IntoIterator<Item = &'a mut [f64]>) {
+    let (along, way) = (rng.below(2), rng.pick(&[1.0, -1.0]));
+    for point in points {
+        if let Some(x) = point.get_mut(along) {
+            *x = way * rng.pick(&[1e154, 1.3e154, 1.34e154, 1.35e154, 2e154]);
+        }
+    }
+}
+
+/// The radius laid on the distance of a point, so that it is on the edge or a step of the format to either side.
+pub fn lay_edge(rng: &mut Rng, shape: &mut Shape, point: &[f64]) {
+    if let (true, [x, y, ..]) = (shape.disc, point) {
+        let radius = at_limit(rng, oracle::rust::fmath::dist(&[*x, *y], &shape.center, 2));
+        if radius > 0.0 && radius.is_finite() {
+            shape.radius = radius;
+        }
     }
 }
 

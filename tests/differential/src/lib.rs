@@ -2,6 +2,7 @@
 
 pub mod edges;
 pub mod entries;
+pub mod exported;
 pub mod input;
 pub mod linked;
 pub mod number;

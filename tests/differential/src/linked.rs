@@ -4,7 +4,7 @@
 use lictor::{brake, chunk, config, conformal, fmath, tier0, tier1, window};
 use model::{
     AbsentCamera, ActionKind, BrakeKind, BrakeOut, Calibration, ChunkBuf, ChunkView, ClampMode, ContactLimit, Derived,
-    FuseConfig, Scores, Tier0Out, Tier1Rt, Trail, WallMarks, Zones, MAX_ZONES,
+    FuseConfig, Scores, Shape, Tier0Out, Tier1Rt, Trail, WallMarks, Zones, MAX_ZONES,
 };
 
 use crate::port::{Answer, Port};
@@ -222,6 +222,14 @@ fn zones(z: &Zones) -> config::Zones {
     config::Zones::of(&all)
 }
 
+/// The box or the disc. What stands in the centre and the radius of a box does not come to the library by the binding.
+fn shape(s: &Shape) -> config::Shape {
+    match s.disc {
+        false => config::Shape::Box,
+        true => config::Shape::Disc { center: s.center, radius: s.radius },
+    }
+}
+
 /// The configuration as the library takes it, not judged: each entry is compared on what it has to refuse, too.
 pub fn config(c: &FuseConfig) -> config::Config {
     config::Config::unjudged(&config::FuseConfig {
@@ -238,6 +246,7 @@ pub fn config(c: &FuseConfig) -> config::Config {
         norm_scale: c.norm_scale,
         box_lo: c.box_lo,
         box_hi: c.box_hi,
+        shape: shape(&c.shape),
         zones: zones(&c.zones),
         absent_camera: match c.absent_camera {
             AbsentCamera::Slow => config::AbsentCamera::Slow,

@@ -1,7 +1,7 @@
 //! The parts of an input: one of them is broken to damage a good input, and they are made simpler one by one when a
 //! failure is shown.
 
-use model::{AbsentCamera, ActionKind, BrakeKind, ClampMode, ContactLimit, Zones, MAX_ZONES};
+use model::{AbsentCamera, ActionKind, BrakeKind, ClampMode, ContactLimit, Shape, Zones, MAX_ZONES};
 
 use crate::{input::ChunkIn, number::broken, rng::Rng};
 
@@ -25,6 +25,7 @@ pub enum Part<'a> {
     /// Any count of zones, and what stands past it.
     Zones(&'a mut Zones),
     Absent(&'a mut AbsentCamera),
+    Shape(&'a mut Shape),
     Chunk(&'a mut ChunkIn),
 }
 
@@ -60,6 +61,7 @@ impl Part<'_> {
             Part::Contact(z) => damage_contact(rng, z),
             Part::Zones(z) => damage_zones(rng, z),
             Part::Absent(choice) => **choice = rng.pick(&CHOICES),
+            Part::Shape(shape) => damage_shape(rng, shape),
             Part::Chunk(c) => damage_chunk(rng, c),
         }
     }
@@ -82,6 +84,7 @@ impl Part<'_> {
             Part::Contact(z) => simpler_contact(z, way),
             Part::Zones(z) => simpler_zones(z, way),
             Part::Absent(choice) => once(way, *choice, AbsentCamera::Slow),
+            Part::Shape(shape) => simpler_shape(shape, way),
             Part::Chunk(c) => simpler_chunk(c, way),
         }
     }
@@ -151,6 +154,15 @@ fn damage_zones(rng: &mut Rng, z: &mut Zones) {
         2 => (z.list[one].a0, z.list[one].a1) = (z.list[other].a0, z.list[other].a1),
         3 => (z.list[one].a0, z.list[one].a1) = (z.list[other].a1, z.list[other].a0),
         field => damage_zone(rng, &mut z.list[one], field - 4),
+    }
+}
+
+fn damage_shape(rng: &mut Rng, shape: &mut Shape) {
+    match rng.below(6) {
+        0 => shape.disc = !shape.disc,
+        1 => shape.center[0] = broken(rng, shape.center[0]),
+        2 => shape.center[1] = broken(rng, shape.center[1]),
+        _ => shape.radius = broken(rng, shape.radius),
     }
 }
 
@@ -281,6 +293,25 @@ fn simpler_zones(z: &mut Zones, way: usize) -> Option<bool> {
         }
     }
     Some(z.count < before.count || way == PAST && format!("{z:?}") != format!("{before:?}"))
+}
+
+/// The box; what the box does not read; and then centre and radius, number by number.
+fn simpler_shape(shape: &mut Shape, way: usize) -> Option<bool> {
+    match way {
+        0 => once(0, &mut shape.disc, false),
+        1 if shape.disc => Some(false),
+        1 => {
+            let changed = format!("{shape:?}") != format!("{:?}", Shape::BOX);
+            *shape = Shape::BOX;
+            Some(changed)
+        }
+        _ => match (way - 2) / WAYS {
+            0 => simpler_number(&mut shape.radius, 1.0, (way - 2) % WAYS),
+            1 => simpler_number(&mut shape.center[0], 0.0, (way - 2) % WAYS),
+            2 => simpler_number(&mut shape.center[1], 0.0, (way - 2) % WAYS),
+            _ => None,
+        },
+    }
 }
 
 fn simpler_chunk(c: &mut ChunkIn, way: usize) -> Option<bool> {

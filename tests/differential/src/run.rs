@@ -27,7 +27,7 @@ pub struct Outcome {
 }
 
 pub type Call<I> = Box<dyn Fn(&I) -> Outcome + Send + Sync>;
-/// `None` where the Rust lacks the size, the choice or the zones.
+/// `None` where the Rust lacks the size, the choice, the zones or the round table.
 pub type RustCall<I> = Box<dyn Fn(&I) -> Option<Outcome> + Send + Sync>;
 pub type Parts<I> = for<'a> fn(&'a mut I) -> Vec<Part<'a>>;
 
@@ -61,7 +61,7 @@ pub struct Report {
     /// by number
     pub refused: [u64; 18],
     pub against_rust: u64,
-    /// accepted, but of a size, a shape, a choice or zones that the Rust lacks
+    /// accepted, but of a size, a form, a choice, zones or a round table that the Rust lacks
     pub skipped: u64,
     pub against_port: u64,
     pub seconds: f64,

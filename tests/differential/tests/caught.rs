@@ -4,17 +4,17 @@ use std::time::Duration;
 
 use differential::{
     edges, entries,
-    port::{CheckAction, CheckChunk, Port},
+    port::{BrakeFeasible, CheckAction, CheckChunk, Derive, Port},
     run::Budget,
 };
 use model::{
     brake,
     chunk::action,
     fmath::{self, min},
-    refusal::WITHDRAWN,
+    refusal::{SHAPE, WITHDRAWN},
     AbsentCamera, ActionKind, BrakeKind, BrakeOut, Calibration, ChunkView, ClampMode, ContactLimit, Derived,
-    FuseConfig, Refusal, Scores, Tier0Out, Tier1Rt, Trail, WallMarks, Zones, CONTACT, MAX_D, NAMED, SPEED, STALL,
-    WORKSPACE,
+    FuseConfig, Refusal, Scores, Shape, Tier0Out, Tier1Rt, Trail, WallMarks, Zones, CONTACT, MAX_D, NAMED, REACH,
+    SPEED, STALL, WORKSPACE,
 };
 
 /// What the run of one entry says with this port.
@@ -856,6 +856,658 @@ fn masks_of_brake_and_hold_that_are_others() {
     }
 }
 
+/// A judging of another configuration than the one that is given.
+macro_rules! judged {
+    ($change:expr) => {
+        |cfg: &FuseConfig| {
+            let change: fn(&mut FuseConfig) = $change;
+            let mut other = *cfg;
+            change(&mut other);
+            model::envelope::derive(&other)
+        }
+    };
+}
+
+// ---- round tables
+
+/// The text of an entry's run on round tables.
+fn on_table(port: Port, entry: &str) -> String {
+    failure(port, &format!("{entry} on a round table"))
+}
+
+const CHECKS: [&str; 2] = ["check_chunk", "check_action"];
+const ROWS_SENT: [&str; 2] = ["brake_action", "hold_action"];
+
+/// The model's brake, hold and forecast with another configuration, where both are accepted.
+macro_rules! braked_with {
+    ($change:expr) => {{
+        const CHANGE: fn(&mut FuseConfig) = $change;
+        fn other(cfg: &FuseConfig) -> FuseConfig {
+            let mut other = *cfg;
+            CHANGE(&mut other);
+            other
+        }
+        Port {
+            brake_feasible: Some(|cfg, p, v, ch, from, slacks| {
+                let mut seen = slacks.to_vec();
+                let right = brake::brake_feasible(cfg, p, v, ch, from, slacks)?;
+                let answer = brake::brake_feasible(&other(cfg), p, v, ch, from, &mut seen);
+                if answer.is_ok() {
+                    slacks.copy_from_slice(&seen);
+                }
+                Ok(answer.unwrap_or(right))
+            }),
+            brake_action: Some(|cfg, p, v, out| {
+                let mut seen = out.to_vec();
+                let right = brake::brake_action(cfg, p, v, out)?;
+                let answer = brake::brake_action(&other(cfg), p, v, &mut seen);
+                if answer.is_ok() {
+                    out.copy_from_slice(&seen);
+                }
+                Ok(answer.unwrap_or(right))
+            }),
+            hold_action: Some(|cfg, p, out| {
+                let mut seen = out.to_vec();
+                let right = brake::hold_action(cfg, p, out)?;
+                let answer = brake::hold_action(&other(cfg), p, &mut seen);
+                if answer.is_ok() {
+                    out.copy_from_slice(&seen);
+                }
+                Ok(answer.unwrap_or(right))
+            }),
+            ..Port::default()
+        }
+    }};
+}
+
+/// Whether the workspace is a round table.
+fn table(cfg: &FuseConfig) -> bool {
+    cfg.shape.disc
+}
+
+/// The square round a disc, in the place of the disc, where no margin moves it.
+fn square(cfg: &mut FuseConfig) {
+    if table(cfg) && cfg.margin == 0.0 {
+        let Shape { center, radius, .. } = cfg.shape;
+        for (c, x) in center.into_iter().enumerate() {
+            (cfg.box_lo[c], cfg.box_hi[c]) = (x - radius, x + radius);
+        }
+        cfg.shape.disc = false;
+    }
+}
+
+/// A disc that nothing exceeds.
+fn endless(cfg: &mut FuseConfig) {
+    if table(cfg) {
+        cfg.shape.radius = f64::MAX;
+    }
+}
+
+#[test]
+fn the_margin_moves_the_disc() {
+    for entry in CHECKS {
+        let text = on_table(mistaken!(Takes::Accepted, |w| w.cfg.shape.radius -= w.cfg.margin), entry);
+        assert!(text.contains("disc: true") && text.contains("margin:"), "a table and a margin");
+    }
+    for entry in ROWS_SENT.into_iter().chain(["brake_feasible"]) {
+        let text = on_table(braked_with!(|c| c.shape.radius -= c.margin), entry);
+        assert!(text.contains("disc: true") && text.contains("margin:"), "a table and a margin");
+    }
+}
+
+/// A judging that refuses what another configuration is refused for, where the given one is accepted.
+macro_rules! refuses_as {
+    ($change:expr) => {
+        |cfg: &FuseConfig| {
+            let change: fn(&mut FuseConfig) = $change;
+            let mut other = *cfg;
+            change(&mut other);
+            match (model::envelope::derive(cfg), model::envelope::derive(&other)) {
+                (Ok(_), Err(r)) => Err(r),
+                (right, _) => right,
+            }
+        }
+    };
+}
+
+/// A judging that accepts a configuration that is refused, where another one is accepted.
+macro_rules! accepts_as {
+    ($change:expr) => {
+        |cfg: &FuseConfig| {
+            let change: fn(&mut FuseConfig) = $change;
+            let mut other = *cfg;
+            change(&mut other);
+            match (model::envelope::derive(cfg), model::envelope::derive(&other)) {
+                (Err(_), Ok(derived)) => Ok(derived),
+                (right, _) => right,
+            }
+        }
+    };
+}
+
+/// The text of the run of a judging that is wrong on round tables.
+fn judging_found(derive: Derive, answer: &str) -> String {
+    let text = on_table(Port { derive: Some(derive), ..Port::default() }, "derive");
+    assert!(text.contains(answer), "{answer}");
+    text
+}
+
+#[test]
+fn what_a_shape_does_not_read_is_judged() {
+    let two = "the port says Refusal { number: 2, place: 0 }; the model accepts";
+    let walls = judging_found(refuses_as!(|c| c.shape.disc = false), two);
+    assert!(walls.contains("box_") && walls.contains("disc: true"), "the walls of a disc");
+    let first = refuses_as!(|c| {
+        (c.box_lo[1], c.box_hi[1]) = (0.0, 2.0 * c.margin);
+        c.shape.disc = false;
+    });
+    let first = judging_found(first, two);
+    assert!(first.contains("box_") && first.contains("disc: true"), "the first axis of a disc");
+    let centre = refuses_as!(|c| {
+        (c.shape.disc, c.shape.radius, c.dim, c.pos_dim) = (true, 1.0, c.dim.max(2), c.pos_dim.max(2));
+        (c.norm_center, c.norm_scale) = ([0.0; 8], [1.0; 8]);
+    });
+    let centre = judging_found(centre, two);
+    assert!(centre.contains("shape: Shape { disc: false, center: ["), "the centre of a box");
+    let radius = refuses_as!(|c| {
+        (c.shape, c.dim, c.pos_dim) = (Shape::disc([0.0; 2], c.shape.radius), c.dim.max(2), c.pos_dim.max(2));
+        (c.norm_center, c.norm_scale) = ([0.0; 8], [1.0; 8]);
+    });
+    let radius = judging_found(radius, two);
+    assert!(!radius.contains("disc: true"), "the radius of a box");
+}
+
+#[test]
+fn what_a_disc_reads_is_not_judged() {
+    let said = |derive: Derive, number: u8| {
+        let answer = format!("the port accepts; the model says Refusal {{ number: {number}, place: 0 }}");
+        let text = judging_found(derive, &answer);
+        assert!(text.contains("disc: true"), "a table");
+    };
+    said(accepts_as!(|c| c.shape.radius = if c.shape.radius == 0.0 { 1.0 } else { c.shape.radius }), 2);
+    said(accepts_as!(|c| c.shape.radius = if c.shape.radius < 0.0 { 1.0 } else { c.shape.radius }), 2);
+    said(accepts_as!(|c| c.shape.radius = if c.shape.radius.is_finite() { c.shape.radius } else { 1.0 }), 2);
+    said(accepts_as!(|c| c.shape.center[0] = if c.shape.center[0].is_finite() { c.shape.center[0] } else { 0.0 }), 2);
+    said(accepts_as!(|c| c.shape.center[1] = if c.shape.center[1].is_finite() { c.shape.center[1] } else { 0.0 }), 2);
+    said(accepts_as!(|c| c.margin = if c.shape.disc { 0.0 } else { c.margin }), 2);
+    said(
+        accepts_as!(|c| if c.shape.disc {
+            (c.box_lo, c.box_hi) = ([0.0; 8], [2.0 * c.margin; 8])
+        }),
+        2,
+    );
+    said(accepts_as!(|c| c.pos_dim += (c.shape.disc && c.pos_dim == 1) as usize), 15);
+    said(
+        accepts_as!(|c| if c.shape.disc && c.dim == 1 {
+            (c.dim, c.norm_center[1], c.norm_scale[1]) = (2, 0.0, 1.0)
+        }),
+        15,
+    );
+    // both of them below 2
+    said(
+        accepts_as!(|c| if (c.dim, c.pos_dim) == (1, 1) {
+            (c.shape.disc, c.box_lo, c.box_hi) = (false, [0.0; 8], [2.0 * c.margin; 8]);
+        }),
+        15,
+    );
+}
+
+#[test]
+fn walls_of_a_disc_that_are_derived() {
+    let derive: Derive = |cfg| {
+        let mut d = model::envelope::derive(cfg)?;
+        let low = cfg.box_lo[0] + cfg.margin;
+        if table(cfg) && low.is_finite() {
+            d.box_lo[0] = low;
+        }
+        Ok(d)
+    };
+    let text = on_table(Port { derive: Some(derive), ..Port::default() }, "derive");
+    assert!(text.contains("number 5 is") && text.contains("disc: true"), "the first low wall");
+}
+
+#[test]
+fn fifteen_judged_elsewhere() {
+    judging_found(
+        shape_before_channels,
+        "the port says Refusal { number: 15, place: 0 }; the model says Refusal { number: 4, place: 0 }",
+    );
+    judging_found(
+        shape_after_stall,
+        "the port says Refusal { number: 17, place: 0 }; the model says Refusal { number: 15, place: 0 }",
+    );
+    let two: Derive = |cfg| match model::envelope::derive(cfg) {
+        Ok(_) if table(cfg) && cfg.pos_dim == 2 => Err(Refusal { number: SHAPE, place: 0 }),
+        said => said,
+    };
+    judging_found(two, "the port says Refusal { number: 15, place: 0 }; the model accepts");
+}
+
+#[test]
+fn an_edge_that_trips_when_touched() {
+    for entry in CHECKS {
+        let text = on_table(mistaken!(Takes::Trips, |w| w.cfg.shape.radius = w.cfg.shape.radius.next_down()), entry);
+        assert!(text.contains("counts [1, 0], not [0, 0]") && text.contains("disc: true"), "a small input");
+        let later = on_table(mistaken!(Takes::Trips, |w| w.cfg.shape.radius = w.cfg.shape.radius.next_up()), entry);
+        assert!(later.contains("disc: true"), "one step too late");
+    }
+}
+
+#[test]
+fn a_square_for_the_disc() {
+    for entry in CHECKS {
+        let text = on_table(mistaken!(Takes::Accepted, |w| square(&mut w.cfg)), entry);
+        assert!(text.contains("disc: true"), "a table");
+    }
+    for entry in ROWS_SENT {
+        on_table(braked_with!(square), entry);
+    }
+    // the slack as the least of the gaps of x and y
+    let text = on_table(braked_with!(square), "brake_feasible");
+    assert!(text.contains("the port") && text.contains("disc: true"), "a table");
+}
+
+#[test]
+fn further_axes_without_walls() {
+    for entry in CHECKS {
+        let free = mistaken!(Takes::Accepted, |w| if table(&w.cfg) {
+            w.cfg.box_lo[2..].fill(-1e300);
+            w.cfg.box_hi[2..].fill(1e300);
+        });
+        let text = on_table(free, entry);
+        assert!(text.contains("disc: true") && !text.contains("pos_dim: 2"), "a further axis");
+    }
+    let free = braked_with!(|c| if table(c) {
+        c.box_lo[2..].fill(-1e300);
+        c.box_hi[2..].fill(1e300);
+    });
+    for entry in ROWS_SENT.into_iter().chain(["brake_feasible"]) {
+        let text = on_table(free, entry);
+        assert!(text.contains("disc: true") && !text.contains("pos_dim: 2"), "a further axis");
+    }
+}
+
+/// The model's checks in which other rows go into projection; what is raised is of the rows as they came.
+macro_rules! projected {
+    ($row:expr) => {{
+        const ROW: fn(&FuseConfig, &mut [f64]) = $row;
+        fn rows(cfg: &FuseConfig, came: &[f64]) -> Vec<f64> {
+            let mut rows = came.to_vec();
+            rows.chunks_mut(cfg.dim).for_each(|row| ROW(cfg, row));
+            rows
+        }
+        fn moved(cfg: &FuseConfig, came: &[f64], went: &[f64]) -> u32 {
+            let each = came.iter().zip(went).enumerate();
+            each.fold(0, |m, (i, (a, b))| m | ((a != b) as u32) << (i % cfg.dim))
+        }
+        let check_chunk: CheckChunk = |cfg, pos, aux, ch, out| {
+            let right = model::tier0::check_chunk(cfg, pos, aux, ch, out)?;
+            if cfg.clamp == ClampMode::Project {
+                let data = rows(cfg, ch.data);
+                let _ = model::tier0::check_chunk(cfg, pos, aux, ChunkView { data: &data, ..ch }, out);
+            }
+            Ok(Tier0Out { clamped_dims: moved(cfg, ch.data, out), ..right })
+        };
+        let check_action: CheckAction = |cfg, pos, aux, prev, a, out| {
+            let right = model::tier0::check_action(cfg, pos, aux, prev, a, out)?;
+            if cfg.clamp == ClampMode::Project {
+                let row = rows(cfg, &a[..cfg.dim]);
+                let _ = model::tier0::check_action(cfg, pos, aux, prev, &row, out);
+            }
+            Ok(Tier0Out { clamped_dims: moved(cfg, &a[..cfg.dim], out), ..right })
+        };
+        Port { check_chunk: Some(check_chunk), check_action: Some(check_action), ..Port::default() }
+    }};
+}
+
+/// A point moved to `limit` from the centre, where it is farther away than `from`.
+fn scaled(shape: &Shape, point: &mut [f64], from: f64, limit: f64) {
+    let n = fmath::dist(&point[..2], &shape.center, 2).expect("a distance that is finite");
+    if n > from {
+        for (x, c) in point.iter_mut().zip(shape.center) {
+            *x = c + (*x - c) * (limit / n);
+        }
+    }
+}
+
+const SHRINK: f64 = 1.0 - 1.0 / 68719476736.0;
+
+#[test]
+fn a_pull_inside_the_disc() {
+    let inside = projected!(|cfg, row| if table(cfg) && cfg.armed & WORKSPACE != 0 {
+        scaled(&cfg.shape, row, 0.0, cfg.shape.radius * SHRINK);
+    });
+    for entry in CHECKS {
+        let text = on_table(inside, entry);
+        assert!(text.contains("], not [0, 0]") && text.contains("disc: true"), "a row that stays");
+    }
+}
+
+#[test]
+fn a_factor_of_1() {
+    let whole = projected!(|cfg, row| if table(cfg) && cfg.armed & WORKSPACE != 0 {
+        scaled(&cfg.shape, row, cfg.shape.radius, cfg.shape.radius);
+    });
+    for entry in CHECKS {
+        let text = on_table(whole, entry);
+        assert!(text.contains("the port leaves other buffers than the model") && text.contains("disc: true"));
+    }
+    let sent = Port {
+        hold_action: Some(|cfg, p, out| {
+            let walls = brake::hold_action(cfg, p, out)?;
+            if table(cfg) && !matches!(cfg.kind, ActionKind::JointVelocity | ActionKind::EeDelta) {
+                let at = |c: usize| p.get(c).copied().unwrap_or(0.0);
+                let mut point = [at(0), at(1)];
+                scaled(&cfg.shape, &mut point, cfg.shape.radius, cfg.shape.radius);
+                out[..2].copy_from_slice(&point);
+            }
+            Ok(walls)
+        }),
+        ..Port::default()
+    };
+    let text = on_table(sent, "hold_action");
+    assert!(text.contains("the port leaves other buffers than the model") && text.contains("disc: true"));
+}
+
+/// The leash and the reach first, and then the pull, where that is more than another rounding; the row before is the one that was pulled.
+#[test]
+fn a_pull_after_the_leash() {
+    fn late(cfg: &FuseConfig, pos: &[f64], aux: &[f64], q: &[f64], row: &[f64], first: bool) -> Option<Vec<f64>> {
+        let mut out = vec![0.0; cfg.dim];
+        let armed = if first { cfg.armed } else { cfg.armed & !REACH };
+        let mut free = FuseConfig { armed, ..*cfg };
+        endless(&mut free);
+        model::tier0::check_action(&free, pos, aux, q, row, &mut out).ok()?;
+        scaled(&cfg.shape, &mut out, cfg.shape.radius, cfg.shape.radius * SHRINK);
+        Some(out)
+    }
+    fn apart(a: &[f64], b: &[f64]) -> bool {
+        a.iter().zip(b).any(|(x, y)| (x - y).abs() > 1e-6)
+    }
+    fn pulls(cfg: &FuseConfig) -> bool {
+        table(cfg) && cfg.armed & WORKSPACE != 0 && cfg.clamp == ClampMode::Project
+    }
+    let check_action: CheckAction = |cfg, pos, aux, prev, a, out| {
+        let right = model::tier0::check_action(cfg, pos, aux, prev, a, out)?;
+        if let Some(row) = pulls(cfg).then(|| late(cfg, pos, aux, prev, a, true)).flatten() {
+            if apart(&row, out) {
+                out[..cfg.dim].copy_from_slice(&row);
+            }
+        }
+        let clamped_dims = (0..cfg.dim).fold(0, |m, c| m | ((out[c] != a[c]) as u32) << c);
+        Ok(Tier0Out { clamped_dims, ..right })
+    };
+    let check_chunk: CheckChunk = |cfg, pos, aux, ch, out| {
+        let right = model::tier0::check_chunk(cfg, pos, aux, ch, out)?;
+        let (d, nb, mut clamped_dims) = (cfg.dim, shared(cfg), 0);
+        let mut q = [&pos[..nb], &ch.data[nb..d]].concat();
+        for (i, row) in ch.data.chunks(d).enumerate() {
+            if let Some(moved) = pulls(cfg).then(|| late(cfg, pos, aux, &q, row, i == 0)).flatten() {
+                if apart(&moved, &out[i * d..]) {
+                    out[i * d..(i + 1) * d].copy_from_slice(&moved);
+                }
+            }
+            q.copy_from_slice(&out[i * d..(i + 1) * d]);
+            clamped_dims |= (0..d).fold(0, |m, c| m | ((q[c] != row[c]) as u32) << c);
+        }
+        Ok(Tier0Out { clamped_dims, ..right })
+    };
+    for entry in CHECKS {
+        let text = on_table(
+            Port { check_chunk: Some(check_chunk), check_action: Some(check_action), ..Port::default() },
+            entry,
+        );
+        assert!(text.contains("the port") && text.contains("clamp: Project") && text.contains("disc: true"));
+    }
+}
+
+#[test]
+fn a_pull_where_workspace_is_not_armed() {
+    let unarmed = mistaken!(Takes::Rows, |w| if table(&w.cfg) {
+        if w.cfg.armed & WORKSPACE == 0 {
+            w.cfg.box_lo[2..].fill(-1e300);
+            w.cfg.box_hi[2..].fill(1e300);
+        }
+        w.cfg.armed |= WORKSPACE;
+    });
+    for entry in CHECKS {
+        let text = on_table(unarmed, entry);
+        assert!(text.contains("disc: true") && !text.contains("armed:"), "nothing is armed");
+    }
+    // and brake, hold and the setpoint move inside whatever is armed
+    let armed = braked_with!(|c| if c.armed & WORKSPACE == 0 {
+        endless(c);
+    });
+    for entry in ROWS_SENT {
+        let text = on_table(armed, entry);
+        assert!(text.contains("disc: true") && !text.contains("armed:"), "nothing is armed");
+    }
+}
+
+#[test]
+fn a_position_that_is_not_moved_onto_the_disc() {
+    for entry in ROWS_SENT {
+        let text = on_table(braked_with!(endless), entry);
+        assert!(text.contains("disc: true"), "a table");
+    }
+    let unmeasured = Port {
+        hold_action: Some(|cfg, p, out| match brake::hold_action(cfg, p, out) {
+            Err(r) if r.number == 13 => {
+                brake::hold_action(&FuseConfig { shape: Shape::disc([0.0; 2], 1.0), ..*cfg }, &[], out)
+            }
+            said => said,
+        }),
+        ..Port::default()
+    };
+    let text = on_table(unmeasured, "hold_action");
+    assert!(text.contains("the port accepts; the model says Refusal { number: 13, place: 0 }"));
+}
+
+/// Under Off the distance is evaluated only where it decides.
+#[test]
+fn a_distance_that_is_not_evaluated() {
+    let off = mistaken!(Takes::Refused(13), |w| if w.cfg.clamp == ClampMode::Off && table(&w.cfg) {
+        w.cfg.armed &= !WORKSPACE;
+    });
+    for entry in CHECKS {
+        let text = on_table(off, entry);
+        assert!(text.contains("the port accepts; the model says Refusal { number: 13, place: 0 }"));
+        assert!(text.contains("disc: true") && !text.contains("clamp:"), "under Off");
+    }
+    fn outside(cfg: &FuseConfig, row: &[f64]) -> bool {
+        let Ok(d) = model::envelope::derive(cfg) else { return false };
+        (2..shared(cfg)).any(|c| fmath::side(row[c], d.box_lo[c], d.box_hi[c]) != 0)
+            || fmath::dist(row, &cfg.shape.center, 2).is_ok_and(|n| n > cfg.shape.radius)
+    }
+    fn unarmed(cfg: &FuseConfig) -> FuseConfig {
+        FuseConfig { armed: cfg.armed & !WORKSPACE, ..*cfg }
+    }
+    fn raised(answer: Result<Tier0Out, Refusal>) -> Result<Tier0Out, Refusal> {
+        answer.map(|r| Tier0Out { trips: r.trips | WORKSPACE, ..r })
+    }
+    // not after a row that is outside
+    let later = Port {
+        check_chunk: Some(|cfg, pos, aux, ch, out| match model::tier0::check_chunk(cfg, pos, aux, ch, out) {
+            Err(r) if r.number == 13 && cfg.clamp == ClampMode::Off && table(cfg) && cfg.armed & WORKSPACE != 0 => {
+                let first = ch.data.chunks(cfg.dim).position(|row| outside(cfg, row));
+                let measured = &ch.data[..first.map_or(ch.horizon as usize, |i| i + 1) * cfg.dim];
+                let fine = measured.chunks(cfg.dim).all(|row| fmath::dist(row, &cfg.shape.center, 2).is_ok());
+                if fine {
+                    raised(model::tier0::check_chunk(&unarmed(cfg), pos, aux, ch, out))
+                } else {
+                    Err(r)
+                }
+            }
+            said => said,
+        }),
+        ..Port::default()
+    };
+    let text = on_table(later, "check_chunk");
+    assert!(text.contains("the port accepts; the model says Refusal { number: 13, place: 0 }"));
+    assert!(text.contains("horizon: 2") && text.contains("disc: true"), "two rows");
+    // not where a further axis is outside already
+    let axis = Port {
+        check_action: Some(|cfg, pos, aux, prev, a, out| {
+            match model::tier0::check_action(cfg, pos, aux, prev, a, out) {
+                Err(r) if r.number == 13 && cfg.clamp == ClampMode::Off && table(cfg) && outside(cfg, a) => {
+                    raised(model::tier0::check_action(&unarmed(cfg), pos, aux, prev, a, out))
+                }
+                said => said,
+            }
+        }),
+        ..Port::default()
+    };
+    let text = on_table(axis, "check_action");
+    assert!(text.contains("the port accepts; the model says Refusal { number: 13, place: 0 }"));
+    assert!(text.contains("disc: true") && !text.contains("pos_dim: 2"), "a further axis");
+}
+
+#[test]
+fn masks_of_the_first_two_axes() {
+    let derived = masked!(|s| s.moved(&s.came, shared(s.cfg), fmath::side));
+    for entry in CHECKS {
+        let text = on_table(derived, entry);
+        assert!(text.contains("added [") && text.contains("not [0, 0]") && text.contains("disc: true"));
+    }
+    // the side that the pull moved a coordinate to
+    let pulled = masked!(|s| {
+        let (mut low, mut high) = (s.right.low_dims, s.right.high_dims);
+        if table(s.cfg) && s.project() && s.box_armed() {
+            for row in &s.came {
+                let mut point = [row[0], row[1]];
+                scaled(&s.cfg.shape, &mut point, s.cfg.shape.radius, s.cfg.shape.radius * SHRINK);
+                for c in 0..2 {
+                    low |= ((point[c] > row[c]) as u32) << c;
+                    high |= ((point[c] < row[c]) as u32) << c;
+                }
+            }
+        }
+        (low, high)
+    });
+    for entry in CHECKS {
+        let text = on_table(pulled, entry);
+        assert!(text.contains("added [") && text.contains("not [0, 0]") && text.contains("disc: true"));
+    }
+    let sent =
+        braked!(|c, p, w| match table(c) && !matches!(c.kind, ActionKind::JointVelocity | ActionKind::EeDelta) {
+            true => position_masks(c, p, shared(c), fmath::side),
+            false => w,
+        });
+    for entry in ROWS_SENT {
+        let text = on_table(sent, entry);
+        assert!(text.contains("added [") && text.contains("not [0, 0]") && text.contains("disc: true"));
+    }
+}
+
+/// The second-order kind has no row left.
+fn no_row_left(cfg: &FuseConfig, from: usize) -> bool {
+    cfg.brake.kind == BrakeKind::PdSecondOrder && from >= cfg.brake.commit as usize && table(cfg)
+}
+
+/// 13 is for the setpoint, which is the first that is computed.
+fn by_the_setpoint(cfg: &FuseConfig, p: &[f64], from: usize, r: &Refusal) -> bool {
+    r.number == 13 && no_row_left(cfg, from) && fmath::dist(p, &cfg.shape.center, 2).is_err()
+}
+
+#[test]
+fn a_setpoint_at_another_place() {
+    let said = |brake_feasible: BrakeFeasible, answer: &str| {
+        let text = on_table(Port { brake_feasible: Some(brake_feasible), ..Port::default() }, "brake_feasible");
+        assert!(text.contains(answer) && text.contains("disc: true"), "{answer}");
+        text
+    };
+    // not made for brake_steps 0
+    let unmade = said(
+        |cfg, p, v, ch, from, slacks| match brake::brake_feasible(cfg, p, v, ch, from, slacks) {
+            Err(r) if by_the_setpoint(cfg, p, from, &r) && cfg.brake.brake_steps == 0 => {
+                Ok(BrakeOut { count: 0, feasible: true, margin: f64::INFINITY, stop_dist: 0.0 })
+            }
+            said => said,
+        },
+        "the port accepts; the model says Refusal { number: 13, place: 1 }",
+    );
+    assert!(unmade.contains("commit: 0, brake_steps: 0"), "no row and no braking step");
+    // one place too late
+    said(
+        |cfg, p, v, ch, from, slacks| {
+            let late = |r: Refusal| match by_the_setpoint(cfg, p, from, &r) {
+                true => Refusal { place: 2, ..r },
+                false => r,
+            };
+            brake::brake_feasible(cfg, p, v, ch, from, slacks).map_err(late)
+        },
+        "the port says Refusal { number: 13, place: 2 }; the model says Refusal { number: 13, place: 1 }",
+    );
+    // a start that is checked before, as if it were in place 0
+    said(
+        |cfg, p, v, ch, from, slacks| {
+            let early = |r: Refusal| match by_the_setpoint(cfg, p, from, &r) {
+                true => Refusal { place: 0, ..r },
+                false => r,
+            };
+            brake::brake_feasible(cfg, p, v, ch, from, slacks).map_err(early)
+        },
+        "the port says Refusal { number: 13, place: 0 }; the model says Refusal { number: 13, place: 1 }",
+    );
+}
+
+/// With no row left the plant is held where it stands, beyond the table, as if that were a row.
+#[test]
+fn a_setpoint_that_is_not_pulled() {
+    let unpulled: BrakeFeasible = |cfg, p, v, ch, from, slacks| {
+        let right = brake::brake_feasible(cfg, p, v, ch, from, slacks)?;
+        if !no_row_left(cfg, from) || cfg.brake.brake_steps == 0 || cfg.brake.brake_steps > 64 {
+            return Ok(right);
+        }
+        let mut held = *cfg;
+        (held.brake.commit, held.brake.brake_steps) = (cfg.brake.brake_steps, 0);
+        let mut row = vec![0.0; cfg.dim];
+        let n = shared(cfg);
+        row[..n].copy_from_slice(&p[..n]);
+        let d = model::envelope::derive(cfg)?;
+        (2..n).for_each(|c| row[c] = fmath::clamp(row[c], d.box_lo[c], d.box_hi[c]));
+        let at = ChunkView { horizon: 1, exec_steps: 0, data: &row, ..ch };
+        let mut seen = slacks.to_vec();
+        let answer = brake::brake_feasible(&held, p, v, at, 0, &mut seen);
+        if answer.is_ok() {
+            slacks.copy_from_slice(&seen);
+        }
+        Ok(answer.unwrap_or(right))
+    };
+    let text = on_table(Port { brake_feasible: Some(unpulled), ..Port::default() }, "brake_feasible");
+    assert!(
+        text.contains("the port") && text.contains("disc: true") && text.contains("brake_steps: 1"),
+        "a small input"
+    );
+}
+
+/// The start's slack of a closed kind, without the stopping radius on the disc.
+#[test]
+fn a_slack_without_the_stopping_radius() {
+    let whole: BrakeFeasible = |cfg, p, v, ch, from, slacks| {
+        let right = brake::brake_feasible(cfg, p, v, ch, from, slacks)?;
+        if !table(cfg) || cfg.brake.kind == BrakeKind::PdSecondOrder || shared(cfg) > 2 {
+            return Ok(right);
+        }
+        slacks[0] = cfg.shape.radius - fmath::dist(p, &cfg.shape.center, 2)?;
+        let margin = slacks[..right.count].iter().copied().fold(f64::INFINITY, min);
+        Ok(BrakeOut { margin, feasible: margin >= 0.0, ..right })
+    };
+    let text = on_table(Port { brake_feasible: Some(whole), ..Port::default() }, "brake_feasible");
+    assert!(text.contains("the port answers otherwise than the model") && text.contains("disc: true"), "a small input");
+    assert!(!text.contains("kind: PdSecondOrder"), "a closed kind");
+}
+
+/// A margin of 0 on the edge is feasible.
+#[test]
+fn an_arm_on_the_edge_that_is_not_feasible() {
+    let strict: BrakeFeasible = |cfg, p, v, ch, from, s| {
+        brake::brake_feasible(cfg, p, v, ch, from, s).map(|r| BrakeOut { feasible: r.margin > 0.0, ..r })
+    };
+    let shown = on_table(Port { brake_feasible: Some(strict), ..Port::default() }, "brake_feasible");
+    assert!(shown.contains("disc: true"), "{shown}");
+}
+
 /// 17 of another configuration than the one that is given; all else of the given one.
 macro_rules! withdrawn {
     ($change:expr) => {
@@ -971,18 +1623,6 @@ fn a_stall_that_is_evaluated() {
     assert!(text.contains("the port says Refusal { number: 13, place: 0 }; the model accepts"));
 }
 
-/// A judging of another configuration than the one that is given.
-macro_rules! judged {
-    ($change:expr) => {
-        |cfg: &FuseConfig| {
-            let change: fn(&mut FuseConfig) = $change;
-            let mut other = *cfg;
-            change(&mut other);
-            model::envelope::derive(&other)
-        }
-    };
-}
-
 fn steps_first(cfg: &FuseConfig) -> Result<model::Derived, Refusal> {
     match cfg.brake.substeps {
         0 => Err(Refusal { number: 3, place: 0 }),
@@ -1012,9 +1652,43 @@ fn unordered(cfg: &FuseConfig) -> Result<model::Derived, Refusal> {
     model::envelope::derive(&other)
 }
 
+/// The centre of a box is judged as that of a disc is.
+fn centre_of_a_box(cfg: &FuseConfig) -> Result<model::Derived, Refusal> {
+    match model::envelope::derive(cfg) {
+        Ok(_) if !cfg.shape.center.iter().all(|x| x.is_finite()) => Err(Refusal { number: 2, place: 0 }),
+        said => said,
+    }
+}
+
+/// The walls of a disc are judged as those of a box are.
+fn walls_of_a_disc(cfg: &FuseConfig) -> Result<model::Derived, Refusal> {
+    match (model::envelope::derive(cfg), model::envelope::derive(&FuseConfig { shape: Shape::BOX, ..*cfg })) {
+        (Ok(_), Err(r)) => Err(r),
+        (said, _) => said,
+    }
+}
+
+/// 15 where the right number is 4, and a disc has too few axes.
+fn shape_before_channels(cfg: &FuseConfig) -> Result<model::Derived, Refusal> {
+    match model::envelope::derive(cfg) {
+        Err(r) if r.number == 4 && table(cfg) && cfg.dim.min(cfg.pos_dim) < 2 => Err(Refusal { number: SHAPE, ..r }),
+        said => said,
+    }
+}
+
+/// 17 where the right number is 15, and the calibration names Stall.
+fn shape_after_stall(cfg: &FuseConfig) -> Result<model::Derived, Refusal> {
+    match (model::envelope::derive(cfg), cfg.calibrated) {
+        (Err(r), true) if r.number == SHAPE => {
+            Err(Refusal { number: model::envelope::judge_calibration(&cfg.cal).unwrap_or(SHAPE), ..r })
+        }
+        (said, _) => said,
+    }
+}
+
 #[test]
 fn edges_that_are_moved() {
-    let ports: [(differential::port::Derive, &str); 21] = [
+    let ports: [(differential::port::Derive, &str); 32] = [
         (judged!(|c| c.brake.k_p = c.brake.k_p.next_down()), "is below 0: k_p as 0.0: 0 is due"),
         (judged!(|c| c.brake.k_v = c.brake.k_v.next_up()), "above 0: k_v as 0.0: 2 is due"),
         (judged!(|c| c.cal.tau = 0.0), "isn't finite: tau as NaN: 2 is due"),
@@ -1039,6 +1713,29 @@ fn edges_that_are_moved() {
         (judged!(|c| c.cal.mask &= NAMED), "the calibration mask has bit 7: mask as 128: 17 is due"),
         (judged!(|c| c.cal.mask |= c.cal.mask << 1 & 1 << STALL), "has bit 7: mask as 64: 0 is due"),
         (withdrawn!(|c| c.zones = Zones::NONE), "a1], with bit 7 as [false, false, false, true]: 4 is due"),
+        (judged!(|c| c.shape.radius = c.shape.radius.next_up()), "above 0: radius as 0.0: 2 is due"),
+        (judged!(|c| c.shape.radius = c.shape.radius.next_down()), "above 0: radius as 5e-324: 0 is due"),
+        (judged!(|c| c.shape.center[1] = 0.0), "isn't finite: centre[1] of a disc as NaN: 2 is due"),
+        (centre_of_a_box, "no centre and no radius: centre[0] of a box as NaN: 0 is due"),
+        (walls_of_a_disc, "no walls on the first two axes: box_hi[1] of a disc as inf: 0 is due"),
+        (
+            judged!(|c| c.margin *= !c.shape.disc as u8 as f64),
+            "moves no disc: margin of a disc on two axes as -5e-324: 2",
+        ),
+        (
+            judged!(|c| c.shape.disc = c.shape.disc && c.pos_dim > 1),
+            "a disc with dim or pos_dim below 2: (dim, pos_dim) as (2, 1): 15 is due",
+        ),
+        (
+            judged!(|c| c.shape.disc = c.shape.disc && c.dim > 1),
+            "a disc with dim or pos_dim below 2: (dim, pos_dim) as (1, 2): 15 is due",
+        ),
+        (
+            judged!(|c| c.shape.disc = c.shape.disc && c.armed != 0),
+            "a disc with dim or pos_dim below 2: (dim, pos_dim) as (1, 1): 15 is due",
+        ),
+        (shape_before_channels, "a1], on a disc of one axis as [false, false, false, true]: 4 is due"),
+        (shape_after_stall, "a1], on a disc of one axis with bit 7 as [false, false, false, false]: 15 is due"),
     ];
     for (derive, row) in ports {
         let text = edges::check(&Port { derive: Some(derive), ..Port::default() }).expect_err(row);

@@ -379,6 +379,36 @@ fn a_second_zone() {
     }
 }
 
+/// The corner (1, 1) of a table of radius 1: the Rust has the box round it, in which the corner is, and by the port it is beyond the edge. The
+/// forecast and the rows that brake and hold part there, too; on the axes they do not.
+#[test]
+fn a_corner_that_a_round_table_has_not() {
+    let port = differential::linked::port();
+    let cfg = FuseConfig { armed: WORKSPACE, clamp: ClampMode::Project, ..boxed(2) };
+    let disc = FuseConfig { shape: Shape::disc([0.0; 2], 1.0), ..cfg };
+    let pulled = (1.0 - 1.0 / 68719476736.0) / 2f64.sqrt();
+    let (corner, edge) = ([1.0, 1.0], [1.0, 0.0]);
+    assert_eq!(checked(&cfg, &[0.0; 2], &[], rows(2, &corner)), (0, Ok(0)));
+    assert_eq!(checked_by_both(&disc, &[0.0; 2], &[], rows(2, &corner)), Ok((WORKSPACE, pulled)));
+    assert_eq!(checked(&cfg, &[0.0; 2], &[], rows(2, &edge)), (0, Ok(0)));
+    assert_eq!(checked_by_both(&disc, &[0.0; 2], &[], rows(2, &edge)), Ok((0, 1.0)));
+
+    let closed = |c: &FuseConfig| FuseConfig { brake: BrakeModel { kind: BrakeKind::BoundedAccel, ..c.brake }, ..*c };
+    assert_eq!(forecast(&closed(&cfg), &corner, &[0.0; 2], rows(2, &corner)).1, 0.0);
+    let (mut rust, mut sent) = ([7.0; 2], [7.0; 2]);
+    oracle::hold_action(&cfg, &corner, &mut rust);
+    assert_eq!(rust, corner);
+    for hold in [brake::hold_action, port.hold_action.expect("an entry")] {
+        assert_eq!(hold(&disc, &corner, &mut sent), Ok(WallMarks::default()));
+        assert_eq!(sent, [pulled; 2]);
+    }
+    for feasible in [brake::brake_feasible, port.brake_feasible.expect("an entry")] {
+        let told = |p: [f64; 2]| feasible(&closed(&disc), &p, &[0.0; 2], rows(2, &p), 0, &mut [0.0]).map(|r| r.margin);
+        assert_eq!([told(corner), told(edge)], [Ok(1.0 - 2f64.sqrt()), Ok(0.0)]);
+    }
+    assert!(catch_unwind(|| oracle::config(&disc)).is_err(), "the Rust is not asked with a disc");
+}
+
 /// A box move that a short leash takes back: nothing of it is left in the Rust's answer.
 #[test]
 fn a_box_move_that_is_taken_back() {

@@ -1,5 +1,6 @@
 //! The generators reach what matters: every trip on its limit and off it, every side of a wall and of clamp, every way in which a zone is not
-//! seen, every zone of several that decides alone, every kind, every place of 13, and 17 at every entry.
+//! seen, every zone of several that decides alone, every way on and beside a round table, every kind, every place of 13, and 15 and 17 at every
+//! entry.
 
 use std::collections::BTreeMap;
 
@@ -8,8 +9,15 @@ use differential::{
     port::Port,
     run::Entry,
 };
-use model::{brake::count_of, refusal::WITHDRAWN, tier0 as rule};
-use model::{AbsentCamera, ActionKind, Calibration, ClampMode, ContactLimit, FuseConfig, Refusal, Tier0Out, Zones};
+use model::{
+    brake::count_of,
+    refusal::{SHAPE, WITHDRAWN},
+    tier0 as rule,
+};
+use model::{
+    AbsentCamera, ActionKind, BrakeKind, Calibration, ClampMode, ContactLimit, FuseConfig, Refusal, Shape, Tier0Out,
+    Zones,
+};
 use model::{ACCEL, CONTACT, JERK, NFEAT, REACH, SPEED, SPEED_PEAK, STALL, WORKSPACE};
 
 const CALLS: u64 = 60_000;
@@ -482,6 +490,328 @@ fn the_walls_of_brake_and_hold() {
         met.all(["low 1 high 0", "low 0 high 1", "low 0 high 0"].map(|side| format!("{name} missing {side}")));
         met.all(touched(name));
     }
+}
+
+/// How far a point is from the centre of a table, where that is finite.
+fn from_the_centre(shape: &Shape, point: &[f64]) -> Option<f64> {
+    model::fmath::dist(point.get(..2)?, &shape.center, 2).ok()
+}
+
+/// Where a point stands to the edge of a table.
+fn to_the_edge(shape: &Shape, point: &[f64]) -> &'static str {
+    match from_the_centre(shape, point) {
+        None => "too far to measure",
+        Some(0.0) => "at the centre",
+        Some(n) if n == shape.radius => "on the edge",
+        Some(n) if n == shape.radius.next_up() => "a step beyond the edge",
+        Some(n) if n == shape.radius.next_down() => "a step inside the edge",
+        Some(n) if n > shape.radius => "beyond",
+        Some(_) => "inside",
+    }
+}
+
+/// What of a configuration is not read, and would be refused if it were.
+fn would_be_refused(c: &FuseConfig) -> bool {
+    let shape = Shape { disc: !c.shape.disc, ..c.shape };
+    let (dim, pos_dim) = (c.dim.max(2), c.pos_dim.max(2));
+    let wide = FuseConfig { dim, pos_dim, norm_center: [0.0; 8], norm_scale: [1.0; 8], ..*c };
+    model::envelope::judge(&FuseConfig { shape, ..wide }) == Some(2)
+}
+
+/// The shape with its number, and what about it that number is for.
+fn note_shape(met: &mut Met, name: &str, c: &FuseConfig, number: u8) {
+    let shape = if c.shape.disc { "disc" } else { "box" };
+    met.note(format!("{name} {shape} {number}"));
+    if number == 0 {
+        met.note(format!("{name} {shape} accepted, and what is not read would be refused {}", would_be_refused(c)));
+        met.note(format!(
+            "{name} {shape} pos_dim {} dim",
+            ["below", "at", "above"][1 + (c.pos_dim > c.dim) as usize - (c.pos_dim < c.dim) as usize]
+        ));
+    }
+    if c.shape.disc {
+        let few = [c.dim < 2, c.pos_dim < 2];
+        let stall = c.calibrated && model::envelope::judge_calibration(&c.cal) == Some(WITHDRAWN);
+        match number {
+            SHAPE => {
+                met.note(format!("{name} 15 by dim {}, pos_dim {}", few[0], few[1]));
+                met.note(format!("{name} 15, and 17 {stall}"));
+            }
+            4 if few != [false; 2] => met.note(format!("{name} 4 before 15")),
+            2 if few != [false; 2] => met.note(format!("{name} 2 before 15")),
+            _ => (),
+        }
+        let repaired = |change: fn(&mut Shape)| {
+            let mut other = *c;
+            change(&mut other.shape);
+            model::envelope::judge(&other) != Some(2)
+        };
+        if number == 2 && repaired(|s| s.radius = 1.0) {
+            let why = if c.shape.radius.is_finite() { "not above 0" } else { "not finite" };
+            met.note(format!("{name} 2 by a radius {why}"));
+        }
+        if number == 2 && repaired(|s| s.center = [0.0; 2]) {
+            met.note(format!("{name} 2 by a centre"));
+        }
+    }
+}
+
+/// What every entry on round tables has to have met of the shapes.
+fn every_shape_is_met(met: &Met, name: &str) {
+    met.all(["disc", "box"].iter().flat_map(|shape| [0, 1, 2, 3, 4, 17].map(|n| format!("{name} {shape} {n}"))));
+    met.all(["disc", "box"].iter().flat_map(|shape| {
+        [true, false].map(|is| format!("{name} {shape} accepted, and what is not read would be refused {is}"))
+    }));
+    met.all(
+        ["disc", "box"]
+            .iter()
+            .flat_map(|shape| ["below", "at", "above"].map(|side| format!("{name} {shape} pos_dim {side} dim"))),
+    );
+    let few = ["true, pos_dim false", "false, pos_dim true", "true, pos_dim true"];
+    met.all(few.map(|few| format!("{name} 15 by dim {few}")));
+    met.all(["15, and 17 true", "15, and 17 false", "4 before 15", "2 before 15"].map(|case| format!("{name} {case}")));
+    let numbers = ["a radius not above 0", "a radius not finite", "a centre"];
+    met.all(numbers.map(|number| format!("{name} 2 by {number}")));
+    assert!(!met.0.contains_key(&format!("{name} box 15")));
+}
+
+/// Where the rows of a check stand to the table, what is raised and moved there, and what 13 is for.
+fn note_table(met: &mut Met, name: &str, cfg: &FuseConfig, rows: &[&[f64]], check: impl Fn(&FuseConfig) -> Checked) {
+    let (answer, out) = check(cfg);
+    let (armed, project) = (cfg.armed & WORKSPACE != 0, cfg.clamp == ClampMode::Project);
+    let sized = rows.iter().all(|row| row.len() == cfg.dim) && cfg.dim.min(cfg.pos_dim) >= 2;
+    if !cfg.shape.disc || !sized {
+        return;
+    }
+    let at = format!("{name} {:?} armed {armed}", cfg.clamp);
+    match answer {
+        Ok(r) => {
+            met.note(format!("{at} trip {} of {} axes", r.trips & WORKSPACE != 0, cfg.dim.min(cfg.pos_dim).min(3)));
+            rows.iter().for_each(|row| met.note(format!("{at} a row {}", to_the_edge(&cfg.shape, row))));
+            met.note(format!("{at} walls low {} high {}", r.low_dims != 0, r.high_dims != 0));
+            let beyond = |row: &&&[f64]| from_the_centre(&cfg.shape, row).is_some_and(|n| n > cfg.shape.radius);
+            if armed && project && rows.iter().any(|row| beyond(&row)) {
+                met.note(format!("{name} pulled, margin {}", cfg.margin != 0.0));
+                for (bit, move_) in [(SPEED, "leash"), (REACH, "reach")] {
+                    let without = check(&FuseConfig { armed: cfg.armed & !bit, ..*cfg }).1;
+                    met.note(format!("{name} pulled, and the {move_} moves it {}", without != out));
+                }
+            }
+        }
+        Err(Refusal { number: 13, .. }) if armed => {
+            let far = rows.iter().position(|row| from_the_centre(&cfg.shape, row).is_none());
+            let alone = check(&FuseConfig { armed: cfg.armed & !WORKSPACE, ..*cfg }).0.is_ok();
+            if let (Some(far), true) = (far, alone) {
+                let d = model::envelope::derive(cfg).expect("a configuration that is accepted");
+                let walled = |row: &[f64]| {
+                    (2..cfg.dim.min(cfg.pos_dim)).any(|c| model::fmath::side(row[c], d.box_lo[c], d.box_hi[c]) != 0)
+                };
+                let before = rows[..far]
+                    .iter()
+                    .any(|row| walled(row) || from_the_centre(&cfg.shape, row).is_some_and(|n| n > cfg.shape.radius));
+                met.note(format!("{name} {:?} 13 by the distance, a row before outside {before}", cfg.clamp));
+                met.note(format!("{name} {:?} 13 by the distance, a wall passed {}", cfg.clamp, walled(rows[far])));
+            }
+        }
+        Err(_) => (),
+    }
+}
+
+#[test]
+fn the_round_tables_of_the_checks() {
+    let (port, mut met) = (Port::default(), Met::new());
+    let (chunks, actions) = (tier0::check_chunk_on_a_round_table(&port), tier0::check_action_on_a_round_table(&port));
+    for call in 0..CALLS * 2 {
+        let i = chunks.input(1, call);
+        let rows: Vec<&[f64]> = i.ch.data.chunks((i.ch.dim as usize).max(1)).collect();
+        note_table(&mut met, "chunk", &i.cfg, &rows, |cfg| {
+            let mut out = i.out.clone();
+            (rule::check_chunk(cfg, &i.pos, &i.aux, i.ch.view(), &mut out), out)
+        });
+        let number = (chunks.model)(&i).answer.map_or_else(|r| r.number, |_| 0);
+        note_shape(&mut met, chunks.name, &i.cfg, number);
+        note_rust(&mut met, &chunks, &i, if i.cfg.shape.disc { "disc" } else { "box" });
+        let i = actions.input(1, call);
+        note_table(&mut met, "action", &i.cfg, &[&i.a[..i.cfg.dim.min(i.a.len())]], |cfg| {
+            let mut out = i.out.clone();
+            (rule::check_action(cfg, &i.pos, &i.aux, &i.prev, &i.a, &mut out), out)
+        });
+        let number = (actions.model)(&i).answer.map_or_else(|r| r.number, |_| 0);
+        note_shape(&mut met, actions.name, &i.cfg, number);
+        note_rust(&mut met, &actions, &i, if i.cfg.shape.disc { "disc" } else { "box" });
+    }
+    for name in [chunks.name, actions.name] {
+        every_shape_is_met(&met, name);
+        met.all([0, 13].map(|number| format!("{name} box {number}, Rust asked true")));
+        met.all([0, 13].map(|number| format!("{name} disc {number}, Rust asked false")));
+    }
+    assert!(!met.0.keys().any(|case| case.contains("disc") && case.contains("Rust asked true")));
+    for name in ["chunk", "action"] {
+        let modes = ["Off armed true", "Project armed true", "Off armed false", "Project armed false"];
+        let places =
+            ["at the centre", "on the edge", "a step beyond the edge", "a step inside the edge", "beyond", "inside"];
+        met.all(modes.iter().flat_map(|mode| places.map(|place| format!("{name} {mode} a row {place}"))));
+        met.all(modes[2..].iter().map(|mode| format!("{name} {mode} a row too far to measure")));
+        let axes = [2, 3];
+        met.all(modes[..2].iter().flat_map(|mode| {
+            axes.into_iter()
+                .flat_map(move |n| [true, false].map(|trip| format!("{name} {mode} trip {trip} of {n} axes")))
+        }));
+        let sides = ["low true high false", "low false high true", "low false high false"];
+        met.all(sides.map(|side| format!("{name} Project armed true walls {side}")));
+        met.all([true, false].map(|margin| format!("{name} pulled, margin {margin}")));
+        let moves = ["leash", "reach"];
+        met.all(moves.iter().flat_map(|m| [true, false].map(|is| format!("{name} pulled, and the {m} moves it {is}"))));
+        let both = ["Off", "Project"];
+        met.all(
+            both.iter()
+                .flat_map(|m| [true, false].map(|is| format!("{name} {m} 13 by the distance, a wall passed {is}"))),
+        );
+        met.all(both.map(|mode| format!("{name} {mode} 13 by the distance, a row before outside false")));
+    }
+    met.all(["Off", "Project"].map(|mode| format!("chunk {mode} 13 by the distance, a row before outside true")));
+}
+
+#[test]
+fn the_round_tables_of_the_forecast() {
+    let (entry, mut met) = (brake::brake_feasible_on_a_round_table(&Port::default()), Met::new());
+    for call in 0..CALLS * 3 {
+        let i = entry.input(1, call);
+        let (cfg, kind) = (&i.cfg, format!("{:?}", i.cfg.brake.kind));
+        let mut slacks = i.slacks.clone();
+        let answer = model::brake::brake_feasible(cfg, &i.p, &i.v, i.ch.view(), i.from, &mut slacks);
+        note_shape(&mut met, entry.name, cfg, answer.map_or_else(|r| r.number, |_| 0));
+        note_rust(&mut met, &entry, &i, if cfg.shape.disc { "disc" } else { "box" });
+        if !cfg.shape.disc {
+            continue;
+        }
+        let rows = (cfg.brake.commit as usize).saturating_sub(i.from);
+        match answer {
+            Ok(r) => {
+                met.note(format!("{kind} feasible {}", r.feasible));
+                met.note(format!("{kind} {:?}", cfg.kind));
+                met.note(format!("{kind} rows {} braking steps {}", rows > 0, cfg.brake.brake_steps > 0));
+                met.note(format!("{kind} from {}", to_the_edge(&cfg.shape, &i.p)));
+                if r.margin == 0.0 {
+                    met.note(format!("{kind} margin 0"));
+                }
+                // a slack that a table of another radius has otherwise is the table's, else a wall's
+                let wider = FuseConfig { shape: Shape { radius: cfg.shape.radius * 2.0, ..cfg.shape }, ..*cfg };
+                let mut other = i.slacks.clone();
+                if r.count > 0
+                    && model::brake::brake_feasible(&wider, &i.p, &i.v, i.ch.view(), i.from, &mut other).is_ok()
+                {
+                    met.note(format!("{kind} the first slack by the table {}", other[0] != slacks[0]));
+                }
+                if kind == "PdSecondOrder" && rows == 0 && cfg.brake.brake_steps > 0 {
+                    let pulled = from_the_centre(&cfg.shape, &i.p).is_some_and(|n| n > cfg.shape.radius);
+                    met.note(format!("the setpoint is pulled {pulled}"));
+                }
+            }
+            Err(Refusal { number: 13, place }) => {
+                let n = count_of(cfg, i.from);
+                let at = if place == 1 {
+                    "first"
+                } else if place <= n {
+                    "between"
+                } else {
+                    "after the last"
+                };
+                met.note(format!("{kind} 13 {at}"));
+                if cfg.brake.kind == BrakeKind::PdSecondOrder
+                    && from_the_centre(&cfg.shape, &i.p).is_none()
+                    && rows == 0
+                {
+                    let past = i.from > cfg.brake.commit as usize;
+                    met.note(format!(
+                        "13 by the setpoint, braking steps {}, from past commit {past}",
+                        cfg.brake.brake_steps > 0
+                    ));
+                }
+            }
+            Err(_) => (),
+        }
+    }
+    every_shape_is_met(&met, entry.name);
+    met.all([0, 13].map(|number| format!("{} box {number}, Rust asked true", entry.name)));
+    met.all([0, 13].map(|number| format!("{} disc {number}, Rust asked false", entry.name)));
+    assert!(!met.0.keys().any(|case| case.contains("disc") && case.contains("Rust asked true")));
+    let kinds = differential::part::BRAKES.map(|k| format!("{k:?}"));
+    let cases = ["feasible true", "feasible false", "margin 0", "13 first", "13 between"];
+    met.all(kinds.iter().flat_map(|k| cases.map(|c| format!("{k} {c}"))));
+    met.all(kinds.iter().flat_map(|k| [true, false].map(|is| format!("{k} the first slack by the table {is}"))));
+    let places =
+        ["at the centre", "on the edge", "a step beyond the edge", "a step inside the edge", "beyond", "inside"];
+    met.all(kinds.iter().flat_map(|k| places.map(|place| format!("{k} from {place}"))));
+    met.all(differential::part::KINDS.iter().flat_map(|a| kinds.iter().map(move |k| format!("{k} {a:?}"))));
+    let rows = ["rows true braking steps true", "rows true braking steps false", "rows false braking steps true"];
+    met.all(rows.into_iter().chain(["rows false braking steps false"]).map(|case| format!("PdSecondOrder {case}")));
+    met.all([true, false].map(|is| format!("the setpoint is pulled {is}")));
+    let setpoints = [true, false].map(|steps| [true, false].map(|past| (steps, past)));
+    met.all(
+        setpoints
+            .concat()
+            .into_iter()
+            .map(|(steps, past)| format!("13 by the setpoint, braking steps {steps}, from past commit {past}")),
+    );
+}
+
+#[test]
+fn the_round_tables_of_brake_and_hold() {
+    let (port, mut met) = (Port::default(), Met::new());
+    for entry in [brake::brake_action_on_a_round_table(&port), brake::hold_action_on_a_round_table(&port)] {
+        for call in 0..CALLS * 2 {
+            let i = entry.input(1, call);
+            let (name, cfg) = (entry.name, &i.cfg);
+            let outcome = (entry.model)(&i);
+            let number = outcome.answer.as_ref().map_or_else(|r| r.number, |_| 0);
+            note_shape(&mut met, name, cfg, number);
+            note_rust(&mut met, &entry, &i, if cfg.shape.disc { "disc" } else { "box" });
+            if !cfg.shape.disc || number != 0 && number != 13 {
+                continue;
+            }
+            let velocity = matches!(cfg.kind, ActionKind::JointVelocity | ActionKind::EeDelta);
+            let at = |c: usize| i.p.get(c).copied().unwrap_or(0.0);
+            let place = to_the_edge(&cfg.shape, &[at(0), at(1)]);
+            met.note(format!("{name} {:?} {number}", cfg.kind));
+            met.note(format!("{name} velocity {velocity} {place} {number}"));
+            met.note(format!("{name} lacks {} {place} {number}", 2 - i.p.len().min(2)));
+            if let (Ok(shown), false) = (outcome.answer, velocity) {
+                let [low, high] = shown.added[..] else { panic!("a low and a high mask") };
+                met.note(format!("{name} low {} high {}", low != 0, high != 0));
+                met.note(format!("{name} armed {} {:?} {place}", cfg.armed & WORKSPACE != 0, cfg.clamp));
+            }
+        }
+        let name = entry.name;
+        every_shape_is_met(&met, name);
+        let places =
+            ["at the centre", "on the edge", "a step beyond the edge", "a step inside the edge", "beyond", "inside"];
+        met.all(places.map(|place| format!("{name} velocity false {place} 0")));
+        met.all([
+            format!("{name} velocity false too far to measure 13"),
+            format!("{name} velocity true too far to measure 0"),
+        ]);
+        met.all([0, 1, 2].iter().flat_map(|n| ["beyond", "inside"].map(|place| format!("{name} lacks {n} {place} 0"))));
+        met.all([0, 1, 2].map(|n| format!("{name} lacks {n} too far to measure 13")));
+        met.all(
+            ["low true high false", "low false high true", "low false high false"].map(|side| format!("{name} {side}")),
+        );
+        let modes = ["true Off", "true Project", "false Off", "false Project"];
+        met.all(modes.map(|mode| format!("{name} armed {mode} beyond")));
+        met.all([format!("{name} box 0, Rust asked true"), format!("{name} disc 0, Rust asked false")]);
+        assert!(!met.0.contains_key(&format!("{name} velocity false too far to measure 0")));
+    }
+    assert!(!met.0.keys().any(|case| case.contains("disc") && case.contains("Rust asked true")));
+}
+
+#[test]
+fn the_round_tables_of_derive() {
+    let (entry, mut met) = (envelope::derive_on_a_round_table(&Port::default()), Met::new());
+    for call in 0..CALLS * 2 {
+        let c = entry.input(1, call);
+        note_shape(&mut met, entry.name, &c, (entry.model)(&c).answer.map_or_else(|r| r.number, |_| 0));
+    }
+    every_shape_is_met(&met, entry.name);
 }
 
 #[test]

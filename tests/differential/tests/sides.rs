@@ -192,8 +192,8 @@ fn the_leash_of_a_slow_zone() {
 
 extern "C" {
     fn lictor_check_chunk(
-        numbers: &[f64; 50],
-        counts: &[u64; 33],
+        numbers: &[f64; 53],
+        counts: &[u64; 34],
         center: &[f64; 192],
         scale: &[f64; 192],
         position: *const f64,
@@ -211,8 +211,8 @@ extern "C" {
         peak_speed: &mut f64,
     ) -> u64;
     fn lictor_check_action(
-        numbers: &[f64; 50],
-        counts: &[u64; 33],
+        numbers: &[f64; 53],
+        counts: &[u64; 34],
         center: &[f64; 192],
         scale: &[f64; 192],
         position: *const f64,
@@ -229,8 +229,8 @@ extern "C" {
         peak_speed: &mut f64,
     ) -> u64;
     fn lictor_brake_action(
-        numbers: &[f64; 50],
-        counts: &[u64; 33],
+        numbers: &[f64; 53],
+        counts: &[u64; 34],
         center: &[f64; 192],
         scale: &[f64; 192],
         position: *const f64,
@@ -242,8 +242,8 @@ extern "C" {
         walls: &mut [u64; 2],
     ) -> u64;
     fn lictor_hold_action(
-        numbers: &[f64; 50],
-        counts: &[u64; 33],
+        numbers: &[f64; 53],
+        counts: &[u64; 34],
         center: &[f64; 192],
         scale: &[f64; 192],
         position: *const f64,
@@ -257,7 +257,7 @@ extern "C" {
 /// What the four exported functions answer to one row of one coordinate at `x`, with the kind's code and room in the output, and the marks
 /// that they were lent, which held any bits before.
 fn lent(x: f64, kind: u64, room: usize) -> [(u64, Vec<u64>); 4] {
-    let (mut numbers, mut counts) = ([1.0; 50], [0; 33]);
+    let (mut numbers, mut counts) = ([1.0; 53], [0; 34]);
     numbers[5..6].fill(0.0); // margin
     numbers[27..35].fill(-1.0); // box_lo
     counts[0..1].fill(1); // dim

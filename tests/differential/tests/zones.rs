@@ -3,8 +3,8 @@
 
 use differential::{
     entries::tier0::{check_action_with_several_zones, check_chunk_with_several_zones, CheckActionIn, CheckChunkIn},
-    linked,
-    port::Port,
+    exported, linked,
+    port::{CheckAction, CheckChunk, Port},
 };
 use model::*;
 
@@ -288,155 +288,23 @@ fn every_row_of_a_chunk() {
     }
 }
 
-extern "C" {
-    fn lictor_check_chunk(
-        numbers: &[f64; 50],
-        counts: &[u64; 33],
-        center: &[f64; 192],
-        scale: &[f64; 192],
-        pos: *const f64,
-        pos_len: usize,
-        aux: *const f64,
-        aux_len: usize,
-        rows: *const f64,
-        rows_len: usize,
-        horizon: u16,
-        dim: u16,
-        exec_steps: u16,
-        out: *mut f64,
-        out_len: usize,
-        marks: &mut [u64; 4],
-        peak_speed: &mut f64,
-    ) -> u64;
-    fn lictor_check_action(
-        numbers: &[f64; 50],
-        counts: &[u64; 33],
-        center: &[f64; 192],
-        scale: &[f64; 192],
-        pos: *const f64,
-        pos_len: usize,
-        aux: *const f64,
-        aux_len: usize,
-        prev: *const f64,
-        prev_len: usize,
-        action: *const f64,
-        action_len: usize,
-        out: *mut f64,
-        out_len: usize,
-        marks: &mut [u64; 4],
-        peak_speed: &mut f64,
-    ) -> u64;
-}
-
-/// A configuration as C passes it, what stands past the count with it.
-fn laid(c: &FuseConfig) -> ([f64; 50], [u64; 33]) {
-    let (b, [first, others @ ..]) = (&c.brake, &c.zones.list);
-    let scalars =
-        [c.dt, c.v_max, c.a_max, c.j_max, c.reach_max, c.margin, b.k_p, b.k_v, b.dt, first.radius, first.v_max];
-    let mut numbers = scalars.to_vec();
-    for axes in [c.norm_center, c.norm_scale, c.box_lo, c.box_hi] {
-        numbers.extend(axes);
-    }
-    numbers.push(c.cal.tau);
-    let codes = [c.dim as u64, c.pos_dim as u64, c.kind as u64, c.clamp as u64, b.kind as u64, c.zones.count as u64];
-    let mut counts = codes.to_vec();
-    counts.extend([first.a0, first.a1].map(u64::from));
-    counts.extend([b.substeps, b.commit, b.brake_steps, b.react].map(u64::from));
-    counts.extend(c.cal.terms.map(u64::from));
-    counts.extend([c.armed as u64, c.aux_count as u64, c.calibrated as u64, c.cal.mask as u64]);
-    counts.extend([c.cal.n_terms as u64, c.horizon_ticks as u64, c.absent_camera as u64]);
-    for z in others {
-        numbers.extend([z.radius, z.v_max]);
-        counts.extend([z.a0, z.a1].map(u64::from));
-    }
-    (numbers.try_into().expect("50 numbers"), counts.try_into().expect("33 counts"))
-}
-
-/// What an exported check gives: its number, or marks and speed.
-fn given(number: u64, marks: [u64; 4], peak_speed: f64) -> Result<([u64; 4], f64), u8> {
-    match number {
-        0 => Ok((marks, peak_speed)),
-        _ => Err(number as u8),
-    }
-}
-
-fn shown(answer: Result<Tier0Out, Refusal>) -> Result<([u64; 4], f64), u8> {
-    let marks = |r: &Tier0Out| [r.trips, r.clamped_dims, r.low_dims, r.high_dims].map(u64::from);
-    answer.map(|r| (marks(&r), r.peak_speed)).map_err(|r| r.number)
-}
-
 /// The answer and the output, in which a NaN that is left is itself.
-type Told = (Result<([u64; 4], f64), u8>, Vec<u64>);
+type Told = (Result<Tier0Out, Refusal>, Vec<u64>);
 
-fn told(answer: Result<([u64; 4], f64), u8>, out: &[f64]) -> Told {
+fn told(answer: Result<Tier0Out, Refusal>, out: &[f64]) -> Told {
     (answer, out.iter().map(|x| if *x == 0.0 { 0 } else { x.to_bits() }).collect())
 }
 
-fn exported_chunk(i: &CheckChunkIn) -> Told {
-    let ((numbers, counts), cal, ch) = (laid(&i.cfg), &i.cfg.cal, &i.ch);
-    let (mut out, mut marks, mut speed) = (i.out.clone(), [7; 4], 7.0);
-    // SAFETY: the arrays are as long as include/lictor.h says, the slices are lent with their lengths, and each stands by itself.
-    let number = unsafe {
-        lictor_check_chunk(
-            &numbers,
-            &counts,
-            &cal.center,
-            &cal.scale,
-            i.pos.as_ptr(),
-            i.pos.len(),
-            i.aux.as_ptr(),
-            i.aux.len(),
-            ch.data.as_ptr(),
-            ch.data.len(),
-            ch.horizon,
-            ch.dim,
-            ch.exec_steps,
-            out.as_mut_ptr(),
-            out.len(),
-            &mut marks,
-            &mut speed,
-        )
-    };
-    told(given(number, marks, speed), &out)
-}
-
-fn exported_action(i: &CheckActionIn) -> Told {
-    let ((numbers, counts), cal) = (laid(&i.cfg), &i.cfg.cal);
-    let (mut out, mut marks, mut speed) = (i.out.clone(), [7; 4], 7.0);
-    // SAFETY: likewise.
-    let number = unsafe {
-        lictor_check_action(
-            &numbers,
-            &counts,
-            &cal.center,
-            &cal.scale,
-            i.pos.as_ptr(),
-            i.pos.len(),
-            i.aux.as_ptr(),
-            i.aux.len(),
-            i.prev.as_ptr(),
-            i.prev.len(),
-            i.a.as_ptr(),
-            i.a.len(),
-            out.as_mut_ptr(),
-            out.len(),
-            &mut marks,
-            &mut speed,
-        )
-    };
-    told(given(number, marks, speed), &out)
-}
-
-fn model_chunk(i: &CheckChunkIn) -> Told {
+fn chunk_by(check: CheckChunk, i: &CheckChunkIn) -> Told {
     let mut out = i.out.clone();
-    let answer = tier0::check_chunk(&i.cfg, &i.pos, &i.aux, i.ch.view(), &mut out);
-    told(shown(answer), &out)
+    let answer = check(&i.cfg, &i.pos, &i.aux, i.ch.view(), &mut out);
+    told(answer, &out)
 }
 
-fn model_action(i: &CheckActionIn) -> Told {
+fn action_by(check: CheckAction, i: &CheckActionIn) -> Told {
     let mut out = i.out.clone();
-    let answer = tier0::check_action(&i.cfg, &i.pos, &i.aux, &i.prev, &i.a, &mut out);
-    told(shown(answer), &out)
+    let answer = check(&i.cfg, &i.pos, &i.aux, &i.prev, &i.a, &mut out);
+    told(answer, &out)
 }
 
 /// The generated inputs through the exported functions themselves, where what stands past the count comes in as it is. Many of them would be
@@ -444,14 +312,18 @@ fn model_action(i: &CheckActionIn) -> Told {
 #[test]
 fn what_stands_past_the_count_is_not_read() {
     assert!(lictor::environment_ok());
-    let port = Port::default();
+    let (port, exported) = (Port::default(), exported::port());
+    let (exported_chunk, exported_action) =
+        (exported.check_chunk.expect("an entry"), exported.check_action.expect("an entry"));
     let (chunks, actions) = (check_chunk_with_several_zones(&port), check_action_with_several_zones(&port));
+    let model_chunk = |i: &CheckChunkIn| chunk_by(tier0::check_chunk, i);
+    let model_action = |i: &CheckActionIn| action_by(tier0::check_action, i);
     let mut otherwise = [[0; 2]; 4];
     for call in 0..60_000 {
         let (mut ch, mut a) = (chunks.input(5, call), actions.input(5, call));
         let (wants, counts) = ((model_chunk(&ch), model_action(&a)), [ch.cfg.zones.count, a.cfg.zones.count]);
-        assert_eq!(exported_chunk(&ch), wants.0, "{ch:?}");
-        assert_eq!(exported_action(&a), wants.1, "{a:?}");
+        assert_eq!(chunk_by(exported_chunk, &ch), wants.0, "{ch:?}");
+        assert_eq!(action_by(exported_action, &a), wants.1, "{a:?}");
         (ch.cfg.zones.count, a.cfg.zones.count) = (4, 4);
         for (k, other) in [model_chunk(&ch) != wants.0, model_action(&a) != wants.1].into_iter().enumerate() {
             if let Some(met) = otherwise.get_mut(counts[k]) {

@@ -4,9 +4,9 @@ use crate::{
     checked::{add, dist, div, mul, norm, sub, Checked, NotFinite},
     chunk::{self, action},
     envelope::{self, derive},
-    fmath::{clamp, max, min},
+    fmath::{max, min},
     refusal::{judged, not_finite, shorter, when, COMPUTED, SHORT, WIDTH},
-    ActionKind, BrakeKind, BrakeOut, ChunkView, Derived, FuseConfig, Refusal, WallMarks, MAX_POS,
+    workspace, ActionKind, BrakeKind, BrakeOut, ChunkView, Derived, FuseConfig, Refusal, WallMarks, MAX_POS,
 };
 
 const EPS: f64 = 1e-9;
@@ -79,26 +79,6 @@ impl List<'_> {
     }
 }
 
-/// The least of p - lo and hi - p over the live axes.
-fn slack(derived: &Derived, plant: &Plant) -> Checked {
-    let mut least = f64::INFINITY;
-    for c in 0..plant.n {
-        let low = sub(plant.p[c], derived.box_lo[c])?;
-        least = min(least, min(low, sub(derived.box_hi[c], plant.p[c])?));
-    }
-    Ok(least)
-}
-
-/// The same in a box that is smaller by the stopping radius r.
-fn slack_within(derived: &Derived, plant: &Plant, r: f64) -> Checked {
-    let mut least = f64::INFINITY;
-    for c in 0..plant.n {
-        let low = sub(sub(plant.p[c], r)?, derived.box_lo[c])?;
-        least = min(least, min(low, sub(sub(derived.box_hi[c], plant.p[c])?, r)?));
-    }
-    Ok(least)
-}
-
 /// acc = k_p(a-p) - k_v v; v = v + acc dt; p = p + v dt with the new v.
 fn substep(cfg: &FuseConfig, plant: &Plant, a: &[f64]) -> Result<Plant, NotFinite> {
     let b = &cfg.brake;
@@ -111,7 +91,8 @@ fn substep(cfg: &FuseConfig, plant: &Plant, a: &[f64]) -> Result<Plant, NotFinit
     Ok(next)
 }
 
-/// The second-order kind: writes a slack after each substep and gives the stop distance.
+/// The second-order kind: writes a slack after each substep and gives the stop distance. The setpoint is made whatever the braking steps are,
+/// so that what is not finite in it has the place of the first substep after the rows.
 fn second_order(
     cfg: &FuseConfig,
     derived: &Derived,
@@ -121,20 +102,19 @@ fn second_order(
     list: &mut List<'_>,
     p0: &[f64],
 ) -> Checked {
+    let slack = |plant: &Plant| workspace::slack(cfg, derived, plant.n, &plant.p);
     for i in from..from + rows_of(cfg, from) {
         for _ in 0..cfg.brake.substeps {
             plant = substep(cfg, &plant, action(ch, i))?;
-            list.write(slack(derived, &plant)?);
+            list.write(slack(&plant)?);
         }
     }
-    let mut setpoint = [0.0; MAX_POS];
-    for c in 0..plant.n {
-        setpoint[c] = clamp(plant.p[c], derived.box_lo[c], derived.box_hi[c]);
-    }
+    let mut setpoint = plant.p;
+    workspace::move_inside(cfg, derived, plant.n, &mut setpoint)?;
     for _ in 0..cfg.brake.brake_steps {
         for _ in 0..cfg.brake.substeps {
             plant = substep(cfg, &plant, &setpoint)?;
-            list.write(slack(derived, &plant)?);
+            list.write(slack(&plant)?);
         }
     }
     add(dist(&plant.p, p0, plant.n)?, 0.0)
@@ -175,13 +155,13 @@ fn closed(
 ) -> Checked {
     let react = mul(cfg.brake.react as f64, cfg.dt)?;
     let g = div(cfg.brake.k_p, cfg.brake.k_v)?;
-    let start = slack_within(derived, &plant, radius(cfg, &plant, react)?)?;
-    list.write(start);
+    let slack = |plant: &Plant| workspace::slack_within(cfg, derived, plant.n, &plant.p, radius(cfg, plant, react)?);
+    list.write(slack(&plant)?);
     for i in from..from + rows_of(cfg, from) {
         for c in 0..plant.n {
             plant.v[c] = commanded(cfg, action(ch, i)[c], plant.p[c], g)?;
         }
-        let here = slack_within(derived, &plant, radius(cfg, &plant, react)?)?;
+        let here = slack(&plant)?;
         for c in 0..plant.n {
             plant.p[c] = add(plant.p[c], mul(plant.v[c], cfg.dt)?)?;
         }
@@ -195,13 +175,15 @@ fn position_kind(kind: ActionKind) -> bool {
     !matches!(kind, ActionKind::JointVelocity | ActionKind::EeDelta)
 }
 
-/// Each coordinate of p, 0.0 past its end, clamped to its box; the sides are those of the coordinates that have one.
-fn inside(cfg: &FuseConfig, derived: &Derived, p: &[f64], out: &mut [f64]) -> WallMarks {
-    let at = |c: usize| p.get(c).copied().unwrap_or(0.0);
-    for c in 0..cfg.dim {
-        out[c] = clamp(at(c), derived.box_lo[c], derived.box_hi[c]);
-    }
-    envelope::walls(cfg, derived, at)
+/// Each coordinate of p, 0.0 past its end, moved inside its workspace; the sides are those of the coordinates that have walls.
+fn inside(cfg: &FuseConfig, derived: &Derived, p: &[f64], out: &mut [f64]) -> Result<WallMarks, Refusal> {
+    let mut row = [0.0; MAX_POS];
+    let there = p.len().min(MAX_POS);
+    row[..there].copy_from_slice(&p[..there]);
+    let marks = workspace::walls(cfg, derived, |c| row[c]);
+    workspace::move_inside(cfg, derived, cfg.dim, &mut row)?;
+    out[..cfg.dim].copy_from_slice(&row[..cfg.dim]);
+    Ok(marks)
 }
 
 /// The factor of the ramp to zero, times dt for displacements.
@@ -219,7 +201,7 @@ pub fn brake_action(cfg: &FuseConfig, p: &[f64], v: &[f64], out: &mut [f64]) -> 
     judged(&[envelope::judge(cfg), shorter(out, cfg.dim), not_finite(p), not_finite(v)])?;
     let derived = derive(cfg)?;
     if position_kind(cfg.kind) {
-        return Ok(inside(cfg, &derived, p, out));
+        return inside(cfg, &derived, p, out);
     }
     let scale = ramp(cfg, v)?;
     let mut ramped = [0.0; MAX_POS];
@@ -234,7 +216,7 @@ pub fn hold_action(cfg: &FuseConfig, p: &[f64], out: &mut [f64]) -> Result<WallM
     judged(&[envelope::judge(cfg), shorter(out, cfg.dim), not_finite(p)])?;
     let derived = derive(cfg)?;
     if position_kind(cfg.kind) {
-        return Ok(inside(cfg, &derived, p, out));
+        return inside(cfg, &derived, p, out);
     }
     out[..cfg.dim].fill(0.0);
     Ok(WallMarks::default())

@@ -1,10 +1,10 @@
-//! Module 4: what is derived from the raw configuration, the walls among it, and refusals 1 to 4 and 17 of it.
+//! Module 4: what is derived from the raw configuration, the walls among it, and refusals 1 to 4, 15 and 17 of it.
 
 use crate::{
-    fmath::{min, side},
+    fmath::min,
     refusal::{first, judged, when, CHANNELS, NUMBER, SIZE, STEPS, WITHDRAWN},
-    Calibration, Derived, FuseConfig, Refusal, WallMarks, MAX_D, MAX_POS, MAX_SUBSTEPS, MAX_TERMS, MAX_ZONES, NFEAT,
-    STALL,
+    workspace::{self, first_boxed},
+    Calibration, Derived, FuseConfig, Refusal, MAX_D, MAX_POS, MAX_SUBSTEPS, MAX_TERMS, MAX_ZONES, NFEAT, STALL,
 };
 
 /// The derived numbers as they come, finite or not; dim and pos_dim are in size.
@@ -21,7 +21,7 @@ fn derived(c: &FuseConfig) -> Derived {
         inv_norm_scale: [0.0; MAX_D],
         norm_scale_iso: f64::INFINITY,
     };
-    for i in 0..c.pos_dim {
+    for i in first_boxed(c)..c.pos_dim {
         d.box_lo[i] = c.box_lo[i] + c.margin;
         d.box_hi[i] = c.box_hi[i] - c.margin;
     }
@@ -86,7 +86,7 @@ fn judge_arrays(c: &FuseConfig) -> Option<u8> {
     };
     let norm =
         |i: usize| c.norm_center[i].is_finite() && above_zero(c.norm_scale[i]) && d.inv_norm_scale[i].is_finite();
-    let fine = scalars.iter().all(|x| x.is_finite()) && (0..c.pos_dim).all(axis) && (0..c.dim).all(norm);
+    let fine = scalars.iter().all(|x| x.is_finite()) && (first_boxed(c)..c.pos_dim).all(axis) && (0..c.dim).all(norm);
     when(!fine, NUMBER)
 }
 
@@ -105,7 +105,7 @@ fn judge_channels(c: &FuseConfig) -> Option<u8> {
     when(repeated || pairs.iter().any(bad), CHANNELS)
 }
 
-/// The whole configuration, whether or not an entry reads that part: the first of 1 to 4 and 17.
+/// The whole configuration, whether or not an entry reads that part: the first of 1 to 4, 15 and 17.
 pub fn judge(c: &FuseConfig) -> Option<u8> {
     let sized = (1..=MAX_D).contains(&c.dim) && (1..=MAX_POS).contains(&c.pos_dim);
     if !sized {
@@ -113,20 +113,9 @@ pub fn judge(c: &FuseConfig) -> Option<u8> {
     }
     let zones = when(c.zones.count > MAX_ZONES, SIZE);
     let calibration = if c.calibrated { judge_calibration(&c.cal) } else { None };
-    first(&[zones, calibration, judge_numbers(c), judge_arrays(c), judge_steps(c), judge_channels(c)])
-}
-
-/// The sides that the box moves a point to, over the first min(dim, pos_dim) coordinates: those past pos_dim have no box of their own.
-pub fn walls(c: &FuseConfig, d: &Derived, point: impl Fn(usize) -> f64) -> WallMarks {
-    let mut marks = WallMarks::default();
-    for i in 0..c.dim.min(c.pos_dim) {
-        match side(point(i), d.box_lo[i], d.box_hi[i]) {
-            -1 => marks.low_dims |= 1 << i,
-            1 => marks.high_dims |= 1 << i,
-            _ => (),
-        }
-    }
-    marks
+    let shape = [workspace::judge_numbers(c), workspace::judge_shape(c)];
+    let others = [zones, calibration, judge_numbers(c), judge_arrays(c), judge_steps(c), judge_channels(c)];
+    first(&[&others[..], &shape].concat())
 }
 
 /// What an accepted configuration derives.

@@ -10,11 +10,13 @@ pub mod chunk;
 pub mod conformal;
 pub mod envelope;
 pub mod fmath;
+pub mod pull;
 pub mod refusal;
 pub mod tier0;
 pub mod tier1;
 pub mod types;
 pub mod window;
+pub mod workspace;
 
 pub use refusal::Refusal;
 pub use types::*;

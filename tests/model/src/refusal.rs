@@ -7,6 +7,7 @@ pub const SIZE: u8 = 1;
 pub const NUMBER: u8 = 2;
 pub const STEPS: u8 = 3;
 pub const CHANNELS: u8 = 4;
+pub const SHAPE: u8 = 15;
 pub const WITHDRAWN: u8 = 17;
 pub const EMPTY: u8 = 5;
 pub const TOO_LONG: u8 = 6;
@@ -19,11 +20,12 @@ pub const NOT_FINITE: u8 = 12;
 pub const COMPUTED: u8 = 13;
 
 /// The order of judging, which is written here apart from the port's and is not that of the numerals.
-pub const ORDER: [u8; 14] = [
+pub const ORDER: [u8; 15] = [
     SIZE,
     NUMBER,
     STEPS,
     CHANNELS,
+    SHAPE,
     WITHDRAWN,
     EMPTY,
     TOO_LONG,

@@ -1,17 +1,15 @@
 //! Module 5.
 
 use crate::{
-    checked::{add, dist, div, mul, norm, sub, NotFinite},
+    checked::{add, dist, mul, norm, sub, NotFinite},
     chunk,
     envelope::{self, derive},
-    fmath::{clamp, max, min},
+    fmath::{max, min},
+    pull::pull,
     refusal::{judged, not_finite, shorter, when, WIDTH},
-    AbsentCamera, ChunkView, ClampMode, ContactLimit, Derived, FuseConfig, Refusal, Tier0Out, WallMarks, ACCEL,
-    CONTACT, JERK, MAX_D, REACH, SPEED, WORKSPACE,
+    workspace, AbsentCamera, ChunkView, ClampMode, ContactLimit, Derived, FuseConfig, Refusal, Tier0Out, WallMarks,
+    ACCEL, CONTACT, JERK, MAX_D, REACH, SPEED, WORKSPACE,
 };
-
-/// 1 - 2^-36.
-const SHRINK: f64 = 1.0 - 1.0 / 68719476736.0;
 
 type Row = [f64; MAX_D];
 
@@ -36,12 +34,8 @@ impl<'a> Check<'a> {
         self.cfg.armed & bit != 0
     }
 
-    fn outside(&self, a: &[f64]) -> bool {
-        (0..self.nb).any(|c| a[c] < self.derived.box_lo[c] || a[c] > self.derived.box_hi[c])
-    }
-
     /// SPEED, CONTACT and WORKSPACE of a row that is a step of length n away.
-    fn trips_of_step(&self, a: &[f64], n: f64) -> u32 {
+    fn trips_of_step(&self, a: &[f64], n: f64) -> Result<u32, NotFinite> {
         let mut trips = 0;
         if self.armed(SPEED) && n > self.derived.step_max {
             trips |= SPEED;
@@ -49,10 +43,10 @@ impl<'a> Check<'a> {
         if self.slow.iter().any(|step| n > *step) {
             trips |= CONTACT;
         }
-        if self.armed(WORKSPACE) && self.outside(a) {
+        if self.armed(WORKSPACE) && workspace::outside(self.cfg, &self.derived, self.nb, a)? {
             trips |= WORKSPACE;
         }
-        trips
+        Ok(trips)
     }
 
     fn trips_of_reach(&self, a: &[f64]) -> Result<u32, NotFinite> {
@@ -68,20 +62,18 @@ impl<'a> Check<'a> {
         speed.into_iter().chain(self.slow.iter().copied()).reduce(min)
     }
 
-    /// The sides that the box moves a row to, as the row came; none where the box is not armed, or where no row is moved.
+    /// The sides that the walls move a row to, as the row came; none where the workspace is not armed, or where no row is moved.
     fn walls(&self, raw: &[f64]) -> WallMarks {
         if self.cfg.clamp == ClampMode::Off || !self.armed(WORKSPACE) {
             return WallMarks::default();
         }
-        envelope::walls(self.cfg, &self.derived, |c| raw[c])
+        workspace::walls(self.cfg, &self.derived, |c| raw[c])
     }
 
-    /// A row projected: box, leash towards q, and with `first` the reach pull.
+    /// A row projected: workspace, leash towards q, and with `first` the reach pull.
     fn project(&self, first: bool, q: &[f64], mut a: Row) -> Result<Row, NotFinite> {
         if self.armed(WORKSPACE) {
-            for c in 0..self.nb {
-                a[c] = clamp(a[c], self.derived.box_lo[c], self.derived.box_hi[c]);
-            }
+            workspace::move_inside(self.cfg, &self.derived, self.nb, &mut a)?;
         }
         if let Some(step) = self.leash() {
             pull(&mut a, q, self.cfg.dim, step)?;
@@ -91,18 +83,6 @@ impl<'a> Check<'a> {
         }
         Ok(a)
     }
-}
-
-/// Shortens the first n coordinates of a - q to the limit where they are longer.
-fn pull(a: &mut Row, q: &[f64], n: usize, limit: f64) -> Result<(), NotFinite> {
-    let length = dist(&a[..], q, n)?;
-    if length > limit {
-        let factor = div(mul(limit, SHRINK)?, length)?;
-        for c in 0..n {
-            a[c] = add(q[c], mul(sub(a[c], q[c])?, factor)?)?;
-        }
-    }
-    Ok(())
 }
 
 /// The zone's centre as the camera gives it, where aux has both channels and the position two coordinates to measure from.
@@ -196,7 +176,7 @@ fn trips_of_rows(check: &Check<'_>, rows: &[&[f64]], before: &Row) -> Result<Tie
     for (i, a) in rows.iter().enumerate() {
         let n = dist(a, at(i), d)?;
         peak = max(peak, n);
-        trips |= check.trips_of_step(a, n);
+        trips |= check.trips_of_step(a, n)?;
     }
     let mut diff = [0.0; MAX_D];
     if check.armed(ACCEL) {
@@ -246,7 +226,7 @@ pub fn check_action(
     ])?;
     let check = Check::new(cfg, derive(cfg)?, pos, aux)?;
     let n = dist(a, prev, cfg.dim)?;
-    let trips = check.trips_of_step(a, n) | check.trips_of_reach(a)?;
+    let trips = check.trips_of_step(a, n)? | check.trips_of_reach(a)?;
     let WallMarks { low_dims, high_dims } = check.walls(a);
     let mut res = Tier0Out { trips, clamped_dims: 0, peak_speed: mul(n, check.derived.inv_dt)?, low_dims, high_dims };
     let mut row = row_of(&a[..cfg.dim]);

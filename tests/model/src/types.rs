@@ -134,6 +134,22 @@ pub enum AbsentCamera {
     NoZone,
 }
 
+/// What holds the first two coordinates: their walls, or the disc of a round table. With the walls, centre and radius are unread.
+#[derive(Clone, Copy, Debug, PartialEq)]
+pub struct Shape {
+    pub disc: bool,
+    pub center: [f64; 2],
+    pub radius: f64,
+}
+
+impl Shape {
+    pub const BOX: Self = Self { disc: false, center: [0.0; 2], radius: 0.0 };
+
+    pub const fn disc(center: [f64; 2], radius: f64) -> Self {
+        Self { disc: true, center, radius }
+    }
+}
+
 /// Entry `bin x 12 + feature` of each table.
 #[derive(Clone, Copy, PartialEq)]
 pub struct Calibration {
@@ -181,6 +197,7 @@ pub struct FuseConfig {
     pub margin: f64,
     pub box_lo: [f64; MAX_POS],
     pub box_hi: [f64; MAX_POS],
+    pub shape: Shape,
     pub norm_center: [f64; MAX_D],
     pub norm_scale: [f64; MAX_D],
     pub zones: Zones,
@@ -208,6 +225,7 @@ impl FuseConfig {
         margin: 0.0,
         box_lo: [0.0; MAX_POS],
         box_hi: [0.0; MAX_POS],
+        shape: Shape::BOX,
         norm_center: [0.0; MAX_D],
         norm_scale: [1.0; MAX_D],
         zones: Zones::NONE,
@@ -256,14 +274,14 @@ impl core::fmt::Debug for FuseConfig {
                 })*
             };
         }
-        differing!(dim, pos_dim, kind, dt, v_max, a_max, j_max, reach_max, margin, box_lo, box_hi);
+        differing!(dim, pos_dim, kind, dt, v_max, a_max, j_max, reach_max, margin, box_lo, box_hi, shape);
         differing!(norm_center, norm_scale, zones, absent_camera, brake, clamp, armed, aux_count, calibrated, cal);
         differing!(horizon_ticks);
         shown.finish_non_exhaustive()
     }
 }
 
-/// What module 4 derives. Entries of `inv_norm_scale` past dim are unread.
+/// What module 4 derives. Entries of `inv_norm_scale` past dim are unread; the walls of the first two axes of a disc are 0.0.
 #[derive(Clone, Copy, Debug, PartialEq)]
 pub struct Derived {
     pub inv_dt: f64,

@@ -486,7 +486,7 @@ fn a_number_of_a_short_message_that_is_not_finite() {
 #[test]
 fn the_choice_as_a_code() {
     let good = |contact: u64, armed: u64, code: u64| {
-        let mut c = [0; 33];
+        let mut c = [0; 34];
         (c[0], c[1], c[5], c[7], c[8], c[20], c[21], c[26]) = (1, 1, contact, 1, 1, armed, 2, code);
         c
     };
@@ -702,7 +702,7 @@ fn zones_past_the_count() {
 #[test]
 fn zones_as_counts() {
     let good = |contact: u64, aux_count: u64| {
-        let mut c = [0; 33];
+        let mut c = [0; 34];
         (c[0], c[1], c[5], c[8], c[21]) = (1, 1, contact, 1, aux_count);
         for (place, channel) in PLACES.iter().flatten().zip(0..) {
             c[*place] = channel;
@@ -755,6 +755,268 @@ fn zones_as_counts() {
                     0
                 }
             );
+        }
+    }
+}
+
+/// Three axes: a round table of radius 1 about the origin, and a height between -1 and 1.
+const TABLE: FuseConfig = FuseConfig {
+    dim: 3,
+    pos_dim: 3,
+    box_lo: [f64::NAN, f64::INFINITY, -1.0, 0.0, 0.0, 0.0, 0.0, 0.0],
+    box_hi: [f64::NAN, -f64::INFINITY, 1.0, 0.0, 0.0, 0.0, 0.0, 0.0],
+    shape: Shape::disc([0.0; 2], 1.0),
+    armed: WORKSPACE,
+    clamp: ClampMode::Project,
+    ..FuseConfig::PLAIN
+};
+
+/// What the whole configuration with a disc is answered after one change.
+fn table_judged(change: impl Fn(&mut FuseConfig)) -> Option<u8> {
+    judged(|c| {
+        c.shape = Shape::disc([0.0; 2], 1.0);
+        change(c);
+    })
+}
+
+#[test]
+fn numbers_of_a_round_table() {
+    for (x, want) in
+        [(f64::NAN, Some(2)), (f64::INFINITY, Some(2)), (-f64::INFINITY, Some(2)), (f64::MAX, None), (-1.0, None)]
+    {
+        for i in 0..2 {
+            assert_eq!(table_judged(|c| c.shape.center[i] = x), want, "centre {x}");
+            assert_eq!(table_judged(|c| (c.shape.disc, c.shape.center[i]) = (false, x)), None, "of a box");
+        }
+    }
+    for x in [f64::NAN, f64::INFINITY, -1.0, -5e-324, -0.0, 0.0] {
+        assert_eq!(table_judged(|c| c.shape.radius = x), Some(2), "radius {x}");
+        assert_eq!(table_judged(|c| (c.shape.disc, c.shape.radius) = (false, x)), None, "of a box");
+    }
+    for x in [5e-324, 1.0, f64::MAX] {
+        assert_eq!(table_judged(|c| c.shape.radius = x), None, "radius {x}");
+    }
+}
+
+/// The first two walls are unread with a disc, and derived as 0.0; the margin is judged, and moves the others alone.
+#[test]
+fn walls_beside_a_round_table() {
+    let mut c = FuseConfig { margin: 0.25, ..TABLE };
+    let d = envelope::derive(&c).expect("accepted");
+    assert_eq!((&d.box_lo[..4], &d.box_hi[..4]), (&[0.0, 0.0, -0.75, 0.0][..], &[0.0, 0.0, 0.75, 0.0][..]));
+    c.margin = 1.0;
+    assert_eq!(envelope::judge(&c), None);
+    c.margin = 1f64.next_up();
+    assert_eq!(envelope::judge(&c), Some(2), "the third axis is turned over");
+    (c.dim, c.pos_dim) = (2, 2);
+    assert_eq!(envelope::judge(&c), None, "two axes have none");
+    c.margin = -5e-324;
+    assert_eq!(envelope::judge(&c), Some(2));
+    for i in 0..3 {
+        let broken = |c: &mut FuseConfig| c.box_lo[i] = f64::NAN;
+        assert_eq!(table_judged(|c| (broken(c), c.pos_dim = 3).1), (i == 2).then_some(2), "wall {i}");
+        assert_eq!(judged(|c| (broken(c), c.pos_dim = 3).1), Some(2), "wall {i} of a box");
+    }
+}
+
+#[test]
+fn axes_of_a_round_table() {
+    for (dim, pos_dim) in (1..=8).flat_map(|dim| (1..=8).map(move |pos_dim| (dim, pos_dim))) {
+        let sized = |c: &mut FuseConfig| (c.dim, c.pos_dim) = (dim, pos_dim);
+        assert_eq!(table_judged(sized), (dim < 2 || pos_dim < 2).then_some(15), "{dim}, {pos_dim}");
+        assert_eq!(judged(sized), None, "{dim}, {pos_dim}");
+    }
+    assert_eq!(table_judged(|c| c.dim = 0), Some(1));
+    assert_eq!(table_judged(|c| (c.dim, c.shape.radius) = (1, 0.0)), Some(2));
+    assert_eq!(table_judged(|c| (c.dim, c.brake.substeps) = (1, 0)), Some(3));
+    assert_eq!(table_judged(|c| (c.dim, c.aux_count) = (1, 1)), Some(4), "15 comes after 4");
+    assert_eq!(table_judged(|c| (c.dim, c.cal.mask) = (1, 1 << STALL)), Some(15), "and before 17");
+    assert_eq!(table_judged(|c| (c.pos_dim, c.cal.mask) = (2, 1 << STALL)), Some(17));
+}
+
+/// The answer to an action from a point to a row of three, and the row that goes out.
+fn acted(c: &FuseConfig, from: [f64; 3], a: [f64; 3]) -> Result<(Tier0Out, [f64; 3]), Refusal> {
+    let mut out = [7.0; 3];
+    let r = tier0::check_action(c, &from, &[], &from, &a, &mut out)?;
+    let mut rows = [7.0; 3];
+    let view = ChunkView { seq: 0, t_emit: 0, horizon: 1, dim: 3, exec_steps: 0, data: &a };
+    assert_eq!((tier0::check_chunk(c, &from, &[], view, &mut rows), rows), (Ok(r), out), "a chunk of one row");
+    Ok((r, out))
+}
+
+const COMPUTED: Refusal = Refusal { number: 13, place: 0 };
+
+/// On the edge there is no trip and no move, and the next number has both; the margin changes neither.
+#[test]
+fn the_edge_of_a_round_table() {
+    let shrunk = 1.0 - 2f64.powi(-36);
+    for margin in [0.0, 0.25] {
+        let c = FuseConfig { margin, ..TABLE };
+        for x in [0.0, 0.9, 1f64.next_down(), 1.0, -1.0] {
+            let (r, out) = acted(&c, [0.0; 3], [0.0, x, 0.0]).expect("accepted");
+            assert_eq!((r.trips, r.clamped_dims, out), (0, 0, [0.0, x, 0.0]));
+        }
+        let (r, out) = acted(&c, [0.0; 3], [1f64.next_up(), 0.0, 0.0]).expect("accepted");
+        assert_eq!((r.trips, r.clamped_dims, r.low_dims, r.high_dims), (WORKSPACE, 1, 0, 0));
+        assert_eq!(out[0], 1f64.next_up() * (shrunk / 1f64.next_up()));
+        let (r, out) = acted(&c, [0.0; 3], [6.0, -8.0, 0.0]).expect("accepted");
+        assert_eq!((r.trips, r.clamped_dims, r.low_dims, r.high_dims), (WORKSPACE, 3, 0, 0));
+        assert_eq!(out, [6.0 * (shrunk / 10.0), -8.0 * (shrunk / 10.0), 0.0]);
+        let (r, _) = acted(&c, [0.0; 3], [0.5, 0.5, 1.0]).expect("accepted");
+        assert_eq!((r.trips, r.high_dims), if margin == 0.0 { (0, 0) } else { (WORKSPACE, 4) }, "a further axis");
+    }
+}
+
+/// A point that is pulled may lie past the edge: from a centre of 2^53 the numbers are 2 apart.
+#[test]
+fn a_pulled_point_past_the_edge() {
+    let far = 2f64.powi(53);
+    let c = FuseConfig { shape: Shape::disc([far, 0.0], 1.5), ..TABLE };
+    let (r, out) = acted(&c, [far, 0.0, 0.0], [far + 4.0, 0.0, 0.0]).expect("accepted");
+    assert_eq!((r.trips, out), (WORKSPACE, [far + 2.0, 0.0, 0.0]));
+    assert_eq!(acted(&c, [far, 0.0, 0.0], out).expect("accepted").0.trips, WORKSPACE, "a distance of 2");
+}
+
+/// The distance of every row is evaluated where WORKSPACE is armed, under either mode and whatever else is outside.
+#[test]
+fn a_distance_from_the_centre_that_is_not_finite() {
+    for clamp in [ClampMode::Off, ClampMode::Project] {
+        let c = FuseConfig { clamp, ..TABLE };
+        // the step from the point before is finite, and the distance from the centre is not
+        let shape = Shape::disc([-1e154, 0.0], 1.0);
+        let (near, far) = ([0.0; 3], [1e154, 0.0, 0.0]);
+        let wide = &FuseConfig { shape, v_max: 1e300, reach_max: 1e300, ..c };
+        let at = |armed, a| acted(&FuseConfig { armed, ..*wide }, near, a).map(|_| ());
+        assert_eq!(at(WORKSPACE, far), Err(COMPUTED));
+        assert_eq!(at(WORKSPACE, [1e154, 0.0, 9.0]), Err(COMPUTED), "a further axis is outside already");
+        assert_eq!(at(WORKSPACE, near), Ok(()));
+        assert_eq!(at(SPEED | REACH, far), Ok(()), "not armed");
+        for rows in [[near, far], [far, near]] {
+            let data = rows.concat();
+            let view = ChunkView { seq: 0, t_emit: 0, horizon: 2, dim: 3, exec_steps: 0, data: &data };
+            assert_eq!(tier0::check_chunk(wide, &near, &[], view, &mut [0.0; 6]), Err(COMPUTED));
+        }
+    }
+}
+
+/// The pull comes before the leash, and where WORKSPACE is not armed not at all.
+#[test]
+fn the_pull_before_the_leash() {
+    let c = FuseConfig { armed: WORKSPACE | SPEED, v_max: 0.5, ..TABLE };
+    let shrunk = 1.0 - 2f64.powi(-36);
+    let (_, out) = acted(&c, [0.0, 1.0, 0.0], [3.0, 4.0, 0.0]).expect("accepted");
+    let on_table = [3.0 * (shrunk / 5.0), 4.0 * (shrunk / 5.0)];
+    let n = ((on_table[0] * on_table[0]) + (on_table[1] - 1.0) * (on_table[1] - 1.0)).sqrt();
+    let factor = 0.5 * shrunk / n;
+    assert_eq!(out, [on_table[0] * factor, 1.0 + (on_table[1] - 1.0) * factor, 0.0]);
+    let unarmed = FuseConfig { armed: SPEED, v_max: 9.0, ..TABLE };
+    let (r, out) = acted(&unarmed, [0.0; 3], [3.0, 4.0, 5.0]).expect("accepted");
+    assert_eq!((r.trips, out), (0, [3.0, 4.0, 5.0]));
+}
+
+/// A forecast from a point, at rest, without rows.
+fn rested(c: &FuseConfig, p: [f64; 3], slacks: &mut [f64]) -> Result<BrakeOut, Refusal> {
+    let view = ChunkView { seq: 0, t_emit: 0, horizon: 1, dim: 3, exec_steps: 0, data: &[0.0; 3] };
+    brake::brake_feasible(c, &p, &[0.0; 3], view, 0, slacks)
+}
+
+/// Closed kinds at rest: the radius minus the distance, and the least of it with the further axes; the stopping radius comes off both.
+#[test]
+fn the_slack_on_a_round_table() {
+    let mut c = FuseConfig { shape: Shape::disc([0.0; 2], 6.0), ..TABLE };
+    c.brake = BrakeModel { kind: BrakeKind::FirstOrderDecay, commit: 0, ..c.brake };
+    for (p, want) in
+        [([3.0, 4.0, 0.0], 1.0), ([3.0, 4.0, 0.75], 0.25), ([3.0, 4.0, -0.75], 0.25), ([6.0, 8.0, 0.0], -4.0)]
+    {
+        let mut slacks = [7.0];
+        let r = rested(&c, p, &mut slacks).expect("accepted");
+        assert_eq!((r.count, r.margin, r.feasible, slacks), (1, want, want >= 0.0, [want]), "{p:?}");
+        // a speed of 5 along the third axis, and k_v 1: a stopping radius of 5
+        let view = ChunkView { seq: 0, t_emit: 0, horizon: 1, dim: 3, exec_steps: 0, data: &[0.0; 3] };
+        let moving = brake::brake_feasible(&c, &p, &[0.0, 0.0, 5.0], view, 0, &mut slacks).expect("accepted");
+        assert_eq!(moving.margin, want - 5.0, "{p:?}");
+    }
+}
+
+/// By the computed distance: two points that are farther away than the radius, and have a slack of 0.
+#[test]
+fn a_slack_of_the_computed_distance() {
+    let mut c = TABLE;
+    c.brake.kind = BrakeKind::BoundedAccel;
+    for (p, radius) in [
+        ([2f64.powi(-538), 0.0, 0.0], 2f64.powi(-540)),
+        ([0.13436424411240122, 0.8474337369372327, 0.0], 0.8580196318239459),
+    ] {
+        c.shape.radius = radius;
+        let r = rested(&c, p, &mut [0.0]).expect("accepted");
+        assert!(r.feasible && r.margin >= 0.0, "{r:?}");
+        assert_eq!(acted(&c, p, p).expect("accepted").0.trips, 0);
+    }
+}
+
+/// The setpoint is made for brake_steps 0, too: what is not finite in it has the place of the first substep after the rows.
+#[test]
+fn a_setpoint_without_braking_steps() {
+    for (brake_steps, commit) in [(0, 0), (0, 1), (1, 0), (3, 1)] {
+        let mut c = TABLE;
+        (c.brake.brake_steps, c.brake.commit) = (brake_steps, commit);
+        let view = ChunkView { seq: 0, t_emit: 0, horizon: 1, dim: 3, exec_steps: 0, data: &[0.0; 3] };
+        for (from, x) in [(1, 1e200), (2, -1e200), (usize::MAX, f64::MAX)] {
+            let mut slacks = [7.0; 3];
+            let at = |c: &FuseConfig, s: &mut [f64]| brake::brake_feasible(c, &[x, 0.0, 0.0], &[0.0; 3], view, from, s);
+            assert_eq!(at(&c, &mut slacks), Err(Refusal { number: 13, place: 1 }));
+            assert_eq!(slacks, [7.0; 3]);
+            let boxed = FuseConfig { shape: Shape::BOX, box_lo: [-1.0; 8], box_hi: [1.0; 8], ..c };
+            if brake_steps == 0 {
+                assert_eq!(at(&boxed, &mut slacks).map(|r| r.count), Ok(0), "a box computes nothing");
+            }
+        }
+    }
+}
+
+/// Brake and hold move a position onto the table whatever is armed, and refuse one that they cannot measure; a coordinate that the position
+/// lacks is 0.0.
+#[test]
+fn brake_and_hold_on_a_round_table() {
+    let shrunk = 1.0 - 2f64.powi(-36);
+    let cfg = FuseConfig { armed: 0, clamp: ClampMode::Off, shape: Shape::disc([3.0, 0.0], 1.0), ..TABLE };
+    let both = |c: &FuseConfig, p: &[f64]| {
+        let (mut held, mut braked) = ([7.0; 3], [7.0; 3]);
+        let hold = brake::hold_action(c, p, &mut held);
+        assert_eq!((brake::brake_action(c, p, &[], &mut braked), braked), (hold, held));
+        hold.map(|walls| (walls, held))
+    };
+    let none = WallMarks::default();
+    assert_eq!(both(&cfg, &[3.0, 1.0, 1.0]), Ok((none, [3.0, 1.0, 1.0])));
+    let high = WallMarks { low_dims: 0, high_dims: 4 };
+    assert_eq!(both(&cfg, &[3.0, 2.0, 2.0]), Ok((high, [3.0, 2.0 * (shrunk / 2.0), 1.0])));
+    for short in [&[][..], &[0.0], &[0.0, 0.0]] {
+        assert_eq!(both(&cfg, short), Ok((none, [3.0 + -3.0 * (shrunk / 3.0), 0.0, 0.0])));
+    }
+    assert_eq!(both(&cfg, &[1e200, 0.0, 0.0]), Err(COMPUTED));
+    assert_eq!(both(&cfg, &[0.0, -1e200]), Err(COMPUTED));
+    let boxed = FuseConfig { shape: Shape::BOX, box_lo: [-1.0; 8], box_hi: [1.0; 8], ..cfg };
+    assert_eq!(both(&boxed, &[1e200, 0.0, 0.0]).map(|(_, row)| row), Ok([1.0, 0.0, 0.0]));
+    let narrow = FuseConfig { pos_dim: 2, ..cfg };
+    assert_eq!(both(&narrow, &[3.0, 0.5, 2.0]), Ok((none, [3.0, 0.5, 0.0])), "past pos_dim a box of 0..0");
+    let velocity = FuseConfig { kind: ActionKind::JointVelocity, ..cfg };
+    assert_eq!(brake::hold_action(&velocity, &[1e200, 0.0, 0.0], &mut [0.0; 3]), Ok(none), "nothing is measured");
+}
+
+/// The code as C passes it: 255 before every other number, and 15 by the counts.
+#[test]
+fn the_shape_as_a_code() {
+    let with = |dim: u64, pos_dim: u64, shape: u64| {
+        let mut c = [0; 34];
+        (c[0], c[1], c[8], c[33]) = (dim, pos_dim, 1, shape);
+        boundary::counts(&c)
+    };
+    for (dim, pos_dim) in [(1, 1), (1, 2), (2, 1), (2, 2), (8, 8), (9, 1), (0, 2)] {
+        let size = if dim > 8 || dim == 0 { 1 } else { 0 };
+        let disc = if size == 0 && (dim < 2 || pos_dim < 2) { 15 } else { size };
+        assert_eq!([with(dim, pos_dim, 0), with(dim, pos_dim, 1)], [size, disc], "{dim}, {pos_dim}");
+        for shape in [2, 3, 255, 256, 257, 1 << 32, (1 << 32) + 1, u64::MAX] {
+            assert_eq!(with(dim, pos_dim, shape), 255, "{shape}");
         }
     }
 }

@@ -4,7 +4,10 @@ use model::{brake as rule, refusal::COMPUTED, BrakeKind, BrakeOut, FuseConfig, R
 
 use super::numbers;
 use crate::{
-    input::{at_least, chunk, config, config_parts, lay_walls, narrower_config, ChunkIn},
+    input::{
+        at_least, chunk, config, config_parts, config_parts_with_shape, lay_edge, lay_on_table, lay_table, lay_walls,
+        narrower_config, ChunkIn,
+    },
     number::{at_limit, filler, Field},
     part::Part,
     port::{BrakeAction, BrakeFeasible, HoldAction, Port},
@@ -58,7 +61,59 @@ fn lay_box(rng: &mut Rng, cfg: &mut FuseConfig, p: &[f64], v: &[f64], ch: &Chunk
     }
 }
 
+/// The radius where the least slack is, so that the margin is 0 or a step to either side, as far as the setpoint stays.
+fn lay_disc(rng: &mut Rng, i: &mut ForecastIn) {
+    let mut slacks = vec![0.0; rule::count_of(&i.cfg, i.from)];
+    if let Ok(r) = rule::brake_feasible(&i.cfg, &i.p, &i.v, i.ch.view(), i.from, &mut slacks) {
+        let radius = at_limit(rng, i.cfg.shape.radius - r.margin);
+        if radius > 0.0 && radius.is_finite() {
+            i.cfg.shape.radius = radius;
+        }
+    }
+}
+
+/// A forecast that starts about a round table, to rows about it; of four one has no braking steps, of four one no row left, and of three
+/// one a further axis about its walls.
+fn generate_on_a_round_table(rng: &mut Rng) -> ForecastIn {
+    let mut i = generate(rng);
+    lay_table(rng, Field(1.0), &mut i.cfg);
+    if rng.one_in(4) {
+        i.cfg.brake.brake_steps = 0;
+    }
+    if rng.one_in(4) {
+        i.from = i.cfg.brake.commit as usize + rng.pick(&[0, 0, 1, 1 << 40]);
+    }
+    let (d, nb) = (i.cfg.dim, i.cfg.dim.min(i.cfg.pos_dim));
+    if nb > 2 && rng.one_in(3) {
+        let c = rng.within(2, nb - 1);
+        lay_walls(rng, &mut i.cfg, c, vec![&mut i.p[c]]);
+    }
+    lay_on_table(rng, &i.cfg.shape, &mut i.p);
+    if i.ch.dim as usize == d {
+        i.ch.data.chunks_mut(d).for_each(|row| lay_on_table(rng, &i.cfg.shape, row));
+    }
+    if rng.one_in(4) {
+        i.v.fill(0.0);
+    }
+    match rng.below(6) {
+        0 => lay_edge(rng, &mut i.cfg.shape, &i.p),
+        1 | 2 if i.cfg.shape.disc => lay_disc(rng, &mut i),
+        _ => (),
+    }
+    let more = rng.pick(&[0, 0, 1, 5]);
+    i.slacks = filler(rng, rule::count_of(&i.cfg, i.from) + more);
+    i
+}
+
 fn parts(i: &mut ForecastIn) -> Vec<Part<'_>> {
+    parts_and(config_parts, i)
+}
+
+fn parts_with_shape(i: &mut ForecastIn) -> Vec<Part<'_>> {
+    parts_and(config_parts_with_shape, i)
+}
+
+fn parts_and(config: fn(&mut FuseConfig) -> Vec<Part<'_>>, i: &mut ForecastIn) -> Vec<Part<'_>> {
     let mut parts = vec![
         Part::Slice(&mut i.p),
         Part::Slice(&mut i.v),
@@ -66,7 +121,7 @@ fn parts(i: &mut ForecastIn) -> Vec<Part<'_>> {
         Part::Usize(&mut i.from),
         Part::Slice(&mut i.slacks),
     ];
-    parts.extend(config_parts(&mut i.cfg));
+    parts.extend(config(&mut i.cfg));
     parts
 }
 
@@ -107,6 +162,17 @@ pub fn brake_feasible(port: &Port) -> Entry<ForecastIn> {
     }
 }
 
+/// The same entry about a round table. The Rust has the box alone, and is asked there.
+pub fn brake_feasible_on_a_round_table(port: &Port) -> Entry<ForecastIn> {
+    Entry {
+        name: "brake_feasible on a round table",
+        generate: generate_on_a_round_table,
+        parts: parts_with_shape,
+        rust: Box::new(|i| if i.cfg.shape.disc { None } else { Some(rust_forecast(i)) }),
+        ..brake_feasible(port)
+    }
+}
+
 #[derive(Clone, Debug)]
 pub struct BrakeIn {
     pub cfg: FuseConfig,
@@ -137,9 +203,33 @@ fn generate_at_walls(rng: &mut Rng) -> BrakeIn {
     i
 }
 
+/// A position about a round table, mostly one that has both of its coordinates; of four one of a kind that brakes a velocity.
+fn generate_action_on_a_round_table(rng: &mut Rng) -> BrakeIn {
+    let mut i = generate_action(rng);
+    lay_table(rng, Field(1.0), &mut i.cfg);
+    let nb = i.cfg.dim.min(i.cfg.pos_dim);
+    if nb > 2 && rng.one_in(3) {
+        let c = rng.within(2, nb - 1);
+        lay_walls(rng, &mut i.cfg, c, i.p.get_mut(c).into_iter().collect());
+    }
+    lay_on_table(rng, &i.cfg.shape, &mut i.p);
+    if rng.one_in(4) {
+        lay_edge(rng, &mut i.cfg.shape, &i.p);
+    }
+    i
+}
+
 fn action_parts(i: &mut BrakeIn) -> Vec<Part<'_>> {
+    action_parts_and(config_parts, i)
+}
+
+fn action_parts_with_shape(i: &mut BrakeIn) -> Vec<Part<'_>> {
+    action_parts_and(config_parts_with_shape, i)
+}
+
+fn action_parts_and(config: fn(&mut FuseConfig) -> Vec<Part<'_>>, i: &mut BrakeIn) -> Vec<Part<'_>> {
     let mut parts = vec![Part::Slice(&mut i.p), Part::Slice(&mut i.v), Part::Slice(&mut i.out)];
-    parts.extend(config_parts(&mut i.cfg));
+    parts.extend(config(&mut i.cfg));
     parts
 }
 
@@ -208,4 +298,24 @@ pub fn brake_action_at_walls(port: &Port) -> Entry<BrakeIn> {
 
 pub fn hold_action_at_walls(port: &Port) -> Entry<BrakeIn> {
     Entry { name: "hold_action at walls", generate: generate_at_walls, ..hold_action(port) }
+}
+
+/// The two entries with a position about a round table. The Rust has the box alone, and is asked there.
+pub fn brake_action_on_a_round_table(port: &Port) -> Entry<BrakeIn> {
+    on_a_round_table("brake_action on a round table", brake_action(port))
+}
+
+pub fn hold_action_on_a_round_table(port: &Port) -> Entry<BrakeIn> {
+    on_a_round_table("hold_action on a round table", hold_action(port))
+}
+
+fn on_a_round_table(name: &'static str, whole: Entry<BrakeIn>) -> Entry<BrakeIn> {
+    let rust = whole.rust;
+    Entry {
+        name,
+        generate: generate_action_on_a_round_table,
+        parts: action_parts_with_shape,
+        rust: Box::new(move |i| if i.cfg.shape.disc { None } else { rust(i) }),
+        ..whole
+    }
 }

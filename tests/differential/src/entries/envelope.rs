@@ -4,7 +4,7 @@ use model::{envelope as rule, Derived, FuseConfig};
 
 use super::{accepted, none, nothing, plain};
 use crate::{
-    input::{config, config_parts},
+    input::{config, config_parts, config_parts_with_shape, lay_table},
     number::Field,
     part::{Part, BRAKES, KINDS},
     port::Port,
@@ -35,6 +35,24 @@ pub fn derive(port: &Port) -> Entry<FuseConfig> {
         model: Box::new(|c| plain(rule::derive(c), |d| shown(&d, c.dim))),
         rust: Box::new(|c| Some(accepted(shown(&oracle::derived(&oracle::config(c)), c.dim)))),
         port: port.derive.map(|f| Box::new(move |c: &FuseConfig| plain(f(c), |d| shown(&d, c.dim))) as _),
+    }
+}
+
+/// The same entry, with a round table in most configurations. The Rust has the box alone, and is asked there.
+pub fn derive_on_a_round_table(port: &Port) -> Entry<FuseConfig> {
+    let whole = derive(port);
+    let rust = whole.rust;
+    Entry {
+        name: "derive on a round table",
+        generate: |rng| {
+            let field = Field::new(rng);
+            let mut cfg = config(rng, field);
+            lay_table(rng, field, &mut cfg);
+            cfg
+        },
+        parts: config_parts_with_shape,
+        rust: Box::new(move |c| if c.shape.disc { None } else { rust(c) }),
+        ..whole
     }
 }
 

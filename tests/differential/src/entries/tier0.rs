@@ -1,13 +1,14 @@
 //! Module 5.
 
 use model::{
-    tier0 as rule, AbsentCamera, ClampMode, ContactLimit, FuseConfig, Refusal, Tier0Out, Zones, CONTACT, MAX_D,
+    tier0 as rule, AbsentCamera, ClampMode, ContactLimit, FuseConfig, Refusal, Shape, Tier0Out, Zones, CONTACT, MAX_D,
     MAX_ZONES, REACH, SPEED, WORKSPACE,
 };
 
 use crate::{
     input::{
-        at_least, chunk, config, config_parts_with_choice, config_parts_with_zones, lay_walls, narrower_config, ChunkIn,
+        at_least, chunk, config, config_parts_with_choice, config_parts_with_shape, config_parts_with_zones, lay_edge,
+        lay_far_out, lay_on_table, lay_table, lay_walls, narrower_config, ChunkIn,
     },
     number::{at_limit, filler, Field},
     part::{Part, CHOICES},
@@ -303,10 +304,54 @@ fn generate_several_zones(rng: &mut Rng) -> CheckChunkIn {
     i
 }
 
+/// What is laid about a round table's edge beside its rows: its radius, or the step or the reach that brings a row back.
+fn lay_moves(rng: &mut Rng, cfg: &mut FuseConfig, row: &[f64]) {
+    if !cfg.shape.disc {
+        return;
+    }
+    match rng.below(6) {
+        0 | 1 => lay_edge(rng, &mut cfg.shape, row),
+        2 => (cfg.armed, cfg.v_max) = (cfg.armed | SPEED, cfg.shape.radius.min(1e100)),
+        3 => (cfg.armed, cfg.reach_max) = (cfg.armed | REACH, cfg.shape.radius),
+        _ => (),
+    }
+    if rng.one_in(3) {
+        cfg.clamp = ClampMode::Off;
+    } else if rng.one_in(2) {
+        (cfg.clamp, cfg.armed) = (ClampMode::Project, cfg.armed & (WORKSPACE | SPEED));
+    }
+}
+
+/// A chunk with its rows about a round table, and of three one with a further axis about its walls.
+fn generate_on_a_round_table(rng: &mut Rng) -> CheckChunkIn {
+    let mut i = generate(rng);
+    lay_table(rng, Field(1.0), &mut i.cfg);
+    let (d, nb) = (i.cfg.dim, i.cfg.dim.min(i.cfg.pos_dim));
+    if i.ch.dim as usize != d || i.ch.data.is_empty() {
+        return i;
+    }
+    if nb > 2 && rng.one_in(3) {
+        let c = rng.within(2, nb - 1);
+        lay_walls(rng, &mut i.cfg, c, i.ch.data.iter_mut().skip(c).step_by(d).collect());
+    }
+    i.ch.data.chunks_mut(d).for_each(|row| lay_on_table(rng, &i.cfg.shape, row));
+    lay_on_table(rng, &i.cfg.shape, &mut i.pos);
+    if rng.one_in(8) {
+        lay_far_out(rng, i.ch.data.chunks_mut(d).chain([&mut i.pos[..]]));
+    }
+    let row = rng.below(i.ch.horizon as usize) * d;
+    lay_moves(rng, &mut i.cfg, &i.ch.data[row..row + d]);
+    i
+}
+
 fn parts(i: &mut CheckChunkIn) -> Vec<Part<'_>> {
     let mut parts = parts_with_choice(i);
     parts.pop();
     parts
+}
+
+fn parts_with_shape(i: &mut CheckChunkIn) -> Vec<Part<'_>> {
+    parts_and(config_parts_with_shape, i)
 }
 
 fn parts_with_choice(i: &mut CheckChunkIn) -> Vec<Part<'_>> {
@@ -327,6 +372,27 @@ fn parts_and(config: fn(&mut FuseConfig) -> Vec<Part<'_>>, i: &mut CheckChunkIn)
 fn narrower(i: &CheckChunkIn) -> Vec<CheckChunkIn> {
     let ch = i.ch.narrower();
     ch.map(|ch| CheckChunkIn { cfg: narrower_config(&i.cfg), ch, ..i.clone() }).into_iter().collect()
+}
+
+/// Where no single part is smaller: a table of radius 1 about the origin, with every row on its edge or the next number beyond it.
+fn on_the_unit_table(shape: &Shape, rows: &[f64], dim: usize) -> Vec<(Shape, Vec<f64>)> {
+    const UNIT: Shape = Shape::disc([0.0; 2], 1.0);
+    if !shape.disc || *shape == UNIT || dim < 2 {
+        return Vec::new();
+    }
+    let moved = |y: f64| {
+        let mut rows = rows.to_vec();
+        rows.chunks_mut(dim).filter(|row| row.len() == dim).for_each(|row| (row[0], row[1]) = (0.0, y));
+        (UNIT, rows)
+    };
+    [1.0, 1f64.next_up()].map(moved).into()
+}
+
+fn narrower_on_a_round_table(i: &CheckChunkIn) -> Vec<CheckChunkIn> {
+    let unit = on_the_unit_table(&i.cfg.shape, &i.ch.data, i.ch.dim as usize).into_iter().map(|(shape, data)| {
+        CheckChunkIn { cfg: FuseConfig { shape, ..i.cfg }, ch: ChunkIn { data, ..i.ch.clone() }, ..i.clone() }
+    });
+    narrower(i).into_iter().chain(unit).collect()
 }
 
 fn checked(f: CheckChunk, i: &CheckChunkIn) -> Outcome {
@@ -376,6 +442,20 @@ pub fn check_chunk_with_several_zones(port: &Port) -> Entry<CheckChunkIn> {
         generate: generate_several_zones,
         parts: parts_with_zones,
         ..check_chunk_with_a_short_camera(port)
+    }
+}
+
+/// The same entry, its rows about a round table. The Rust has the box alone, and is asked there.
+pub fn check_chunk_on_a_round_table(port: &Port) -> Entry<CheckChunkIn> {
+    let whole = check_chunk(port);
+    let rust = whole.rust;
+    Entry {
+        name: "check_chunk on a round table",
+        generate: generate_on_a_round_table,
+        parts: parts_with_shape,
+        narrower: narrower_on_a_round_table,
+        rust: Box::new(move |i| if i.cfg.shape.disc { None } else { rust(i) }),
+        ..whole
     }
 }
 
@@ -433,10 +513,33 @@ fn generate_action_with_several_zones(rng: &mut Rng) -> CheckActionIn {
     i
 }
 
+/// An action about a round table, and of three one with a further axis about its walls.
+fn generate_action_on_a_round_table(rng: &mut Rng) -> CheckActionIn {
+    let mut i = generate_action(rng);
+    lay_table(rng, Field(1.0), &mut i.cfg);
+    let nb = i.cfg.dim.min(i.cfg.pos_dim);
+    if nb > 2 && rng.one_in(3) {
+        let c = rng.within(2, nb - 1);
+        lay_walls(rng, &mut i.cfg, c, vec![&mut i.a[c]]);
+    }
+    for point in [&mut i.a, &mut i.prev, &mut i.pos] {
+        lay_on_table(rng, &i.cfg.shape, point);
+    }
+    if rng.one_in(8) {
+        lay_far_out(rng, [&mut i.a[..], &mut i.prev, &mut i.pos]);
+    }
+    lay_moves(rng, &mut i.cfg, &i.a);
+    i
+}
+
 fn action_parts(i: &mut CheckActionIn) -> Vec<Part<'_>> {
     let mut parts = action_parts_with_choice(i);
     parts.pop();
     parts
+}
+
+fn action_parts_with_shape(i: &mut CheckActionIn) -> Vec<Part<'_>> {
+    action_parts_and(config_parts_with_shape, i)
 }
 
 fn action_parts_with_choice(i: &mut CheckActionIn) -> Vec<Part<'_>> {
@@ -459,6 +562,10 @@ fn action_parts_and(config: fn(&mut FuseConfig) -> Vec<Part<'_>>, i: &mut CheckA
     parts
 }
 
+fn narrower_action(i: &CheckActionIn) -> Vec<CheckActionIn> {
+    vec![CheckActionIn { cfg: narrower_config(&i.cfg), ..i.clone() }; (i.cfg.dim > 1) as usize]
+}
+
 fn checked_action(f: CheckAction, i: &CheckActionIn) -> Outcome {
     let mut out = i.out.clone();
     outcome(f(&i.cfg, &i.pos, &i.aux, &i.prev, &i.a, &mut out), out)
@@ -469,7 +576,7 @@ pub fn check_action(port: &Port) -> Entry<CheckActionIn> {
         name: "check_action",
         generate: generate_action,
         parts: action_parts,
-        narrower: |i| vec![CheckActionIn { cfg: narrower_config(&i.cfg), ..i.clone() }; (i.cfg.dim > 1) as usize],
+        narrower: narrower_action,
         before: |i| numbers(&i.out),
         model: Box::new(|i| checked_action(rule::check_action, i)),
         rust: Box::new(|i| {
@@ -506,5 +613,23 @@ pub fn check_action_with_several_zones(port: &Port) -> Entry<CheckActionIn> {
         generate: generate_action_with_several_zones,
         parts: action_parts_with_zones,
         ..check_action_with_a_short_camera(port)
+    }
+}
+
+/// The same entry, its action about a round table. The Rust has the box alone, and is asked there.
+pub fn check_action_on_a_round_table(port: &Port) -> Entry<CheckActionIn> {
+    let whole = check_action(port);
+    let rust = whole.rust;
+    Entry {
+        name: "check_action on a round table",
+        generate: generate_action_on_a_round_table,
+        parts: action_parts_with_shape,
+        narrower: |i| {
+            let unit = on_the_unit_table(&i.cfg.shape, &i.a, i.a.len()).into_iter();
+            let unit = unit.map(|(shape, a)| CheckActionIn { cfg: FuseConfig { shape, ..i.cfg }, a, ..i.clone() });
+            narrower_action(i).into_iter().chain(unit).collect()
+        },
+        rust: Box::new(move |i| if i.cfg.shape.disc { None } else { rust(i) }),
+        ..whole
     }
 }

@@ -177,6 +177,14 @@ pub fn contact(cfg: &FuseConfig) -> Option<rust::ContactLimit> {
     zone.map(|z| rust::ContactLimit { radius: z.radius, v_max: z.v_max, aux_center: [z.a0, z.a1] })
 }
 
+/// The walls of each axis, which are all that the Rust has of a workspace: a configuration with a disc is not carried over, by `config` or by
+/// `compile`, so that no run against the Rust has a round table.
+pub fn walls(cfg: &FuseConfig) -> (&[f64], &[f64]) {
+    assert!(!cfg.shape.disc, "the Rust has the box alone, and is asked with {:?}", cfg.shape);
+    let pos_dim = cfg.pos_dim.min(model::MAX_POS);
+    (&cfg.box_lo[..pos_dim], &cfg.box_hi[..pos_dim])
+}
+
 pub fn clamp_mode(cfg: &FuseConfig) -> rust::ClampMode {
     match cfg.clamp {
         ClampMode::Off => rust::ClampMode::Off,
@@ -255,9 +263,10 @@ pub fn config(c: &FuseConfig) -> rust::FuseConfig {
 }
 
 fn derive_axes(c: &FuseConfig, r: &mut rust::FuseConfig) {
+    let (lo, hi) = walls(c);
     for i in 0..r.pos_dim {
-        r.box_lo[i] = c.box_lo[i] + c.margin;
-        r.box_hi[i] = c.box_hi[i] - c.margin;
+        r.box_lo[i] = lo[i] + c.margin;
+        r.box_hi[i] = hi[i] - c.margin;
     }
     for i in 0..r.dim {
         r.inv_norm_scale[i] = 1.0 / c.norm_scale[i];

@@ -1,7 +1,7 @@
 //! `compile` itself, on an envelope made from the raw configuration.
 
 use lictor_core::{EmbodimentManifest, FuseMode, SafetyEnvelope, TripMask};
-use model::{Calibration, Derived, FuseConfig, MAX_D, MAX_POS};
+use model::{Calibration, Derived, FuseConfig, MAX_D};
 
 use crate::carry;
 
@@ -26,13 +26,13 @@ pub fn compile_with_ticks(c: &FuseConfig, horizon_ticks: u32) -> Result<(), Stri
 }
 
 fn envelope(c: &FuseConfig, num: u32, den: u32) -> SafetyEnvelope {
-    let pos_dim = c.pos_dim.min(MAX_POS);
+    let (lo, hi) = carry::walls(c);
     SafetyEnvelope {
         schema: "lictor-envelope/v1".into(),
         envelope_id: "harness".into(),
         embodiment: manifest(c, num, den),
-        box_lo: c.box_lo[..pos_dim].to_vec(),
-        box_hi: c.box_hi[..pos_dim].to_vec(),
+        box_lo: lo.to_vec(),
+        box_hi: hi.to_vec(),
         margin: c.margin,
         v_max: c.v_max,
         a_max: c.a_max,

@@ -274,7 +274,7 @@ pub fn time_bin(t: u32, horizon_ticks: u32) -> usize {
 mod tests {
     use std::panic::catch_unwind;
 
-    use model::{AbsentCamera, ContactLimit, Zones};
+    use model::{AbsentCamera, ContactLimit, Shape, Zones};
 
     use super::*;
 
@@ -310,6 +310,19 @@ mod tests {
             for count in 0..=5 {
                 cfg.zones.count = count;
                 assert_eq!(carried(cfg), [absent_camera == AbsentCamera::NoZone && count <= 1; 2], "{count} zones");
+            }
+        }
+    }
+
+    /// Whether or not it is armed; with the box, whatever stands in the centre and the radius.
+    #[test]
+    fn a_configuration_with_a_round_table_is_not_carried_over() {
+        for armed in [0, 1, 63] {
+            let cfg = FuseConfig { armed, absent_camera: AbsentCamera::NoZone, ..FuseConfig::WHOLE };
+            for (center, radius) in [([0.0; 2], 1.0), ([f64::NAN, f64::INFINITY], -1.0)] {
+                for disc in [false, true] {
+                    assert_eq!(carried(FuseConfig { shape: Shape { disc, center, radius }, ..cfg }), [!disc; 2]);
+                }
             }
         }
     }
