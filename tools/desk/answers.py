@@ -12,6 +12,7 @@ REFUSALS = {
     2: 'a number of the configuration is not finite or out of range: k_p below 0, k_v or dt not above 0, or lo above hi',
     3: 'substeps is not 1 to 64, commit is over 64, or (commit + brake_steps) x substeps is over 4,096',
     4: 'the channels of a zone do not fit',
+    15: 'a round table, and the action or the position has fewer than two coordinates',
     17: 'the calibration names Stall, which is not computed',
     5: 'the chunk is empty',
     6: 'the chunk is too long',

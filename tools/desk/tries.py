@@ -27,6 +27,7 @@ SETTINGS = [
     Setting('dt', 'number', 'length of a control step, s: above 0', '1'),
     Setting('lo', 'pair', 'low walls of the box, m', '-1,-1'),
     Setting('hi', 'pair', 'high walls, m', '1,1'),
+    Setting('disc', 'disc', 'a round table instead of the box: the two coordinates of its centre and its radius, m, with commas, or none', 'none'),
     Setting('p', 'pair', 'where the arm stands, and the row before, m', '0,0'),
     Setting('row', 'pair', 'where it is told to go, m', '1,0'),
 ]
@@ -36,7 +37,7 @@ TRIPS = {'workspace': 1, 'speed': 2, 'accel': 4, 'jerk': 8, 'reach': 16, 'contac
 # a refusal in the words of these settings
 REFUSALS = answers.REFUSALS | {
     1: 'there are over four zones',
-    2: 'a number is not finite or out of its range, or a low wall is above its high wall (tools/card try has the ranges)',
+    2: 'a number is not finite or out of its range, a low wall is above its high wall, or the radius of a disc is not above 0 (tools/card try has the ranges)',
     4: "a zone's two channels are the same, one of them is not below channels, or two zones have the same channels in the same order",
     12: 'a number of p, row or camera is not finite',
 }
@@ -55,7 +56,7 @@ BELIEFS = {
                        ['channel1=0', 'channel1=2', 'channel1=2 channels=3', 'zone=no', 'channel0=0 zone1=1,0.5,0,1', 'channel0=0 zone1=1,0.5,1,0']),
     'limit': Belief('Touching a limit trips it.', {},
                     'the step is as long as v_max allows and ends on the wall, and nothing trips',
-                    ['row=1.001,0', 'p=-0.5,0 row=0.75,0', 'v_max=0.999']),
+                    ['row=1.001,0', 'p=-0.5,0 row=0.75,0', 'v_max=0.999', 'disc=0,0,1', 'disc=0,0,1 row=0.75,0.75 v_max=2']),
 }
 
 
@@ -117,6 +118,15 @@ def zone(name, value):
     return Zone(*(text.number(name, item) for item in items[:2]), *(text.count(name, item, 255) for item in items[2:]))
 
 
+def disc(name, value):
+    """A round table: its centre and its radius; None where the workspace is the box, or ValueError."""
+    if value == 'none':
+        return None
+    if len(value.split(',')) != 3:
+        raise ValueError(f'{name} is none, or two coordinates and a radius with commas between them: {text.shown(value)}')
+    return numbers(name, value, 3, 3)
+
+
 READ = {
     'number': text.number,
     'count': text.count,
@@ -124,6 +134,7 @@ READ = {
     'flag': flag,
     'choice': choice,
     'zone': zone,
+    'disc': disc,
     'trips': bits,
     'pair': lambda name, value: numbers(name, value, 2, 2),
     'list': lambda name, value: numbers(name, value, 0, 8),
@@ -167,13 +178,16 @@ def record(s):
     config = [s['dt'], s['v_max'], 1.0, 1.0, s['reach_max'], 0.0] + [2.0, 1.0, 0.5] + [first.radius, first.speed]
     config += eight + [1.0] * 8 + (s['lo'] + eight)[:8] + (s['hi'] + eight)[:8] + [0.0]
     config += [number for found in further for number in (found.radius, found.speed)]
+    config += s['disc'] or [0.0] * 3
     project, second_order = 1, 0
     counts = [2, 2, 0, project, second_order, count, first.channel0, first.channel1, 2, 1, 1, 1] + [0] * 8
     counts += [s['armed'], s['channels'], 0, 0, 0, 1, s['absent_camera']]
     counts += [channel for found in further for channel in (found.channel0, found.channel1)]
+    box, round_table = 0, 1
+    counts += [round_table if s['disc'] else box]
     place, row = (s['p'] + eight)[:8], (s['row'] + eight)[:8]
     camera = (s['camera'] + eight)[:8]
-    return struct.pack('<50d33QQ8dQ8d8d8d', *config, *counts, 2, *place, len(s['camera']), *camera, *place, *row)
+    return struct.pack('<53d34QQ8dQ8d8d8d', *config, *counts, 2, *place, len(s['camera']), *camera, *place, *row)
 
 
 def walls(low, high):
