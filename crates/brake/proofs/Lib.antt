@@ -4,9 +4,11 @@ pub mod Judged
 pub mod Room
 pub mod Told
 pub mod Sending
+pub mod Gripped
 pub mod Foreseen
 pub mod Boxed
 pub mod Walled
+pub mod Modes
 pub mod AtBox
 pub mod Margin
 pub mod Promises

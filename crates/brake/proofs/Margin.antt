@@ -13,7 +13,7 @@ use Rattle.envelope.proofs.Promises as config
 use Rattle.workspace.specs.declared.Shape.the-variants.{Disc}
 use Rattle.workspace.specs.Rule.{Walls}
 use Rattle.brake.specs.Rule.{live, wallsAt, forecastBy, brakeRow, holdRow, sentMasks}
-use Rattle.brake.specs.Answer.{masksSent, brakeSent, holdSent}
+use Rattle.brake.specs.Answer.{masksSent, sending, brakeSent, holdSent}
 use Rattle.brake.specs.Promises.{MarginUnread}
 
 module _ (c : FuseConfig) (x y radius m : Float) (disc : c .shape ≡ Disc x y radius) (few : c .«pos_dim» ≤ 2) where
@@ -29,13 +29,13 @@ module _ (c : FuseConfig) (x y radius m : Float) (disc : c .shape ≡ Disc x y r
     by-kind (JerkLimited kp kv dt) = rw same-walls
     by-kind (ZeroVelocityHold kp kv dt) = rw same-walls
 
-  brakes : (p v : List Float) → brakeSent binary64 (marginedBy c m) p v ≡ brakeSent binary64 c p v
+  brakes : (p v last : List Float) → brakeSent binary64 (marginedBy c m) p v last ≡ brakeSent binary64 c p v last
   unfolding brakeSent
-  brakes p v = ap (λ (w : Walls). brakeRow binary64 (c .kind) (c .limits .«a_max») (c .limits .dt) w p v (c .dim)) same-walls
+  brakes p v last = ap (λ (w : Walls). sending c last (brakeRow binary64 (c .kind) (c .limits .«a_max») (c .limits .dt) w p v (c .dim))) same-walls
 
-  holds : (p : List Float) → holdSent binary64 (marginedBy c m) p ≡ holdSent binary64 c p
+  holds : (p last : List Float) → holdSent binary64 (marginedBy c m) p last ≡ holdSent binary64 c p last
   unfolding holdSent
-  holds p = ap (λ (w : Walls). holdRow binary64 (c .kind) w p (c .dim)) same-walls
+  holds p last = ap (λ (w : Walls). sending c last (holdRow binary64 (c .kind) w p (c .dim))) same-walls
 
   masks : (p : List Float) → masksSent binary64 (marginedBy c m) p ≡ masksSent binary64 c p
   unfolding masksSent

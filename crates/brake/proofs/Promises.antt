@@ -42,6 +42,7 @@ use Rattle.brake.proofs.AtBox.{box-setpoint, box-forecast}
 use Rattle.brake.proofs.Margin.{margin-unread}
 use Rattle.brake.proofs.Sending.{hold-at-a-box}
 use Rattle.brake.proofs.Boxed.{brake-inside, hold-inside}
+use Rattle.brake.proofs.Modes.{brakes-in-both, holds-in-both, brake-last, hold-last, brake-as-rust, hold-as-rust}
 use Rattle.brake.proofs.Walled.{brake-walls, hold-walls}
 use Rattle.brake.proofs.ByKind.{count-is}
 use Rattle.brake.proofs.Judged.{never, planned, refused}
@@ -384,9 +385,15 @@ promised = record {
   shorter-begins-longer = λ x g is b l m n margin margin′ feasible feasible′ stop stop′. shorter-begins x g is b l;
   feasible-exactly-where = λ x g is n margin feasible stop. feasible-exactly x g is;
   feasible-is-inside = λ x g is n margin stop. feasible-stays-inside x g is;
-  box-holds = λ c t box p room r e n. hold-at-a-box binary64 c p box t room e n;
-  brakes-inside = λ c t is p v l. brake-inside c t is p l v;
+  brakes-inside = λ c t is p v last l. brake-inside c t is p last l v;
   holds-inside = hold-inside;
-  brake-walls = λ c t p v l m. brake-walls c t p l m v;
+  brakes-in-both = λ c t e p v last. brakes-in-both c t p v last e;
+  holds-in-both = λ c t e p last. holds-in-both c t p last e;
+  brake-last-judged = λ c t e p v last. brake-last c t p v last e;
+  hold-last-judged = λ c t e p last. hold-last c t p last e;
+  brake-as-the-rust = λ c t e p v last. brake-as-rust c t p v last e;
+  hold-as-the-rust = λ c t e p last. hold-as-rust c t p last e;
+  box-holds = λ c t box p last room r e n. hold-at-a-box binary64 c p last box t room e n;
+  brake-walls = λ c t p v last l m. brake-walls c t p last l m v;
   hold-walls = hold-walls;
 }

@@ -1,4 +1,4 @@
--- What the masks of an accepted brake or hold say: they are those of the setpoint, on the first min(dim, pos_dim) axes, and the row is the setpoint.
+-- What the masks of an accepted brake or hold say: they are those of the setpoint, on the first min(dim, pos_dim) axes, and there the row is the setpoint.
 use Prim.Native.Nat.{ℕ, min, _≤_, _<_}
 use mathlib.Core.Path.{_≡_, refl, sym, ap, _∙_}
 use mathlib.Core.Bool.{Bool, true, false, not, _||_, false≢true}
@@ -26,13 +26,14 @@ use Rattle.workspace.specs.Shape.{boxed}
 use Rattle.workspace.specs.Rule.{Walls, ontoDisc, setpoint, wallMasks, setpointMasks, unmoved}
 use Rattle.workspace.specs.Promises.{AxisTold, MovedAsTold, NoBitPast}
 use Rattle.workspace.proofs.Promises as masks
-use Rattle.workspace.proofs.Inside.{inward-on}
+use Rattle.workspace.proofs.Inside.{inward-on, setpoint-long}
 use Rattle.brake.specs.declared.Sent.{Sent}
 use Rattle.brake.specs.declared.Sent.the-variants.{Done, Refused}
-use Rattle.brake.specs.Rule.{live, wallsAt, sentMasks}
-use Rattle.brake.specs.Answer.{rowLent, sentAt, masksSent, brakeSent, brakeRefusal, brakeAnswer, brakeOutput, holdSent, holdRefusal, holdAnswer, holdOutput}
-use Rattle.brake.specs.Promises.{isPosition, SentWalls}
+use Rattle.brake.specs.Rule.{live, wallsAt, isPosition, takesLast, sentRow, sentMasks}
+use Rattle.brake.specs.Answer.{lastUnfit, rowLent, sentAt, masksSent, brakeSent, brakeRefusal, brakeAnswer, brakeOutput, holdSent, holdRefusal, holdAnswer, holdOutput}
+use Rattle.brake.specs.Promises.{bounded, SentWalls}
 use Rattle.brake.proofs.Sending.{position-brakes, position-holds, sized}
+use Rattle.brake.proofs.Gripped.{own-written}
 use Rattle.brake.proofs.Boxed.{positions, sent-zero}
 
 -- ---- the masks, by the kind
@@ -67,7 +68,7 @@ masksIn (Done m) = m
 masksIn (Refused r) = unmoved
 
 -- an accepted answer has the masks that are sent
-masks-of : (k : ℕ) (x m : WallMasks) → sentAt k x ≡ Done m → m ≡ x
+pub masks-of : (k : ℕ) (x m : WallMasks) → sentAt k x ≡ Done m → m ≡ x
 masks-of k x m e = sym (ap masksIn (sym (ap (λ (n : ℕ). sentAt n x) (sent-zero k x m e)) ∙ e))
 
 -- ---- the position, with zeros up to eight
@@ -82,9 +83,21 @@ lacks p j h b = over-keeps (at p) (replicate 8 +0) (min 8 (length p)) j (omega a
 
 -- ---- what is written
 
-module _ (c : FuseConfig) (p l : List Float) (m : WallMasks) (narrow : c .dim ≤ 8) (room : c .dim ≤ length l) (em : m ≡ masksSent binary64 c p) where
+-- the first min(dim, pos_dim) coordinates lie in their boxes in either mode
+live-bounded : (c : FuseConfig) {j : ℕ} → j < live c → j < bounded c
+live-bounded c {j} here = go (takesLast (c .gripper)) refl
+  where
+    go : (b : Bool) → takesLast (c .gripper) ≡ b → j < bounded c
+    go true e = rw e here
+    go false e = rw e (omega arith)
+
+module _ (c : FuseConfig) (p last l : List Float) (m : WallMasks) (narrow : c .dim ≤ 8) (room : c .dim ≤ length l) (em : m ≡ masksSent binary64 c p) where
   abbrev w : Walls
   w = wallsAt binary64 c
+
+  -- the setpoint as it is sent, over the output
+  abbrev sentOver : List Float
+  sentOver = over (at (sentRow (c .gripper) (c .kind) (c .«pos_dim») last (setpoint binary64 w p (c .dim) .value) (c .dim))) l (c .dim)
 
   sent-masks : m ≡ sentMasks (c .kind) w p (live c)
   unfolding masksSent
@@ -104,9 +117,9 @@ module _ (c : FuseConfig) (p l : List Float) (m : WallMasks) (narrow : c .dim �
     moved : (j : ℕ) → j < live c → boxed (c .shape) j ≡ true → MovedAsTold binary64 w (eight p 8) (c .dim) j
     moved j here = masks.promised .moved-as-told binary64 w (eight p 8) (c .dim) j (omega arith) (omega (arith, length-eight p 8))
 
-    module _ (out : List Float) (eo : out ≡ over (at (setpoint binary64 w p (c .dim) .value)) l (c .dim)) where
+    module _ (out : List Float) (eo : out ≡ sentOver) where
       written : (j : ℕ) → j < live c → at out j ≡ at (setpoint binary64 w p (c .dim) .value) j
-      written j here = ap (λ (x : List Float). at x j) eo ∙ over-at (at (setpoint binary64 w p (c .dim) .value)) l (c .dim) j (omega arith) (omega arith)
+      written j here = ap (λ (x : List Float). at x j) eo ∙ own-written c last (setpoint binary64 w p (c .dim) .value) l narrow room (setpoint-long binary64 w p (c .dim)) j (live-bounded c here)
 
       low-wall : (j : ℕ) → j < live c → bit (m .low) j ≡ true → at out j ≡ at (w .lo) j
       unfolding setpoint
@@ -131,7 +144,7 @@ module _ (c : FuseConfig) (p l : List Float) (m : WallMasks) (narrow : c .dim �
   no-bit j here has true is = let t = told is j here in (t .low-bit ∙ rw has, t .high-bit ∙ rw has)
   no-bit j here has false is = let e = sent-masks ∙ of-velocity w p (live c) (c .kind) is in rw e (no-bits j, no-bits j)
 
-  sent-walls : (out : List Float) → (isPosition (c .kind) ≡ true → out ≡ over (at (setpoint binary64 w p (c .dim) .value)) l (c .dim)) → SentWalls c p m out
+  sent-walls : (out : List Float) → (isPosition (c .kind) ≡ true → out ≡ sentOver) → SentWalls c p m out
   sent-walls out eo = record {
     velocity-none = λ h. sent-masks ∙ of-velocity w p (live c) (c .kind) h;
     each-axis = told;
@@ -147,24 +160,25 @@ module _ (c : FuseConfig) (p l : List Float) (m : WallMasks) (narrow : c .dim �
 
 -- ---- brake and hold
 
-module _ (c : FuseConfig) (tabs : Tables) (p l : List Float) (m : WallMasks) where
-  pub brake-walls : (v : List Float) → brakeAnswer binary64 c tabs p v (length l) ≡ Done m → SentWalls c p m (brakeOutput binary64 c tabs p v l)
+module _ (c : FuseConfig) (tabs : Tables) (p last l : List Float) (m : WallMasks) where
+  pub brake-walls : (v : List Float) → brakeAnswer binary64 c tabs p v last (length l) ≡ Done m → SentWalls c p m (brakeOutput binary64 c tabs p v last l)
   unfolding brakeAnswer brakeOutput brakeRefusal brakeSent
   brake-walls v done =
-      let k = brakeRefusal binary64 c tabs p v (length l) in
+      let k = brakeRefusal binary64 c tabs p v last (length l) in
       let z = sent-zero k (masksSent binary64 c p) m done in
-      let unfit = someNotFinite p || someNotFinite v in
-      let passed = both-pass (configJudged binary64 c tabs ++ rowLent c unfit (length l)) ((computed when not (brakeSent binary64 c p v .sound)) ∷ []) z .0 in
-      let sizes = sized binary64 c tabs unfit (length l) passed in
-      sent-walls c p l m (sizes .0) (sizes .1) (masks-of k (masksSent binary64 c p) m done) _
+      let unfit = someNotFinite p || someNotFinite v || lastUnfit (c .gripper) last in
+      let passed = both-pass (configJudged binary64 c tabs ++ rowLent c unfit (length l) (length last)) ((computed when not (brakeSent binary64 c p v last .sound)) ∷ []) z .0 in
+      let sizes = sized binary64 c tabs unfit (length l) (length last) passed in
+      sent-walls c p last l m (sizes .0) (sizes .1) (masks-of k (masksSent binary64 c p) m done) _
       (λ is. rw (z, position-brakes (wallsAt binary64 c) p (c .dim) binary64 (c .limits .«a_max») (c .limits .dt) v (c .kind) (positions (c .kind) is)))
 
-  pub hold-walls : holdAnswer binary64 c tabs p (length l) ≡ Done m → SentWalls c p m (holdOutput binary64 c tabs p l)
+  pub hold-walls : holdAnswer binary64 c tabs p last (length l) ≡ Done m → SentWalls c p m (holdOutput binary64 c tabs p last l)
   unfolding holdAnswer holdOutput holdRefusal holdSent
   hold-walls done =
-      let k = holdRefusal binary64 c tabs p (length l) in
+      let k = holdRefusal binary64 c tabs p last (length l) in
       let z = sent-zero k (masksSent binary64 c p) m done in
-      let passed = both-pass (configJudged binary64 c tabs ++ rowLent c (someNotFinite p) (length l)) ((computed when not (holdSent binary64 c p .sound)) ∷ []) z .0 in
-      let sizes = sized binary64 c tabs (someNotFinite p) (length l) passed in
-      sent-walls c p l m (sizes .0) (sizes .1) (masks-of k (masksSent binary64 c p) m done) _
+      let unfit = someNotFinite p || lastUnfit (c .gripper) last in
+      let passed = both-pass (configJudged binary64 c tabs ++ rowLent c unfit (length l) (length last)) ((computed when not (holdSent binary64 c p last .sound)) ∷ []) z .0 in
+      let sizes = sized binary64 c tabs unfit (length l) (length last) passed in
+      sent-walls c p last l m (sizes .0) (sizes .1) (masks-of k (masksSent binary64 c p) m done) _
       (λ is. rw (z, position-holds (wallsAt binary64 c) p (c .dim) binary64 (c .kind) (positions (c .kind) is)))

@@ -1,6 +1,6 @@
 -- What the brake's entries judge (R7), and what they answer.
 use Prim.Native.Nat.{ℕ}
-use mathlib.Core.Bool.{Bool, not, _||_}
+use mathlib.Core.Bool.{Bool, not, _&&_, _||_}
 use mathlib.Core.List.{List, [], _∷_, _++_}
 use lib.Dec.{ltb, eqb}
 use lib.ListN.{length}
@@ -15,13 +15,14 @@ use Rattle.chunk.specs.declared.Header.{Header}
 use Rattle.conformal.specs.Rule.{Tables}
 use Rattle.envelope.specs.Refusals.{configJudged}
 use Rattle.envelope.specs.declared.FuseConfig.{FuseConfig}
+use Rattle.envelope.specs.declared.Gripper.{Gripper}
 use Rattle.workspace.specs.declared.WallMasks.{WallMasks}
 use Rattle.course.specs.Forecast.{Forecast, placeOf, marginOf, feasibleOf, writtenOf}
 use Rattle.brake.specs.declared.BrakeOut.{BrakeOut}
 use Rattle.brake.specs.declared.BrakeOut.the-variants as out
 use Rattle.brake.specs.declared.Sent.{Sent}
 use Rattle.brake.specs.declared.Sent.the-variants as sent
-use Rattle.brake.specs.Rule.{live, wallsAt, forecastOf, brakeRow, holdRow, sentMasks}
+use Rattle.brake.specs.Rule.{live, wallsAt, forecastOf, brakeRow, holdRow, takesLast, sentRow, sentMasks}
 
 -- ---- the forecast
 
@@ -77,36 +78,55 @@ sentAt n m = answerBy sent.Refused (sent.Done m) n
 abbrev pub rowAt : ℕ → List Float → ℕ → List Float → List Float
 rowAt n row k l = leftBy l (over (at row) l k) n
 
--- 11 and 12, where the output has so much room and some lent number is not finite, or none
-abbrev pub rowLent : FuseConfig → Bool → ℕ → List Judged
-rowLent c unfit room = (short when ltb room (c .dim)) ∷ (notFinite when unfit) ∷ []
+-- of the last command, in the mode in which it is an argument: 11 where it has fewer numbers than dim, 12 where one of them is not finite, read or not
+unfoldable pub lastShort : Gripper → ℕ → ℕ → Bool
+lastShort g dim given = takesLast g && ltb given dim
 
--- the walls that move the row of brake or hold; an axis past pos_dim is moved to its wall, too, and has no bit
+unfoldable pub lastUnfit : Gripper → List Float → Bool
+lastUnfit g last = takesLast g && someNotFinite last
+
+-- 11 and 12, where the output has so much room, the last command so many numbers, and some lent number is not finite, or none
+abbrev pub rowLent : FuseConfig → Bool → ℕ → ℕ → List Judged
+rowLent c unfit room given = (short when (ltb room (c .dim) || lastShort (c .gripper) (c .dim) given)) ∷ (notFinite when unfit) ∷ []
+
+-- the walls that move the row of brake or hold; an axis past pos_dim may be moved to its wall, too, and has no bit
 unfoldable pub masksSent : Format → FuseConfig → List Float → WallMasks
 masksSent f c p = sentMasks (c .kind) (wallsAt f c) p (live c)
 
-unfoldable pub brakeSent : Format → FuseConfig → List Float → List Float → Checked (List Float)
-brakeSent f c p v = brakeRow f (c .kind) (c .limits .«a_max») (c .limits .dt) (wallsAt f c) p v (c .dim)
+-- a row as it is sent: of the last command nothing is computed, so that 13 is the row's
+abbrev pub sending : FuseConfig → List Float → Checked (List Float) → Checked (List Float)
+sending c last x = record { value = sentRow (c .gripper) (c .kind) (c .«pos_dim») last (x .value) (c .dim); sound = x .sound }
 
-module _ (f : Format) (c : FuseConfig) (t : Tables) (p v : List Float) where
+-- the row that brakes at a configuration
+abbrev pub brakeMade : Format → FuseConfig → List Float → List Float → Checked (List Float)
+brakeMade f c p v = brakeRow f (c .kind) (c .limits .«a_max») (c .limits .dt) (wallsAt f c) p v (c .dim)
+
+unfoldable pub brakeSent : Format → FuseConfig → List Float → List Float → List Float → Checked (List Float)
+brakeSent f c p v last = sending c last (brakeMade f c p v)
+
+module _ (f : Format) (c : FuseConfig) (t : Tables) (p v last : List Float) where
   unfoldable pub brakeRefusal : ℕ → ℕ
-  brakeRefusal room = refusal (configJudged f c t ++ (rowLent c (someNotFinite p || someNotFinite v) room ++ (computed when not (brakeSent f c p v .sound) ∷ [])))
+  brakeRefusal room = refusal (configJudged f c t ++ (rowLent c (someNotFinite p || someNotFinite v || lastUnfit (c .gripper) last) room (length last) ++ (computed when not (brakeSent f c p v last .sound) ∷ [])))
 
   unfoldable pub brakeAnswer : ℕ → Sent
   brakeAnswer room = sentAt (brakeRefusal room) (masksSent f c p)
 
   unfoldable pub brakeOutput : List Float → List Float
-  brakeOutput l = rowAt (brakeRefusal (length l)) (brakeSent f c p v .value) (c .dim) l
+  brakeOutput l = rowAt (brakeRefusal (length l)) (brakeSent f c p v last .value) (c .dim) l
 
-unfoldable pub holdSent : Format → FuseConfig → List Float → Checked (List Float)
-holdSent f c p = holdRow f (c .kind) (wallsAt f c) p (c .dim)
+-- the row that holds
+abbrev pub holdMade : Format → FuseConfig → List Float → Checked (List Float)
+holdMade f c p = holdRow f (c .kind) (wallsAt f c) p (c .dim)
 
-module _ (f : Format) (c : FuseConfig) (t : Tables) (p : List Float) where
+unfoldable pub holdSent : Format → FuseConfig → List Float → List Float → Checked (List Float)
+holdSent f c p last = sending c last (holdMade f c p)
+
+module _ (f : Format) (c : FuseConfig) (t : Tables) (p last : List Float) where
   unfoldable pub holdRefusal : ℕ → ℕ
-  holdRefusal room = refusal (configJudged f c t ++ (rowLent c (someNotFinite p) room ++ (computed when not (holdSent f c p .sound) ∷ [])))
+  holdRefusal room = refusal (configJudged f c t ++ (rowLent c (someNotFinite p || lastUnfit (c .gripper) last) room (length last) ++ (computed when not (holdSent f c p last .sound) ∷ [])))
 
   unfoldable pub holdAnswer : ℕ → Sent
   holdAnswer room = sentAt (holdRefusal room) (masksSent f c p)
 
   unfoldable pub holdOutput : List Float → List Float
-  holdOutput l = rowAt (holdRefusal (length l)) (holdSent f c p .value) (c .dim) l
+  holdOutput l = rowAt (holdRefusal (length l)) (holdSent f c p last .value) (c .dim) l

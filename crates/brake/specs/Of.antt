@@ -7,11 +7,13 @@ use lib.Ieee.{Float, Format}
 use Rattle.chunk.specs.declared.Header.{Header}
 use Rattle.envelope.specs.Derive.{derived}
 use Rattle.envelope.specs.Steps.{substepsIn}
+use Rattle.envelope.specs.declared.ActionKind.{ActionKind}
 use Rattle.envelope.specs.declared.BrakeKind.{BrakeKind}
 use Rattle.envelope.specs.declared.BrakeKind.the-variants.{PdSecondOrder, FirstOrderDecay, BoundedAccel, JerkLimited, ZeroVelocityHold}
 use Rattle.envelope.specs.declared.BrakeModel.{BrakeModel}
 use Rattle.envelope.specs.declared.Derived.{Derived}
 use Rattle.envelope.specs.declared.FuseConfig.{FuseConfig}
+use Rattle.envelope.specs.declared.Gripper.{Gripper}
 use Rattle.workspace.specs.declared.Shape.{Shape}
 use Rattle.workspace.specs.declared.Workspace.{Workspace}
 use Rattle.course.specs.declared.Course.{Course}
@@ -20,11 +22,12 @@ use Rattle.course.specs.declared.Run.{Run}
 use Rattle.course.specs.Forecast.{Forecast, fine, slackAt, leadingIn}
 use Rattle.course.specs.Rows.{rowsLeft}
 use Rattle.checked.specs.declared.Reckoned.{Reckoned}
+use Rattle.checked.specs.declared.Row.{Row}
 use Rattle.checked.specs.Each.{all}
 use Rattle.checked.specs.Least.{least}
 use Rattle.checked.specs.Of.{reckonedFrom}
 use Rattle.checked.specs.Row.{eight}
-use Rattle.brake.specs.Rule.{live}
+use Rattle.brake.specs.Rule.{live, sentRow}
 
 abbrev pub workspaceFrom : Shape → Derived → Workspace
 workspaceFrom s d = record { shape = s; lo = d .«box_lo»; hi = d .«box_hi» }
@@ -45,6 +48,10 @@ courseFor c k from = record {
 
 abbrev pub startFor : FuseConfig → List Float → List Float → Plant
 startFor c p v = record { p = eight p (live c); v = eight v (live c) }
+
+-- a row that was made, as it is sent
+abbrev pub rowSentFor : Gripper → ActionKind → ℕ → List Float → Row → ℕ → Row
+rowSentFor g k pos-dim last row n = record { at = sentRow g k pos-dim last (row .at) n; sound = row .sound }
 
 -- how many entries a forecast has: N, or one for the start and one for each row
 abbrev pub countFor : BrakeModel → BrakeKind → ℕ → ℕ

@@ -1,24 +1,26 @@
 -- What is promised of one call of `brake_feasible` with the second-order brake, said of its own answer and of the entries that were lent to it; that the rows of brake and
--- hold lie in the box of each axis that has one, and what their masks say. The proofs are `proofs/Promises.antt`, `proofs/Boxed.antt` and `proofs/Walled.antt`.
+-- hold lie in the box of each axis that has one, in the gripper's new mode of each within pos_dim, what they have past pos_dim in either mode, and what their masks say. The proofs are `proofs/Promises.antt`, `proofs/Boxed.antt`, `proofs/Modes.antt` and `proofs/Walled.antt`.
 use Prim.Native.Nat.{ℕ, suc, _+_, _-_, _*_, _≤_, _<_}
 use mathlib.Core.Path.{_≡_}
 use mathlib.Core.Bool.{Bool, true, false, _&&_}
+use Rattle.bits.specs.Choice.{if_then_else_}
 use mathlib.Core.List.{List}
 use lib.Dec.{T}
 use lib.ListN.{length}
 use lib.Ieee.{Float, binary64, inf, lt, le, sub, fits}
 use Rattle.refusal.specs.declared.Refusal.{Refusal}
+use Rattle.refusal.specs.Order.{refusedFor}
+use Rattle.fmath.specs.Answer.{someNotFinite}
 use Rattle.checked.specs.Each.{at}
 use Rattle.checked.specs.Finite.{+0}
 use Rattle.checked.specs.Row.{eight}
 use Rattle.bits.specs.Bits.{bit}
 use Rattle.chunk.specs.declared.Header.{Header}
 use Rattle.conformal.specs.Rule.{Tables}
-use Rattle.envelope.specs.declared.ActionKind.{ActionKind}
-use Rattle.envelope.specs.declared.ActionKind.the-variants.{EePosition, EeDelta, JointPosition, JointVelocity, Other}
 use Rattle.envelope.specs.declared.BrakeKind.the-variants.{PdSecondOrder}
 use Rattle.envelope.specs.declared.ControlSteps.{ControlSteps}
-use Rattle.envelope.specs.Promises.{brakedBy, marginedBy}
+use Rattle.envelope.specs.declared.Gripper.the-variants.{ToZero, LastCommand}
+use Rattle.envelope.specs.Promises.{brakedBy, grippedBy, marginedBy}
 use Rattle.envelope.specs.declared.FuseConfig.{FuseConfig}
 use Rattle.workspace.specs.declared.WallMasks.{WallMasks}
 use Rattle.workspace.specs.declared.Shape.the-variants.{Box, Disc}
@@ -31,10 +33,12 @@ use Rattle.course.specs.Plant.{State}
 use Rattle.rollout.specs.Rule.{Task, followed, setpoint, aim, after, entry, stopDistance, stop}
 use Rattle.brake.specs.declared.BrakeOut.{BrakeOut}
 use Rattle.brake.specs.declared.BrakeOut.the-variants.{Accepted, Refused}
+use Rattle.brake.specs.declared.Sent as sent
 use Rattle.brake.specs.declared.Sent.the-variants as Sent
 use Rattle.brake.specs.declared.Sent.the-variants.{Done}
-use Rattle.brake.specs.Rule.{live, wallsAt, secondOrder, forecastOf}
+use Rattle.brake.specs.Rule.{live, wallsAt, secondOrder, forecastOf, isPosition, takesLast}
 use Rattle.brake.specs.Answer.{forecastAnswer, forecastSlacks, masksSent, brakeSent, holdSent, brakeAnswer, brakeOutput, holdAnswer, holdOutput}
+use Rattle.brake.specs.NoMode as noMode
 
 -- ---- a call
 
@@ -217,20 +221,58 @@ pub record Begins (n : ℕ) (x y : Call) : Type 0 where
 abbrev pub InBox : FuseConfig → ℕ → Float → Type 0
 InBox c j x = (le (at (wallsAt binary64 c .lo) j) x ≡ true) × (le x (at (wallsAt binary64 c .hi) j) ≡ true)
 
--- a position kind: none of the two kinds whose numbers are velocities or displacements
-abbrev pub isPosition : ActionKind → Bool
-isPosition EePosition = true
-isPosition EeDelta = false
-isPosition JointPosition = true
-isPosition JointVelocity = false
-isPosition Other = true
+-- the coordinates of a row that lie in their boxes: all of them or, in the mode that has the last command, those within pos_dim
+abbrev pub bounded : FuseConfig → ℕ
+bounded c = if takesLast (c .gripper) then live c else c .dim
 
--- each coordinate that brake writes, or hold, lies in its box, where it has one
-abbrev pub BrakesInside : FuseConfig → Tables → List Float → List Float → List Float → Type 0
-BrakesInside c t p v l = (m : WallMasks) → brakeAnswer binary64 c t p v (length l) ≡ Done m → (j : ℕ) → j < c .dim → boxed (c .shape) j ≡ true → InBox c j (at (brakeOutput binary64 c t p v l) j)
+-- each of them that brake writes, or hold, lies in its box, where it has one
+abbrev pub BrakesInside : FuseConfig → Tables → List Float → List Float → List Float → List Float → Type 0
+BrakesInside c t p v last l =
+    (m : WallMasks) → brakeAnswer binary64 c t p v last (length l) ≡ Done m → (j : ℕ) → j < bounded c → boxed (c .shape) j ≡ true → InBox c j (at (brakeOutput binary64 c t p v last l) j)
 
-abbrev pub HoldsInside : FuseConfig → Tables → List Float → List Float → Type 0
-HoldsInside c t p l = (m : WallMasks) → holdAnswer binary64 c t p (length l) ≡ Done m → (j : ℕ) → j < c .dim → boxed (c .shape) j ≡ true → InBox c j (at (holdOutput binary64 c t p l) j)
+abbrev pub HoldsInside : FuseConfig → Tables → List Float → List Float → List Float → Type 0
+HoldsInside c t p last l =
+    (m : WallMasks) → holdAnswer binary64 c t p last (length l) ≡ Done m → (j : ℕ) → j < bounded c → boxed (c .shape) j ≡ true → InBox c j (at (holdOutput binary64 c t p last l) j)
+
+-- ---- the axes past pos_dim, in either mode of the gripper
+
+-- a call that is accepted with the masks m in the mode that has the last command, and leaves out of l, beside what the same call answers and leaves in the Rust's mode, whatever is lent there as the last command
+pub record InBothModes (c : FuseConfig) (last l : List Float) (m : WallMasks) (out : List Float) (answered : sent.Sent) (left : List Float) : Type 0 where
+  -- it is accepted there, too, and the same walls moved it
+  pub accepted-there : answered ≡ Done m
+  -- past pos_dim a position kind has the last command's numbers, bit for bit
+  pub keeps-last : isPosition (c .kind) ≡ true → (j : ℕ) → c .«pos_dim» ≤ j → j < c .dim → at out j ≡ at last j
+  -- within pos_dim the numbers are the same in both modes, and so is a velocity kind's whole row, and any kind's that has no axis past pos_dim
+  pub same-within : (j : ℕ) → j < c .«pos_dim» → at out j ≡ at left j
+  pub same-velocities : isPosition (c .kind) ≡ false → out ≡ left
+  pub same-without-axes-past : c .dim ≤ c .«pos_dim» → out ≡ left
+  -- what is past dim is kept
+  pub rest-kept : (j : ℕ) → c .dim ≤ j → at out j ≡ at l j
+  pub as-long : length out ≡ length l
+
+abbrev pub BrakesInBoth : FuseConfig → Tables → List Float → List Float → List Float → List Float → List Float → Type 0
+BrakesInBoth c t p v last other l =
+    let old = grippedBy c ToZero in
+    (m : WallMasks) → brakeAnswer binary64 c t p v last (length l) ≡ Done m → InBothModes c last l m (brakeOutput binary64 c t p v last l) (brakeAnswer binary64 old t p v other (length l)) (brakeOutput binary64 old t p v other l)
+
+abbrev pub HoldsInBoth : FuseConfig → Tables → List Float → List Float → List Float → List Float → Type 0
+HoldsInBoth c t p last other l =
+    let old = grippedBy c ToZero in
+    (m : WallMasks) → holdAnswer binary64 c t p last (length l) ≡ Done m → InBothModes c last l m (holdOutput binary64 c t p last l) (holdAnswer binary64 old t p other (length l)) (holdOutput binary64 old t p other l)
+
+-- what the mode that has the last command answers, new, beside the Rust's, old. Where the last command has dim numbers or more and each of all its numbers is finite it is the same, the masks or the refusal, 13 with them; else, where the
+-- Rust's accepts, 11 or 12
+pub record LastJudged (c : FuseConfig) (last : List Float) (old new : sent.Sent) : Type 0 where
+  pub where-fit : c .dim ≤ length last → someNotFinite last ≡ false → new ≡ old
+  pub where-short : (m : WallMasks) → old ≡ Done m → length last < c .dim → new ≡ Sent.Refused (refusedFor 11)
+  pub where-not-finite : (m : WallMasks) → old ≡ Done m → c .dim ≤ length last → someNotFinite last ≡ true → new ≡ Sent.Refused (refusedFor 12)
+  pub enough-long : (m : WallMasks) → new ≡ Done m → c .dim ≤ length last
+  pub each-finite : (m : WallMasks) → new ≡ Done m → someNotFinite last ≡ false
+
+-- in the Rust's mode an entry answers and leaves what a guard does that has no mode: no last command is an argument
+pub record AsWithoutMode (answered plain : sent.Sent) (left bare : List Float) : Type 0 where
+  pub same-answer : answered ≡ plain
+  pub same-output : left ≡ bare
 
 -- ---- which walls moved the row of brake or hold
 
@@ -240,7 +282,7 @@ pub record SentWalls (c : FuseConfig) (p : List Float) (m : WallMasks) (out : Li
   pub velocity-none : isPosition (c .kind) ≡ false → m ≡ unmoved
   -- of a position kind: what its walls do to the position, on each of the first min(dim, pos_dim) axes
   pub each-axis : isPosition (c .kind) ≡ true → (j : ℕ) → j < live c → AxisTold (wallsAt binary64 c) (eight p 8) j m
-  -- nothing past those axes, though the row is moved there, too
+  -- nothing past those axes, though the row may be moved there, too
   pub none-past : NoBitPast m (live c)
   -- a coordinate that the position lacks counts as 0.0
   pub where-it-has : (j : ℕ) → j < length p → j < 8 → at (eight p 8) j ≡ at p j
@@ -264,8 +306,8 @@ pub record StaysInside (x : Call) (g : Gains) : Type 0 where
 
 pub record MarginUnread (c : FuseConfig) (m : Float) : Type 0 where
   pub same-forecast : (p v rows : List Float) (k : Header) (from : ℕ) → forecastOf binary64 (marginedBy c m) p v rows k from ≡ forecastOf binary64 c p v rows k from
-  pub same-brake : (p v : List Float) → brakeSent binary64 (marginedBy c m) p v ≡ brakeSent binary64 c p v
-  pub same-hold : (p : List Float) → holdSent binary64 (marginedBy c m) p ≡ holdSent binary64 c p
+  pub same-brake : (p v last : List Float) → brakeSent binary64 (marginedBy c m) p v last ≡ brakeSent binary64 c p v last
+  pub same-hold : (p last : List Float) → holdSent binary64 (marginedBy c m) p last ≡ holdSent binary64 c p last
   pub same-masks : (p : List Float) → masksSent binary64 (marginedBy c m) p ≡ masksSent binary64 c p
 
 -- ---- all of it
@@ -298,9 +340,18 @@ pub record Promised : Type 0 where
   pub shorter-begins-longer : ShorterBegins
   pub feasible-exactly-where : FeasibleExactly
   pub feasible-is-inside : (x : Call) (g : Gains) → SecondOrder x g → (n : ℕ) (margin stop : Float) → answer x ≡ Accepted n margin true stop → StaysInside x g
-  pub brakes-inside : (c : FuseConfig) (t : Tables) → isPosition (c .kind) ≡ true → (p v l : List Float) → BrakesInside c t p v l
-  pub holds-inside : (c : FuseConfig) (t : Tables) → isPosition (c .kind) ≡ true → (p l : List Float) → HoldsInside c t p l
+  pub brakes-inside : (c : FuseConfig) (t : Tables) → isPosition (c .kind) ≡ true → (p v last l : List Float) → BrakesInside c t p v last l
+  pub holds-inside : (c : FuseConfig) (t : Tables) → isPosition (c .kind) ≡ true → (p last l : List Float) → HoldsInside c t p last l
+  -- the gripper: both modes, what the last command is judged for in the one that has it, and the Rust's without one
+  pub brakes-in-both : (c : FuseConfig) (t : Tables) → c .gripper ≡ LastCommand → (p v last other l : List Float) → BrakesInBoth c t p v last other l
+  pub holds-in-both : (c : FuseConfig) (t : Tables) → c .gripper ≡ LastCommand → (p last other l : List Float) → HoldsInBoth c t p last other l
+  pub brake-last-judged : (c : FuseConfig) (t : Tables) → c .gripper ≡ LastCommand → (p v last other : List Float) (room : ℕ) → LastJudged c last (brakeAnswer binary64 (grippedBy c ToZero) t p v other room) (brakeAnswer binary64 c t p v last room)
+  pub hold-last-judged : (c : FuseConfig) (t : Tables) → c .gripper ≡ LastCommand → (p last other : List Float) (room : ℕ) → LastJudged c last (holdAnswer binary64 (grippedBy c ToZero) t p other room) (holdAnswer binary64 c t p last room)
+  pub brake-as-the-rust : (c : FuseConfig) (t : Tables) → c .gripper ≡ ToZero → (p v last l : List Float)
+      → AsWithoutMode (brakeAnswer binary64 c t p v last (length l)) (noMode.brakeAnswer binary64 c t p v (length l)) (brakeOutput binary64 c t p v last l) (noMode.brakeOutput binary64 c t p v l)
+  pub hold-as-the-rust : (c : FuseConfig) (t : Tables) → c .gripper ≡ ToZero → (p last l : List Float)
+      → AsWithoutMode (holdAnswer binary64 c t p last (length l)) (noMode.holdAnswer binary64 c t p (length l)) (holdOutput binary64 c t p last l) (noMode.holdOutput binary64 c t p l)
   -- with a box hold computes nothing, and is never refused with 13
-  pub box-holds : (c : FuseConfig) (t : Tables) → c .shape ≡ Box → (p : List Float) (room : ℕ) (r : Refusal) → holdAnswer binary64 c t p room ≡ Sent.Refused r → r .number ≡ 13 → ⊥
-  pub brake-walls : (c : FuseConfig) (t : Tables) (p v l : List Float) (m : WallMasks) → brakeAnswer binary64 c t p v (length l) ≡ Done m → SentWalls c p m (brakeOutput binary64 c t p v l)
-  pub hold-walls : (c : FuseConfig) (t : Tables) (p l : List Float) (m : WallMasks) → holdAnswer binary64 c t p (length l) ≡ Done m → SentWalls c p m (holdOutput binary64 c t p l)
+  pub box-holds : (c : FuseConfig) (t : Tables) → c .shape ≡ Box → (p last : List Float) (room : ℕ) (r : Refusal) → holdAnswer binary64 c t p last room ≡ Sent.Refused r → r .number ≡ 13 → ⊥
+  pub brake-walls : (c : FuseConfig) (t : Tables) (p v last l : List Float) (m : WallMasks) → brakeAnswer binary64 c t p v last (length l) ≡ Done m → SentWalls c p m (brakeOutput binary64 c t p v last l)
+  pub hold-walls : (c : FuseConfig) (t : Tables) (p last l : List Float) (m : WallMasks) → holdAnswer binary64 c t p last (length l) ≡ Done m → SentWalls c p m (holdOutput binary64 c t p last l)

@@ -1,12 +1,13 @@
 -- Module 7 at a configuration: the forecast of its brake, and the rows that brake and hold send. Over the format.
 use Prim.Native.Nat.{ℕ, min}
+use mathlib.Core.Bool.{Bool, true, false, _&&_}
 use mathlib.Core.List.{List}
-use lib.Dec.{ltb}
+use lib.Dec.{ltb, leb}
 use lib.ListN.{length, replicate}
 use lib.Ieee.{Float, Format}
 use Rattle.bits.specs.Choice.{if_then_else_}
 use Rattle.checked.specs.Constants.{1!, eps}
-use Rattle.checked.specs.Each.{at}
+use Rattle.checked.specs.Each.{at, over}
 use Rattle.checked.specs.Finite.{+0}
 use Rattle.checked.specs.Row.{eight}
 use Rattle.checked.specs.Least.{greater}
@@ -19,6 +20,8 @@ use Rattle.envelope.specs.declared.ActionKind.the-variants.{EePosition, EeDelta
 use Rattle.envelope.specs.declared.BrakeKind.{BrakeKind}
 use Rattle.envelope.specs.declared.BrakeKind.the-variants.{PdSecondOrder, FirstOrderDecay, BoundedAccel, JerkLimited, ZeroVelocityHold}
 use Rattle.envelope.specs.declared.FuseConfig.{FuseConfig}
+use Rattle.envelope.specs.declared.Gripper.{Gripper}
+use Rattle.envelope.specs.declared.Gripper.the-variants.{ToZero, LastCommand}
 use Rattle.workspace.specs.declared.WallMasks.{WallMasks}
 use Rattle.workspace.specs.Rule.{Walls, setpoint, setpointMasks, unmoved}
 use Rattle.rollout.specs.Plant.{Gains}
@@ -134,6 +137,27 @@ holdRow f EeDelta w p n = pure (replicate 8 +0)
 holdRow f EePosition w p n = setpoint f w p n
 holdRow f JointPosition w p n = setpoint f w p n
 holdRow f Other w p n = setpoint f w p n
+
+-- a position kind: none of the two kinds whose numbers are velocities or displacements
+abbrev pub isPosition : ActionKind → Bool
+isPosition EePosition = true
+isPosition EeDelta = false
+isPosition JointPosition = true
+isPosition JointVelocity = false
+isPosition Other = true
+
+-- the mode in which the last command is an argument, of every kind of action and however many axes are past pos_dim
+abbrev pub takesLast : Gripper → Bool
+takesLast ToZero = false
+takesLast LastCommand = true
+
+-- coordinate j of what is sent: past pos_dim a position kind's is the last command's in that mode, and all else is the row's own
+unfoldable pub sentCoordinate : Gripper → ActionKind → ℕ → List Float → List Float → ℕ → Float
+sentCoordinate g k pos-dim last row j = if takesLast g && isPosition k && leb pos-dim j then at last j else at row j
+
+-- a row as it is sent, on its first n coordinates
+unfoldable pub sentRow : Gripper → ActionKind → ℕ → List Float → List Float → ℕ → List Float
+sentRow g k pos-dim last row n = over (sentCoordinate g k pos-dim last row) row n
 
 -- the walls that move either row on its first n coordinates; none moves a velocity
 unfoldable pub sentMasks : ActionKind → Walls → List Float → ℕ → WallMasks

@@ -1,22 +1,23 @@
--- Worked rows, by computation: a position beyond its wall is sent to the wall, one that is missing to 0.0, and an arm that brakes harder than it moves stops; the
--- walls that moved a row; and the place of a setpoint that is not finite.
+-- Worked rows, by computation: a position beyond its wall is sent to the wall, one that is missing to 0.0, and an arm that brakes harder than it moves stops; a gripper
+-- that keeps the last command, and for what that is judged; the walls that moved a row; and the place of a setpoint that is not finite.
 use Prim.Native.Nat.{ℕ}
 use mathlib.Core.Path.{_≡_, refl}
 use mathlib.Core.Bool.{true, false}
-use mathlib.Core.List.{[], _∷_}
+use mathlib.Core.List.{List, [], _∷_}
 use lib.IntN.{pos}
 use lib.ListN.{replicate}
-use lib.Ieee.{fin, binary64, round, add, sub, mul, div, lt, le, eq}
+use lib.Ieee.{Float, fin, nan, binary64, round, add, sub, mul, div, lt, le, eq}
 use Rattle.root.specs.Root.{floorRoot, nearRoot, half, rootExponent, scaled, number, rootOf}
 use Rattle.checked.specs.Constants.{1!, 2! }
 use Rattle.checked.specs.Each.{all, over}
-use Rattle.checked.specs.Finite.{finite, +0}
+use Rattle.checked.specs.Finite.{finite, allFinite, +0}
 use Rattle.checked.specs.Least.{lesser, greater, least}
 use Rattle.fmath.specs.Clamp.{clamped, side}
 use Rattle.checked.specs.Checked.{sumFrom, each, leastOf, pure}
 use Rattle.fmath.specs.Norm.{squareAt, norm, squaredGap, dist}
 use Rattle.pull.specs.Rule.{pulled}
 use Rattle.envelope.specs.declared.ActionKind.the-variants.{EePosition, EeDelta, JointVelocity}
+use Rattle.envelope.specs.declared.Gripper.the-variants.{ToZero, LastCommand}
 use Rattle.bits.specs.Bits.{bitsWhere}
 use Rattle.workspace.specs.declared.Shape.{Shape}
 use Rattle.workspace.specs.declared.Shape.the-variants.{Box, Disc}
@@ -26,7 +27,8 @@ use Rattle.course.specs.Forecast.{leading, placeOf}
 use Rattle.rollout.specs.Plant.{axis, substep}
 use Rattle.rollout.specs.Rule.{Task, followed, setpoint, aimed, after, entry, stopDistance, stop, forecast}
 use Rattle.checked.specs.Row.{padded, eight}
-use Rattle.brake.specs.Rule.{ramp, scaledAt, slowed, slower, shorter, brakeRow, holdRow, sentMasks}
+use Rattle.brake.specs.Rule.{ramp, scaledAt, slowed, slower, shorter, brakeRow, holdRow, sentCoordinate, sentRow, sentMasks}
+use Rattle.brake.specs.Answer.{lastShort, lastUnfit}
 
 abbrev walls : Walls
 walls = record { shape = Box; lo = fin true 1 (pos 0) ∷ fin true 1 (pos 0) ∷ []; hi = 2! ∷ 2! ∷ [] }
@@ -46,6 +48,44 @@ stops = refl
 stops-in-place : brakeRow binary64 EeDelta 2! 1! walls [] (1! ∷ []) 2 ≡ pure (replicate 8 +0)
 unfolding brakeRow shorter ramp slowed scaledAt each norm squareAt sumFrom rootOf nearRoot floorRoot scaled rootExponent half number greater round lt le eq add sub mul div finite
 stops-in-place = refl
+
+-- ---- a gripper on axis 1, past pos_dim 1, which the last command has put at 1; the row that is made has the wall at 2, and 0.0 for the gripper
+
+abbrev five : Float
+five = fin false 5 (pos 0)
+
+abbrev made : List Float
+made = 2! ∷ replicate 7 +0
+
+-- in the mode that has the last command it stays, and the other axis is the row's own; in the Rust's it goes to 0
+gripper-stays : sentRow LastCommand EePosition 1 (five ∷ 1! ∷ []) made 2 ≡ 2! ∷ 1! ∷ replicate 6 +0
+unfolding sentRow sentCoordinate over
+gripper-stays = refl
+
+gripper-opens : sentRow ToZero EePosition 1 (five ∷ 1! ∷ []) made 2 ≡ made
+unfolding sentRow sentCoordinate over
+gripper-opens = refl
+
+-- a velocity kind has the same row in both, and so has a position kind of which no axis is past pos_dim
+velocities-as-made : sentRow LastCommand JointVelocity 1 (five ∷ 1! ∷ []) made 2 ≡ made
+unfolding sentRow sentCoordinate over
+velocities-as-made = refl
+
+within-as-made : sentRow LastCommand EePosition 2 (five ∷ 1! ∷ []) made 2 ≡ made
+unfolding sentRow sentCoordinate over
+within-as-made = refl
+
+-- a last command of one number is too short for two axes, and one of two is not; a number past them is judged, too
+short-command : (lastShort LastCommand 2 1 ≡ true) × (lastShort LastCommand 2 2 ≡ false) × (lastUnfit LastCommand (1! ∷ 1! ∷ nan ∷ []) ≡ true) × (lastUnfit LastCommand (1! ∷ 1! ∷ 1! ∷ []) ≡ false)
+unfolding lastShort lastUnfit allFinite all finite
+short-command = (refl, refl, refl, refl)
+
+-- in the Rust's mode neither is judged
+no-command : (lastShort ToZero 2 0 ≡ false) × (lastUnfit ToZero (nan ∷ []) ≡ false)
+unfolding lastShort lastUnfit
+no-command = (refl, refl)
+
+-- ---- the walls
 
 -- axis 1 has its low wall at 1, so that the 0.0 of a position with one coordinate is raised; 5 is lowered on axis 0
 abbrev above : Walls

@@ -18,9 +18,9 @@ ghost use Rattle.course.specs.Of.{leftOf};
 ghost use Rattle.rollout.specs.Of as rolled;
 ghost use Rattle.stopping.specs.Rule as stopping-rule;
 ghost use Rattle.stopping.specs.Of as stopped;
-ghost use Rattle.brake.specs.Rule.{live, armOf, forecastOf, ramp, scaledAt, slowed, slower, shorter, brakeRow, holdRow, sentMasks};
-ghost use Rattle.brake.specs.Answer.{tooShort, outcome, lentJudged, forecastAnswer, forecastSlacks, rowLent, brakeAnswer, brakeOutput, holdAnswer, holdOutput};
-ghost use Rattle.brake.specs.Of.{workspaceFrom, workspaceFor, courseFor, startFor, countFor, Settles, Planned};
+ghost use Rattle.brake.specs.Rule.{live, armOf, forecastOf, ramp, scaledAt, slowed, slower, shorter, brakeRow, holdRow, isPosition, takesLast, sentMasks};
+ghost use Rattle.brake.specs.Answer.{tooShort, outcome, lentJudged, forecastAnswer, forecastSlacks, lastUnfit, rowLent, brakeAnswer, brakeOutput, holdAnswer, holdOutput};
+ghost use Rattle.brake.specs.Of.{workspaceFrom, workspaceFor, courseFor, startFor, countFor, rowSentFor, Settles, Planned};
 ghost use Rattle.checked.specs.Of.{rowFrom, reckonedFrom};
 use checked::Reckoned;
 use checked::Row;
@@ -33,6 +33,7 @@ use envelope::BrakeKind;
 use envelope::BrakeModel;
 use envelope::Derived;
 use envelope::FuseConfig;
+use envelope::Gripper;
 use refusal::Refusal;
 use rollout::Law;
 use stopping::Arm;
@@ -387,6 +388,53 @@ fn hold_row(kind: ActionKind, w: Workspace, pos: &[f64], n: usize) -> Row
     }
 }
 
+// Neither velocities nor displacements.
+fn is_position(kind: ActionKind) -> bool
+    ensures { λ r. ⌜ r ≡ isPosition kind ⌝ }
+{
+    match kind {
+        ActionKind::JointVelocity => false,
+        ActionKind::EeDelta => false,
+        _ => true,
+    }
+}
+
+// Whether the last command is an argument.
+fn takes_last(gripper: Gripper) -> bool
+    ensures { λ r. ⌜ r ≡ takesLast gripper ⌝ }
+{
+    match gripper {
+        Gripper::LastCommand => true,
+        _ => false,
+    }
+}
+
+// The row as it is sent: with the last command past pos_dim, where the mode has it and the kind is a position kind.
+fn sent_row(
+    gripper: Gripper,
+    kind: ActionKind,
+    pos_dim: usize,
+    last: &[f64],
+    row: Row,
+    n: usize,
+) -> Row
+    requires { ⌜ (n ≤ 8) × (takesLast gripper ≡ true → n ≤ length (now last)) ⌝ }
+    ensures { λ r. ⌜ r ≡ rowSentFor gripper kind «pos_dim» (now (last .entry)) row n ⌝ }
+{
+    let keeps = takes_last(gripper) & is_position(kind);
+    if !keeps {
+        return row;
+    }
+    let mut at = row.at;
+    let mut j = fmath::fewer(pos_dim, n);
+    while j < n {
+        at[j] = last[j];
+        j += 1;
+    }
+    let sound = row.sound;
+    Row { at, sound }
+}
+
 // The walls that move either row, by the kind of action, on the first min(dim, pos_dim) axes.
 fn sent_masks(c: FuseConfig, w: Workspace, pos: &[f64]) -> WallMasks
     ensures { λ r. ⌜ r ≡ sentMasks (c .kind) (wallsOf w) (now (pos .entry)) (live c) ⌝ }
@@ -400,37 +448,54 @@ fn sent_masks(c: FuseConfig, w: Workspace, pos: &[f64]) -> WallMasks
     }
 }
 
-// The number for a row before it is computed: the configuration's own, then 11, then 12; 0 where there is none.
-fn row_refusal(c: FuseConfig, number: u8, unfit: bool, room: usize) -> u8
-    ensures { λ r. ⌜ ((t : Tables) → number ≡ refusal (configJudged binary64 c t) → r ≡ refusal (configJudged binary64 c t ++ rowLent c unfit room)) ⌝ }
+// Whether some number of the last command is not finite, in the mode in which it is an argument; in the other it is not read.
+fn last_unfit(gripper: Gripper, last: &[f64]) -> bool
+    ensures { λ r. ⌜ r ≡ lastUnfit gripper (now (last .entry)) ⌝ }
 {
+    match gripper {
+        Gripper::LastCommand => !fmath::all_finite(last, last.len()),
+        _ => false,
+    }
+}
+
+// The number for a row before it is computed: the configuration's own, then 11, then 12; 0 where there is none.
+fn row_refusal(c: FuseConfig, number: u8, unfit: bool, room: usize, given: usize) -> u8
+    ensures { λ r. ⌜ ((t : Tables) → number ≡ refusal (configJudged binary64 c t) → r ≡ refusal (configJudged binary64 c t ++ rowLent c unfit room given)) ⌝ }
+{
+    let gripper = c.gripper;
+    let short = (room < c.dim) | (takes_last(gripper) & (given < c.dim));
     let numbers = Refusal::when(Refusal::NOT_FINITE, unfit, 0);
-    let lent = Refusal::when(Refusal::SHORT, room < c.dim, numbers);
+    let lent = Refusal::when(Refusal::SHORT, short, numbers);
     Refusal::or_later(number, lent)
 }
 
-// The row that brakes, written over the output's first dim numbers, and which walls moved it, on the first min(dim, pos_dim) axes. A refusal, by
-// the first number of the order that applies, writes nothing.
+// The row that brakes, written over the output's first dim numbers, and which walls moved it, on the first min(dim, pos_dim) axes. The last
+// command is judged, and of a position kind written past pos_dim, where the configuration's mode has it, and is no argument where not. A
+// refusal, by the first number of the order that applies, writes nothing.
 pub fn brake_action(
     c: FuseConfig,
     center: &[f64; 192],
     scale: &[f64; 192],
     pos: &[f64],
     vel: &[f64],
+    last: &[f64],
     out: &mut [f64],
 ) -> Sent
-    ensures { λ r. ⌜ (r ≡ brakeAnswer binary64 c (tables (now (center .entry)) (now (scale .entry))) (now (pos .entry)) (now (vel .entry)) (length (now (out .entry)))) × (now (out .exit) ≡ brakeOutput binary64 c (tables (now (center .entry)) (now (scale .entry))) (now (pos .entry)) (now (vel .entry)) (now (out .entry))) ⌝ }
+    ensures { λ r. ⌜ (r ≡ brakeAnswer binary64 c (tables (now (center .entry)) (now (scale .entry))) (now (pos .entry)) (now (vel .entry)) (now (last .entry)) (length (now (out .entry)))) × (now (out .exit) ≡ brakeOutput binary64 c (tables (now (center .entry)) (now (scale .entry))) (now (pos .entry)) (now (vel .entry)) (now (last .entry)) (now (out .entry))) ⌝ }
 {
     let compiled = envelope::compile(c, center, scale);
-    let unfit = !fmath::all_finite(pos, pos.len()) | !fmath::all_finite(vel, vel.len());
-    let number = row_refusal(c, compiled.number, unfit, out.len());
+    let gripper = c.gripper;
+    let measured = !fmath::all_finite(pos, pos.len()) | !fmath::all_finite(vel, vel.len());
+    let unfit = measured | last_unfit(gripper, last);
+    let number = row_refusal(c, compiled.number, unfit, out.len(), last.len());
     if number != 0 {
         return Sent::Refused(Refusal::of(number));
     }
     let shape = c.shape;
     let w = workspace_of(shape, compiled.derived);
     let kind = c.kind;
-    let row = brake_row(kind, c.limits.a_max, c.limits.dt, w, pos, vel, c.dim);
+    let made = brake_row(kind, c.limits.a_max, c.limits.dt, w, pos, vel, c.dim);
+    let row = sent_row(gripper, kind, c.pos_dim, last, made, c.dim);
     if !row.sound {
         return Sent::Refused(Refusal::of(Refusal::COMPUTED));
     }
@@ -445,20 +510,23 @@ pub fn hold_action(
     center: &[f64; 192],
     scale: &[f64; 192],
     pos: &[f64],
+    last: &[f64],
     out: &mut [f64],
 ) -> Sent
-    ensures { λ r. ⌜ (r ≡ holdAnswer binary64 c (tables (now (center .entry)) (now (scale .entry))) (now (pos .entry)) (length (now (out .entry)))) × (now (out .exit) ≡ holdOutput binary64 c (tables (now (center .entry)) (now (scale .entry))) (now (pos .entry)) (now (out .entry))) ⌝ }
+    ensures { λ r. ⌜ (r ≡ holdAnswer binary64 c (tables (now (center .entry)) (now (scale .entry))) (now (pos .entry)) (now (last .entry)) (length (now (out .entry)))) × (now (out .exit) ≡ holdOutput binary64 c (tables (now (center .entry)) (now (scale .entry))) (now (pos .entry)) (now (last .entry)) (now (out .entry))) ⌝ }
 {
     let compiled = envelope::compile(c, center, scale);
-    let unfit = !fmath::all_finite(pos, pos.len());
-    let number = row_refusal(c, compiled.number, unfit, out.len());
+    let gripper = c.gripper;
+    let unfit = !fmath::all_finite(pos, pos.len()) | last_unfit(gripper, last);
+    let number = row_refusal(c, compiled.number, unfit, out.len(), last.len());
     if number != 0 {
         return Sent::Refused(Refusal::of(number));
     }
     let shape = c.shape;
     let w = workspace_of(shape, compiled.derived);
     let kind = c.kind;
-    let held = hold_row(kind, w, pos, c.dim);
+    let made = hold_row(kind, w, pos, c.dim);
+    let held = sent_row(gripper, kind, c.pos_dim, last, made, c.dim);
     if !held.sound {
         return Sent::Refused(Refusal::of(Refusal::COMPUTED));
     }

@@ -16,6 +16,7 @@ use Rattle.conformal.specs.declared.Calibration.{Calibration}
 use Rattle.envelope.specs.declared.ActionKind.the-variants.{EePosition}
 use Rattle.envelope.specs.declared.ClampMode.the-variants.{Off}
 use Rattle.envelope.specs.declared.AbsentCamera.the-variants.{Slow}
+use Rattle.envelope.specs.declared.Gripper.the-variants.{ToZero}
 use Rattle.envelope.specs.declared.BrakeKind.the-variants.{PdSecondOrder}
 use Rattle.envelope.specs.Slots.{noZones}
 use Rattle.envelope.specs.declared.Limits.{Limits}
@@ -77,6 +78,7 @@ configOf c = record {
   zones = noZones;
   «absent_camera» = Slow;
   brake = brakeOf c;
+  gripper = ToZero;
   clamp = Off;
   armed = 0;
   «aux_count» = 0;

@@ -19,6 +19,7 @@ use envelope::ClampMode;
 use envelope::Contact;
 use envelope::ControlSteps;
 use envelope::FuseConfig;
+use envelope::Gripper;
 use envelope::Limits;
 use envelope::Norm;
 use envelope::Substeps;
@@ -134,6 +135,7 @@ pub fn configure(c: Card) -> FuseConfig
         zones,
         absent_camera: AbsentCamera::Slow,
         brake,
+        gripper: Gripper::ToZero,
         clamp: ClampMode::Off,
         armed: 0,
         aux_count: 0,

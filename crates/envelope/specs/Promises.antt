@@ -20,6 +20,7 @@ use Rattle.envelope.specs.Refusals.{sizesOk, zoneOk, zonesOk, numbersOk,
 use Rattle.envelope.specs.AtBox.{boxDerived, boxJudged}
 use Rattle.envelope.specs.declared.Contact.the-variants.{Zone}
 use Rattle.envelope.specs.declared.AbsentCamera.{AbsentCamera}
+use Rattle.envelope.specs.declared.Gripper.{Gripper}
 use Rattle.envelope.specs.declared.Zones.{Zones}
 use Rattle.envelope.specs.declared.FuseConfig.{FuseConfig}
 use Rattle.envelope.specs.declared.BrakeModel.{BrakeModel}
@@ -37,9 +38,9 @@ pub record Fit (f : Format) (c : FuseConfig) (t : Tables) : Type 0 where
   pub spanned : shapeFits c ≡ true
   pub features : featuresOk c ≡ true
 
--- c with other limits, another shape, other zones, another choice for an absent camera, other norms, walls, brake, armed bits, calibration and horizon: the one place where a changed configuration is spelled out
-abbrev pub altered : FuseConfig → Limits → Shape → Zones → AbsentCamera → Norm → walls.Box → BrakeModel → ℕ → Calibration → ℕ → FuseConfig
-altered c l s z choice n w b bits cal ticks = record {
+-- c with other limits, another shape, other zones, another choice for an absent camera, other norms, walls and brake, another mode of the gripper, other armed bits, calibration and horizon: the one place where a changed configuration is spelled out
+abbrev pub altered : FuseConfig → Limits → Shape → Zones → AbsentCamera → Norm → walls.Box → BrakeModel → Gripper → ℕ → Calibration → ℕ → FuseConfig
+altered c l s z choice n w b g bits cal ticks = record {
   kind = c .kind;
   dim = c .dim;
   «pos_dim» = c .«pos_dim»;
@@ -50,6 +51,7 @@ altered c l s z choice n w b bits cal ticks = record {
   zones = z;
   «absent_camera» = choice;
   brake = b;
+  gripper = g;
   clamp = c .clamp;
   armed = bits;
   «aux_count» = c .«aux_count»;
@@ -59,27 +61,30 @@ altered c l s z choice n w b bits cal ticks = record {
 }
 
 abbrev pub calibratedBy : FuseConfig → Calibration → ℕ → FuseConfig
-calibratedBy c cal ticks = altered c (c .limits) (c .shape) (c .zones) (c .«absent_camera») (c .norm) (c .walls) (c .brake) (c .armed) cal ticks
+calibratedBy c cal ticks = altered c (c .limits) (c .shape) (c .zones) (c .«absent_camera») (c .norm) (c .walls) (c .brake) (c .gripper) (c .armed) cal ticks
 
 abbrev pub armedBy : FuseConfig → ℕ → FuseConfig
-armedBy c bits = altered c (c .limits) (c .shape) (c .zones) (c .«absent_camera») (c .norm) (c .walls) (c .brake) bits (c .calib) (c .«horizon_ticks»)
+armedBy c bits = altered c (c .limits) (c .shape) (c .zones) (c .«absent_camera») (c .norm) (c .walls) (c .brake) (c .gripper) bits (c .calib) (c .«horizon_ticks»)
 
 abbrev pub measuredBy : FuseConfig → Norm → walls.Box → FuseConfig
-measuredBy c n w = altered c (c .limits) (c .shape) (c .zones) (c .«absent_camera») n w (c .brake) (c .armed) (c .calib) (c .«horizon_ticks»)
+measuredBy c n w = altered c (c .limits) (c .shape) (c .zones) (c .«absent_camera») n w (c .brake) (c .gripper) (c .armed) (c .calib) (c .«horizon_ticks»)
 
 abbrev pub brakedBy : FuseConfig → BrakeModel → FuseConfig
-brakedBy c b = altered c (c .limits) (c .shape) (c .zones) (c .«absent_camera») (c .norm) (c .walls) b (c .armed) (c .calib) (c .«horizon_ticks»)
+brakedBy c b = altered c (c .limits) (c .shape) (c .zones) (c .«absent_camera») (c .norm) (c .walls) b (c .gripper) (c .armed) (c .calib) (c .«horizon_ticks»)
 
 abbrev pub absentBy : FuseConfig → AbsentCamera → FuseConfig
-absentBy c choice = altered c (c .limits) (c .shape) (c .zones) choice (c .norm) (c .walls) (c .brake) (c .armed) (c .calib) (c .«horizon_ticks»)
+absentBy c choice = altered c (c .limits) (c .shape) (c .zones) choice (c .norm) (c .walls) (c .brake) (c .gripper) (c .armed) (c .calib) (c .«horizon_ticks»)
+
+abbrev pub grippedBy : FuseConfig → Gripper → FuseConfig
+grippedBy c g = altered c (c .limits) (c .shape) (c .zones) (c .«absent_camera») (c .norm) (c .walls) (c .brake) g (c .armed) (c .calib) (c .«horizon_ticks»)
 
 abbrev pub zonedBy : FuseConfig → Zones → FuseConfig
-zonedBy c z = altered c (c .limits) (c .shape) z (c .«absent_camera») (c .norm) (c .walls) (c .brake) (c .armed) (c .calib) (c .«horizon_ticks»)
+zonedBy c z = altered c (c .limits) (c .shape) z (c .«absent_camera») (c .norm) (c .walls) (c .brake) (c .gripper) (c .armed) (c .calib) (c .«horizon_ticks»)
 
 abbrev pub marginedBy : FuseConfig → Float → FuseConfig
 marginedBy c m =
     altered c (record { dt = c .limits .dt; «v_max» = c .limits .«v_max»; «a_max» = c .limits .«a_max»; «j_max» = c .limits .«j_max»; «reach_max» = c .limits .«reach_max»; margin = m })
-    (c .shape) (c .zones) (c .«absent_camera») (c .norm) (c .walls) (c .brake) (c .armed) (c .calib) (c .«horizon_ticks»)
+    (c .shape) (c .zones) (c .«absent_camera») (c .norm) (c .walls) (c .brake) (c .gripper) (c .armed) (c .calib) (c .«horizon_ticks»)
 
 -- two lists that agree on the first n entries
 abbrev pub Agree : ℕ → List Float → List Float → Type 0
@@ -155,6 +160,9 @@ pub record Promised : Type 0 where
   pub armed-or-not : (f : Format) (c : FuseConfig) (t : Tables) (bits : ℕ) → refusal (configJudged f (armedBy c bits) t) ≡ refusal (configJudged f c t)
   -- nor does the choice for an absent camera
   pub either-choice : (f : Format) (c : FuseConfig) (t : Tables) (choice : AbsentCamera) → refusal (configJudged f (absentBy c choice) t) ≡ refusal (configJudged f c t)
+  -- nor does the mode of the gripper, of which nothing is derived
+  pub either-mode : (f : Format) (c : FuseConfig) (t : Tables) (g : Gripper) → configJudged f (grippedBy c g) t ≡ configJudged f c t
+  pub same-derived : (f : Format) (c : FuseConfig) (g : Gripper) → derived f (grippedBy c g) ≡ derived f c
   -- over four zones are refused with 1
   pub over-four : (f : Format) (c : FuseConfig) (t : Tables) → 4 < c .zones .count → refusal (configJudged f c t) ≡ 1
   pub zones-judged : (z : Zones) (aux : ℕ) → ZonesJudged z aux

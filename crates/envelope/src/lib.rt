@@ -66,6 +66,13 @@ pub enum AbsentCamera {
     NoZone,
 }
 
+// What brake and hold of a position kind write on the axes past pos_dim, where a gripper may be: what their box of 0..0 makes of the
+// position, or the last command that the caller lends.
+pub enum Gripper {
+    ToZero,
+    LastCommand,
+}
+
 // Control steps and substeps are counted apart; `substeps_in` alone joins them.
 pub struct ControlSteps(pub u16);
 
@@ -132,6 +139,7 @@ pub struct FuseConfig {
     pub zones: Zones,
     pub absent_camera: AbsentCamera,
     pub brake: BrakeModel,
+    pub gripper: Gripper,
     pub clamp: ClampMode,
     pub armed: u32,
     pub aux_count: usize,

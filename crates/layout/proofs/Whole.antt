@@ -10,6 +10,7 @@ use Rattle.conformal.specs.declared.GateSpec.{GateSpec}
 use Rattle.envelope.specs.declared.ActionKind.{ActionKind}
 use Rattle.envelope.specs.declared.ClampMode.{ClampMode}
 use Rattle.envelope.specs.declared.AbsentCamera.{AbsentCamera}
+use Rattle.envelope.specs.declared.Gripper.{Gripper}
 use Rattle.envelope.specs.declared.BrakeKind.{BrakeKind}
 use Rattle.envelope.specs.declared.ZoneSlot.{ZoneSlot}
 use Rattle.envelope.specs.declared.Zones.{Zones}
@@ -20,7 +21,7 @@ use Rattle.envelope.specs.declared.BrakeModel.{BrakeModel}
 use Rattle.envelope.specs.declared.FuseConfig.{FuseConfig}
 use Rattle.workspace.specs.declared.Shape.{Shape}
 use Rattle.layout.specs.Places.{count, in8, in16, in32}
-use Rattle.layout.specs.Config.{kindOf, clampOf, absentCameraOf, shapeOf, brakeKindOf, limitsOf, brakeOf, zoneOf, zonesOf, normOf, wallsOf, gateOf, calibrationOf, configOf}
+use Rattle.layout.specs.Config.{kindOf, clampOf, absentCameraOf, shapeOf, gripperOf, brakeKindOf, limitsOf, brakeOf, zoneOf, zonesOf, normOf, wallsOf, gateOf, calibrationOf, configOf}
 
 pub whole-brake : (n : List Float) (c : List ℕ) {kind : BrakeKind} {per rows steps ticks : ℕ}
     → kind ≡ brakeKindOf (count c 4) (at n 6) (at n 7) (at n 8)
@@ -58,7 +59,7 @@ pub whole-zones : (n : List Float) (c : List ℕ) {k : ℕ} {z0 z1 z2 z3 : ZoneS
 unfolding zonesOf
 whole-zones n c e e0 e1 e2 e3 = rw (e, e0, e1, e2, e3)
 
-pub whole-config : (n : List Float) (c : List ℕ) {kind : ActionKind} {limits : Limits} {norm : Norm} {walls : Box} {shape : Shape} {zones : Zones} {brake : BrakeModel} {clamp : ClampMode} {calib : Calibration} {armed ticks : ℕ} {absent : AbsentCamera}
+pub whole-config : (n : List Float) (c : List ℕ) {kind : ActionKind} {limits : Limits} {norm : Norm} {walls : Box} {shape : Shape} {zones : Zones} {brake : BrakeModel} {clamp : ClampMode} {calib : Calibration} {armed ticks : ℕ} {absent : AbsentCamera} {gripper : Gripper}
     → kind ≡ kindOf (count c 2)
     → limits ≡ limitsOf n
     → norm ≡ normOf n
@@ -71,6 +72,7 @@ pub whole-config : (n : List Float) (c : List ℕ) {kind : ActionKind} {limits :
     → calib ≡ calibrationOf n c
     → ticks ≡ in32 (count c 25)
     → absent ≡ absentCameraOf (count c 26)
+    → gripper ≡ gripperOf (count c 34)
     → _≡_ {A = FuseConfig}
     (record {
       kind = kind;
@@ -83,6 +85,7 @@ pub whole-config : (n : List Float) (c : List ℕ) {kind : ActionKind} {limits :
       zones = zones;
       «absent_camera» = absent;
       brake = brake;
+      gripper = gripper;
       clamp = clamp;
       armed = armed;
       «aux_count» = count c 21;
@@ -92,4 +95,4 @@ pub whole-config : (n : List Float) (c : List ℕ) {kind : ActionKind} {limits :
     })
     (configOf n c)
 unfolding configOf
-whole-config n c e1 e2 e3 e4 e5 e6 e7 e8 e9 e10 e11 e12 = rw (e1, e2, e3, e4, e5, e6, e7, e8, e9, e10, e11, e12)
+whole-config n c e1 e2 e3 e4 e5 e6 e7 e8 e9 e10 e11 e12 e13 = rw (e1, e2, e3, e4, e5, e6, e7, e8, e9, e10, e11, e12, e13)

@@ -1,4 +1,4 @@
--- The configuration in flat arrays: 53 numbers and 34 counts and codes. The calibration's two tables of 192 are lent as they are.
+-- The configuration in flat arrays: 53 numbers and 35 counts and codes. The calibration's two tables of 192 are lent as they are.
 use Prim.Native.Nat.{ℕ, zero, suc}
 use mathlib.Core.Bool.{Bool, _&&_, _||_}
 use Rattle.bits.specs.Choice.{if_then_else_}
@@ -14,6 +14,8 @@ use Rattle.envelope.specs.declared.ClampMode.{ClampMode}
 use Rattle.envelope.specs.declared.ClampMode.the-variants as M
 use Rattle.envelope.specs.declared.AbsentCamera.{AbsentCamera}
 use Rattle.envelope.specs.declared.AbsentCamera.the-variants as A
+use Rattle.envelope.specs.declared.Gripper.{Gripper}
+use Rattle.envelope.specs.declared.Gripper.the-variants as G
 use Rattle.envelope.specs.declared.BrakeKind.{BrakeKind}
 use Rattle.envelope.specs.declared.BrakeKind.the-variants as B
 use Rattle.envelope.specs.declared.ZoneSlot.{ZoneSlot}
@@ -51,6 +53,11 @@ unfoldable pub shapeOf : ℕ → Float → Float → Float → Shape
 shapeOf zero x y radius = S.Box
 shapeOf (suc zero) x y radius = S.Disc x y radius
 shapeOf (suc (suc k)) x y radius = S.Box
+
+unfoldable pub gripperOf : ℕ → Gripper
+gripperOf zero = G.ToZero
+gripperOf (suc zero) = G.LastCommand
+gripperOf (suc (suc k)) = G.ToZero
 
 unfoldable pub brakeKindOf : ℕ → Float → Float → Float → BrakeKind
 brakeKindOf zero kp kv dt = B.PdSecondOrder kp kv dt
@@ -128,6 +135,7 @@ configOf n c = record {
   zones = zonesOf n c;
   «absent_camera» = absentCameraOf (count c 26);
   brake = brakeOf n c;
+  gripper = gripperOf (count c 34);
   clamp = clampOf (count c 3);
   armed = in32 (count c 20);
   «aux_count» = count c 21;
@@ -139,7 +147,7 @@ configOf n c = record {
 -- ---- what fits, field by field of the table (R0)
 -- Fields as wide as the array: dim, pos_dim and aux_count (counts 0, 1 and 21).
 -- Cut, since row 1 or 3 refuses all that does not fit: the count of zones (5), substeps, commit and brake_steps (8 to 10), the counted terms (12 to 19), mask and n_terms (23, 24).
--- Judged here: codes and flags (2 to 4, 22, 26 and 33), the channels of each zone that counts (6, 7 and 27 to 32), react_ticks (11), armed (20) and, with a calibration, horizon_ticks (25).
+-- Judged here: the codes of kind, clamp and brake and the calibration's flag (2 to 4 and 22), the choices (26, 33 and 34), the channels of each zone that counts (6, 7 and 27 to 32), react_ticks (11), armed (20) and, with a calibration, horizon_ticks (25).
 
 -- a zone's channels fit, or row 4 refuses them by themselves: they are equal, or one is at or above aux_count
 unfoldable pub zoneHeld : ℕ → ℕ → ℕ → Bool
@@ -154,9 +162,13 @@ zonesHeld c =
     ∷ (ltb (count c 5) 3 || zoneHeld (count c 29) (count c 30) (count c 21))
     ∷ (ltb (count c 5) 4 || zoneHeld (count c 31) (count c 32) (count c 21)) ∷ [])
 
--- each code and each flag is one of its kind
+-- the codes of kind, clamp and brake, and the flag of the calibration, are ones that there are
 unfoldable pub codesFit : List ℕ → Bool
-codesFit c = every (leb (count c 2) 4 ∷ leb (count c 3) 1 ∷ leb (count c 4) 4 ∷ leb (count c 22) 1 ∷ leb (count c 26) 1 ∷ leb (count c 33) 1 ∷ [])
+codesFit c = every (leb (count c 2) 4 ∷ leb (count c 3) 1 ∷ leb (count c 4) 4 ∷ leb (count c 22) 1 ∷ [])
+
+-- each choice is one of its two: for an absent camera, of the shape, and of the gripper's mode
+unfoldable pub choicesFit : List ℕ → Bool
+choicesFit c = every (leb (count c 26) 1 ∷ leb (count c 33) 1 ∷ leb (count c 34) 1 ∷ [])
 
 -- react_ticks and armed fit their fields
 unfoldable pub fieldsFit : List ℕ → Bool
@@ -164,7 +176,7 @@ fieldsFit c = every (short (count c 11) ∷ long (count c 20) ∷ [])
 
 -- all of it; the channels are read where their zone counts, horizon_ticks where there is a calibration
 unfoldable pub countsFit : List ℕ → Bool
-countsFit c = every (codesFit c ∷ fieldsFit c ∷ zonesHeld c ∷ (eqb (count c 22) 0 || long (count c 25)) ∷ [])
+countsFit c = every (codesFit c ∷ choicesFit c ∷ fieldsFit c ∷ zonesHeld c ∷ (eqb (count c 22) 0 || long (count c 25)) ∷ [])
 
 -- ---- what is derived, laid out in 29 numbers
 unfoldable pub derivedFlat : Derived → List Float

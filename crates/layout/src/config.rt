@@ -1,8 +1,8 @@
-// The configuration: 53 numbers and 34 counts and codes. The calibration's two tables of 192 are lent as they are.
+// The configuration: 53 numbers and 35 counts and codes. The calibration's two tables of 192 are lent as they are.
 ghost use mathlib.Core.Path.{_≡_};
 ghost use Prim.Native.Nat.{_+_, _≤_};
 ghost use Rattle.layout.specs.Places.{part};
-ghost use Rattle.layout.specs.Config.{kindOf, clampOf, absentCameraOf, shapeOf, brakeKindOf, channelOf, limitsOf, brakeOf, zoneOf, zonesOf, normOf, wallsOf, gateOf, calibrationOf, configOf, zoneHeld, zonesHeld, codesFit, fieldsFit, countsFit, derivedFlat};
+ghost use Rattle.layout.specs.Config.{kindOf, clampOf, absentCameraOf, shapeOf, gripperOf, brakeKindOf, channelOf, limitsOf, brakeOf, zoneOf, zonesOf, normOf, wallsOf, gateOf, calibrationOf, configOf, zoneHeld, zonesHeld, codesFit, choicesFit, fieldsFit, countsFit, derivedFlat};
 use crate::places::to_u8;
 use crate::places::to_u16;
 use crate::places::to_u32;
@@ -18,6 +18,7 @@ use envelope::Contact;
 use envelope::ControlSteps;
 use envelope::Derived;
 use envelope::FuseConfig;
+use envelope::Gripper;
 use envelope::Limits;
 use envelope::Norm;
 use envelope::Substeps;
@@ -25,7 +26,8 @@ use envelope::ZoneSlot;
 use envelope::Zones;
 use workspace::Shape;
 
-// ---- codes: one that is none gives the last kind, of the choices for an absent camera the slow one, and of the shapes the box
+// ---- codes: one that is none gives the last kind, of the choices for an absent camera the slow one, of the shapes the box, and of the modes
+// of the gripper the Rust's
 
 fn kind_of(k: u64) -> ActionKind
     ensures { λ r. ⌜ r ≡ kindOf k ⌝ }
@@ -66,6 +68,15 @@ fn shape_of(k: u64, x: f64, y: f64, radius: f64) -> Shape
     }
 }
 
+fn gripper_of(k: u64) -> Gripper
+    ensures { λ r. ⌜ r ≡ gripperOf k ⌝ }
+{
+    match k {
+        1 => Gripper::LastCommand,
+        _ => Gripper::ToZero,
+    }
+}
+
 fn brake_kind_of(k: u64, k_p: f64, k_v: f64, dt: f64) -> BrakeKind
     ensures { λ r. ⌜ r ≡ brakeKindOf k «k_p» «k_v» dt ⌝ }
 {
@@ -93,7 +104,7 @@ fn limits_of(n: &[f64; 53]) -> Limits
     }
 }
 
-fn brake_of(n: &[f64; 53], c: &[u64; 34]) -> BrakeModel
+fn brake_of(n: &[f64; 53], c: &[u64; 35]) -> BrakeModel
     ensures { λ r. ⌜ r ≡ brakeOf (now (n .entry)) (now (c .entry)) ⌝ }
 {
     let kind = brake_kind_of(c[4], n[6], n[7], n[8]);
@@ -133,7 +144,7 @@ fn zone_of(radius: f64, v_max: f64, first: u64, second: u64) -> ZoneSlot
 }
 
 // The first zone stands among the other fields, the further ones at the arrays' ends.
-fn zones_of(n: &[f64; 53], c: &[u64; 34]) -> Zones
+fn zones_of(n: &[f64; 53], c: &[u64; 35]) -> Zones
     ensures { λ r. ⌜ r ≡ zonesOf (now (n .entry)) (now (c .entry)) ⌝ }
 {
     let count = to_u8(c[5]);
@@ -178,7 +189,7 @@ fn walls_of(n: &[f64; 53]) -> Box
     Box { lo, hi }
 }
 
-fn gate_of(c: &[u64; 34]) -> GateSpec
+fn gate_of(c: &[u64; 35]) -> GateSpec
     ensures { λ r. ⌜ r ≡ gateOf (now (c .entry)) ⌝ }
 {
     let n_terms = to_u8(c[24]);
@@ -195,7 +206,7 @@ fn gate_of(c: &[u64; 34]) -> GateSpec
     GateSpec { n_terms, terms }
 }
 
-fn calibration_of(n: &[f64; 53], c: &[u64; 34]) -> Calibration
+fn calibration_of(n: &[f64; 53], c: &[u64; 35]) -> Calibration
     ensures { λ r. ⌜ r ≡ calibrationOf (now (n .entry)) (now (c .entry)) ⌝ }
 {
     let mask = to_u32(c[23]);
@@ -210,7 +221,7 @@ fn calibration_of(n: &[f64; 53], c: &[u64; 34]) -> Calibration
 // ---- all of it
 
 // The configuration that the arrays stand for.
-pub fn config_of(n: &[f64; 53], c: &[u64; 34]) -> FuseConfig
+pub fn config_of(n: &[f64; 53], c: &[u64; 35]) -> FuseConfig
     ensures { λ r. ⌜ r ≡ configOf (now (n .entry)) (now (c .entry)) ⌝ }
 {
     let kind = kind_of(c[2]);
@@ -225,6 +236,7 @@ pub fn config_of(n: &[f64; 53], c: &[u64; 34]) -> FuseConfig
     let calib = calibration_of(n, c);
     let horizon_ticks = to_u32(c[25]);
     let absent_camera = absent_camera_of(c[26]);
+    let gripper = gripper_of(c[34]);
     FuseConfig {
         kind,
         dim: c[0] as usize,
@@ -236,6 +248,7 @@ pub fn config_of(n: &[f64; 53], c: &[u64; 34]) -> FuseConfig
         zones,
         absent_camera,
         brake,
+        gripper,
         clamp,
         armed,
         aux_count: c[21] as usize,
@@ -255,7 +268,7 @@ fn zone_held(first: u64, second: u64, aux: u64) -> bool
 }
 
 // Those of each zone that counts.
-fn zones_held(c: &[u64; 34]) -> bool
+fn zones_held(c: &[u64; 35]) -> bool
     ensures { λ r. ⌜ r ≡ zonesHeld (now (c .entry)) ⌝ }
 {
     let n = c[5];
@@ -267,28 +280,36 @@ fn zones_held(c: &[u64; 34]) -> bool
     ((n < 1) | i) & ((n < 2) | j) & ((n < 3) | k) & ((n < 4) | l)
 }
 
-// Each code and each flag is one of its kind.
-fn codes_fit(c: &[u64; 34]) -> bool
+// The codes of kind, clamp and brake, and the flag of the calibration, are ones that there are.
+fn codes_fit(c: &[u64; 35]) -> bool
     ensures { λ r. ⌜ r ≡ codesFit (now (c .entry)) ⌝ }
 {
-    (c[2] <= 4) & (c[3] <= 1) & (c[4] <= 4) & (c[22] <= 1) & (c[26] <= 1) & (c[33] <= 1)
+    (c[2] <= 4) & (c[3] <= 1) & (c[4] <= 4) & (c[22] <= 1)
+}
+
+// Each choice is one of its two: for an absent camera, of the shape, and of the gripper's mode.
+fn choices_fit(c: &[u64; 35]) -> bool
+    ensures { λ r. ⌜ r ≡ choicesFit (now (c .entry)) ⌝ }
+{
+    (c[26] <= 1) & (c[33] <= 1) & (c[34] <= 1)
 }
 
 // The ticks to react and the trip bits fit their fields.
-fn fields_fit(c: &[u64; 34]) -> bool
+fn fields_fit(c: &[u64; 35]) -> bool
     ensures { λ r. ⌜ r ≡ fieldsFit (now (c .entry)) ⌝ }
 {
     (c[11] <= 65535) & (c[20] <= 4294967295)
 }
 
 // All that the table has no row for fits, as far as it is read.
-pub fn counts_fit(c: &[u64; 34]) -> bool
+pub fn counts_fit(c: &[u64; 35]) -> bool
     ensures { λ r. ⌜ r ≡ countsFit (now (c .entry)) ⌝ }
 {
     let codes = codes_fit(c);
+    let choices = choices_fit(c);
     let fields = fields_fit(c);
     let zones = zones_held(c);
-    codes & fields & zones & ((c[22] == 0) | (c[25] <= 4294967295))
+    codes & choices & fields & zones & ((c[22] == 0) | (c[25] <= 4294967295))
 }
 
 // Lays what is derived out in the array.

@@ -170,8 +170,8 @@ reset-alike e q = rw q at e
 pub forecast-alike : (t : Tables) (p v rows : List Float) (x : Header) (from : ℕ) (l : List Float) {a : BrakeOut} {m : List Float} {c k : FuseConfig} → (a ≡ forecastAnswer binary64 c t p v rows x from (length l)) × (m ≡ forecastSlacks binary64 c t p v rows x from l) → c ≡ k → (a ≡ forecastAnswer binary64 k t p v rows x from (length l)) × (m ≡ forecastSlacks binary64 k t p v rows x from l)
 forecast-alike t p v rows x from l q y = (rw y at (q .0), rw y at (q .1))
 
-pub brake-alike : (t : Tables) (p v l : List Float) {a : Sent} {m : List Float} {c k : FuseConfig} → (a ≡ brakeAnswer binary64 c t p v (length l)) × (m ≡ brakeOutput binary64 c t p v l) → c ≡ k → (a ≡ brakeAnswer binary64 k t p v (length l)) × (m ≡ brakeOutput binary64 k t p v l)
-brake-alike t p v l q y = (rw y at (q .0), rw y at (q .1))
+pub brake-alike : (t : Tables) (p v last l : List Float) {a : Sent} {m : List Float} {c k : FuseConfig} → (a ≡ brakeAnswer binary64 c t p v last (length l)) × (m ≡ brakeOutput binary64 c t p v last l) → c ≡ k → (a ≡ brakeAnswer binary64 k t p v last (length l)) × (m ≡ brakeOutput binary64 k t p v last l)
+brake-alike t p v last l q y = (rw y at (q .0), rw y at (q .1))
 
-pub hold-alike : (t : Tables) (p l : List Float) {a : Sent} {m : List Float} {c k : FuseConfig} → (a ≡ holdAnswer binary64 c t p (length l)) × (m ≡ holdOutput binary64 c t p l) → c ≡ k → (a ≡ holdAnswer binary64 k t p (length l)) × (m ≡ holdOutput binary64 k t p l)
-hold-alike t p l q y = (rw y at (q .0), rw y at (q .1))
+pub hold-alike : (t : Tables) (p last l : List Float) {a : Sent} {m : List Float} {c k : FuseConfig} → (a ≡ holdAnswer binary64 c t p last (length l)) × (m ≡ holdOutput binary64 c t p last l) → c ≡ k → (a ≡ holdAnswer binary64 k t p last (length l)) × (m ≡ holdOutput binary64 k t p last l)
+hold-alike t p last l q y = (rw y at (q .0), rw y at (q .1))

@@ -11,7 +11,7 @@ use chunk::Header;
 #[no_mangle]
 pub extern "C" fn lictor_brake_feasible(
     numbers: &[f64; 53],
-    counts: &[u64; 34],
+    counts: &[u64; 35],
     center: &[f64; 192],
     scale: &[f64; 192],
     pos: &[f64],
@@ -47,42 +47,44 @@ pub extern "C" fn lictor_brake_feasible(
 #[no_mangle]
 pub extern "C" fn lictor_brake_action(
     numbers: &[f64; 53],
-    counts: &[u64; 34],
+    counts: &[u64; 35],
     center: &[f64; 192],
     scale: &[f64; 192],
     pos: &[f64],
     vel: &[f64],
+    last: &[f64],
     out: &mut [f64],
     walls: &mut [u64; 2],
 ) -> u64
-    ensures { λ r. ⌜ SentGiven (countsFit (now (counts .entry))) (brakeAnswer binary64 (configOf (now (numbers .entry)) (now (counts .entry))) (tables (now (center .entry)) (now (scale .entry))) (now (pos .entry)) (now (vel .entry)) (length (now (out .entry)))) (brakeOutput binary64 (configOf (now (numbers .entry)) (now (counts .entry))) (tables (now (center .entry)) (now (scale .entry))) (now (pos .entry)) (now (vel .entry)) (now (out .entry))) r (now (walls .entry)) (now (walls .exit)) (now (out .entry)) (now (out .exit)) ⌝ }
+    ensures { λ r. ⌜ SentGiven (countsFit (now (counts .entry))) (brakeAnswer binary64 (configOf (now (numbers .entry)) (now (counts .entry))) (tables (now (center .entry)) (now (scale .entry))) (now (pos .entry)) (now (vel .entry)) (now (last .entry)) (length (now (out .entry)))) (brakeOutput binary64 (configOf (now (numbers .entry)) (now (counts .entry))) (tables (now (center .entry)) (now (scale .entry))) (now (pos .entry)) (now (vel .entry)) (now (last .entry)) (now (out .entry))) r (now (walls .entry)) (now (walls .exit)) (now (out .entry)) (now (out .exit)) ⌝ }
 {
     let fits = layout::config::counts_fit(counts);
     if !fits {
         return 255;
     }
     let c = layout::config::config_of(numbers, counts);
-    let a = brake::brake_action(c, center, scale, pos, vel, out);
+    let a = brake::brake_action(c, center, scale, pos, vel, last, out);
     crate::answer::put_sent(a, walls)
 }
 
 #[no_mangle]
 pub extern "C" fn lictor_hold_action(
     numbers: &[f64; 53],
-    counts: &[u64; 34],
+    counts: &[u64; 35],
     center: &[f64; 192],
     scale: &[f64; 192],
     pos: &[f64],
+    last: &[f64],
     out: &mut [f64],
     walls: &mut [u64; 2],
 ) -> u64
-    ensures { λ r. ⌜ SentGiven (countsFit (now (counts .entry))) (holdAnswer binary64 (configOf (now (numbers .entry)) (now (counts .entry))) (tables (now (center .entry)) (now (scale .entry))) (now (pos .entry)) (length (now (out .entry)))) (holdOutput binary64 (configOf (now (numbers .entry)) (now (counts .entry))) (tables (now (center .entry)) (now (scale .entry))) (now (pos .entry)) (now (out .entry))) r (now (walls .entry)) (now (walls .exit)) (now (out .entry)) (now (out .exit)) ⌝ }
+    ensures { λ r. ⌜ SentGiven (countsFit (now (counts .entry))) (holdAnswer binary64 (configOf (now (numbers .entry)) (now (counts .entry))) (tables (now (center .entry)) (now (scale .entry))) (now (pos .entry)) (now (last .entry)) (length (now (out .entry)))) (holdOutput binary64 (configOf (now (numbers .entry)) (now (counts .entry))) (tables (now (center .entry)) (now (scale .entry))) (now (pos .entry)) (now (last .entry)) (now (out .entry))) r (now (walls .entry)) (now (walls .exit)) (now (out .entry)) (now (out .exit)) ⌝ }
 {
     let fits = layout::config::counts_fit(counts);
     if !fits {
         return 255;
     }
     let arm = layout::config::config_of(numbers, counts);
-    let held = brake::hold_action(arm, center, scale, pos, out);
+    let held = brake::hold_action(arm, center, scale, pos, last, out);
     crate::answer::put_sent(held, walls)
 }

@@ -11,7 +11,7 @@ use chunk::Header;
 #[no_mangle]
 pub extern "C" fn lictor_check_chunk(
     numbers: &[f64; 53],
-    counts: &[u64; 34],
+    counts: &[u64; 35],
     center: &[f64; 192],
     scale: &[f64; 192],
     pos: &[f64],
@@ -45,7 +45,7 @@ pub extern "C" fn lictor_check_chunk(
 #[no_mangle]
 pub extern "C" fn lictor_check_action(
     numbers: &[f64; 53],
-    counts: &[u64; 34],
+    counts: &[u64; 35],
     center: &[f64; 192],
     scale: &[f64; 192],
     pos: &[f64],

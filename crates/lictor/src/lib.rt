@@ -268,7 +268,7 @@ pub extern "C" fn lictor_trail_is_empty(
 #[no_mangle]
 pub extern "C" fn lictor_derive(
     numbers: &[f64; 53],
-    counts: &[u64; 34],
+    counts: &[u64; 35],
     center: &[f64; 192],
     scale: &[f64; 192],
     out: &mut [f64; 29],

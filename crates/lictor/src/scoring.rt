@@ -16,7 +16,7 @@ use tier1::Tier1Rt;
 #[no_mangle]
 pub extern "C" fn lictor_features(
     numbers: &[f64; 53],
-    counts: &[u64; 34],
+    counts: &[u64; 35],
     center: &[f64; 192],
     scale: &[f64; 192],
     before: &mut [f64; 512],

@@ -23,6 +23,7 @@ use Rattle.conformal.specs.declared.Verdict.the-variants as verdict
 use Rattle.envelope.specs.declared.ActionKind.the-variants.{EePosition}
 use Rattle.envelope.specs.declared.ClampMode.the-variants.{Project}
 use Rattle.envelope.specs.declared.AbsentCamera.the-variants.{Slow}
+use Rattle.envelope.specs.declared.Gripper.the-variants.{ToZero}
 use Rattle.envelope.specs.Slots.{noZones}
 use Rattle.envelope.specs.declared.FuseConfig.{FuseConfig}
 use Rattle.workspace.specs.declared.Shape.the-variants.{Box}
@@ -107,6 +108,7 @@ plane = record {
   zones = noZones;
   «absent_camera» = Slow;
   brake = brakeOf (card 0 2! 0 1);
+  gripper = ToZero;
   clamp = Project;
   armed = SPEED;
   «aux_count» = 0;

@@ -41,7 +41,7 @@ use Rattle.tier0.proofs.Zones.{no-contact-as-unarmed, unseen-is-inside}
 use Rattle.course.specs.Forecast.{placeOf}
 use Rattle.brake.specs.declared.BrakeOut.the-variants as forecast
 use Rattle.brake.specs.declared.Sent.the-variants as sent
-use Rattle.brake.specs.Answer.{answerAt as foreseen, plan, lentJudged, forecastRefusal, forecastAnswer, rowLent, sentAt, masksSent, brakeSent, brakeRefusal, brakeAnswer, holdSent, holdRefusal, holdAnswer}
+use Rattle.brake.specs.Answer.{answerAt as foreseen, plan, lentJudged, forecastRefusal, forecastAnswer, lastUnfit, rowLent, sentAt, masksSent, brakeSent, brakeRefusal, brakeAnswer, holdSent, holdRefusal, holdAnswer}
 use Rattle.brake.proofs.Promises.{feasible-exactly}
 use Rattle.promises.specs.Beliefs.{EmptyBoxSlowsNothing, SilentCameraSlows, ChannelsAre4, OneChannelIsRefused, SamePairIsRefused, TouchingTripsNothing, StartIsNotInspected}
 
@@ -151,13 +151,16 @@ module _ (c : FuseConfig) (tabs : Tables) (four : refusal (configJudged binary64
       let t = plan binary64 c p v rows k from in
       ap (λ (n : ℕ). foreseen n t) (is-4 (chunkReasons k (length rows) ++ (lentJudged binary64 c p v rows k from room ++ ((computed when not (eqb (placeOf t) 0)) ∷ []))))
 
-  brake-4 : (p v : List Float) (room : ℕ) → brakeAnswer binary64 c tabs p v room ≡ sent.Refused (refusedFor 4)
+  brake-4 : (p v last : List Float) (room : ℕ) → brakeAnswer binary64 c tabs p v last room ≡ sent.Refused (refusedFor 4)
   unfolding brakeAnswer brakeRefusal
-  brake-4 p v room = ap (λ (n : ℕ). sentAt n (masksSent binary64 c p)) (is-4 (rowLent c (someNotFinite p || someNotFinite v) room ++ ((computed when not (brakeSent binary64 c p v .sound)) ∷ [])))
+  brake-4 p v last room =
+      ap (λ (n : ℕ). sentAt n (masksSent binary64 c p))
+      (is-4 (rowLent c (someNotFinite p || someNotFinite v || lastUnfit (c .gripper) last) room (length last) ++ ((computed when not (brakeSent binary64 c p v last .sound)) ∷ [])))
 
-  hold-4 : (p : List Float) (room : ℕ) → holdAnswer binary64 c tabs p room ≡ sent.Refused (refusedFor 4)
+  hold-4 : (p last : List Float) (room : ℕ) → holdAnswer binary64 c tabs p last room ≡ sent.Refused (refusedFor 4)
   unfolding holdAnswer holdRefusal
-  hold-4 p room = ap (λ (n : ℕ). sentAt n (masksSent binary64 c p)) (is-4 (rowLent c (someNotFinite p) room ++ (computed when not (holdSent binary64 c p .sound) ∷ [])))
+  hold-4 p last room =
+      ap (λ (n : ℕ). sentAt n (masksSent binary64 c p)) (is-4 (rowLent c (someNotFinite p || lastUnfit (c .gripper) last) room (length last) ++ (computed when not (holdSent binary64 c p last .sound) ∷ [])))
 
   all-4 : ChannelsAre4 c tabs
   all-4 = record { configuration-is-4 = four; chunk-is-4 = chunk-4; action-is-4 = action-4; forecast-is-4 = forecast-4; brake-is-4 = brake-4; hold-is-4 = hold-4 }

@@ -24,8 +24,8 @@ use Rattle.envelope.proofs.Promises.{same-judged}
 use Rattle.layout.specs.Places.{count, in8, in16, in32}
 use Rattle.layout.specs.Chunk.{chunkOf}
 use Rattle.layout.specs.Trail.{trailOf}
-use Rattle.promises.specs.Counts.{TrailCounts, GateCounts, FeatureCounts, StepCounts, radiusAt, speedAt, firstAt, secondAt, zonesAsCame, ZoneCounts, ChannelCounts, SameCountedZones, UnreadPastTheCount, ChoiceCounts, ShapeCounts, cut, HeaderCounts, HeaderKept, HeaderLetGo}
-use Rattle.layout.specs.Config.{brakeOf, gateOf, calibrationOf, channelOf, zoneOf, zonesOf, zoneHeld, zonesHeld, absentCameraOf, shapeOf, configOf}
+use Rattle.promises.specs.Counts.{TrailCounts, GateCounts, FeatureCounts, StepCounts, radiusAt, speedAt, firstAt, secondAt, zonesAsCame, ZoneCounts, ChannelCounts, SameCountedZones, UnreadPastTheCount, ChoiceCounts, ShapeCounts, GripperCounts, cut, HeaderCounts, HeaderKept, HeaderLetGo}
+use Rattle.layout.specs.Config.{brakeOf, gateOf, calibrationOf, channelOf, zoneOf, zonesOf, zoneHeld, zonesHeld, absentCameraOf, shapeOf, gripperOf, configOf}
 
 -- ---- a test against a number that the field holds is the same of a count x and of the cut one
 
@@ -269,6 +269,10 @@ choice-counts n c = record { zero-is-slow = λ e. rw e; one-is-no-zone = λ e. r
 pub shape-counts : (n : List Float) (c : List ℕ) → ShapeCounts n c
 unfolding configOf shapeOf
 shape-counts n c = record { zero-is-a-box = λ e. rw e; one-is-a-disc = λ e. rw e }
+
+pub gripper-counts : (n : List Float) (c : List ℕ) → GripperCounts n c
+unfolding configOf gripperOf
+gripper-counts n c = record { zero-is-to-zero = λ e. rw e; one-is-last-command = λ e. rw e }
 
 -- ---- rows 5 to 9, and 12: a held chunk
 

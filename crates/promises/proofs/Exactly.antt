@@ -42,7 +42,7 @@ use Rattle.tier1.specs.Of as tier1
 use Rattle.course.specs.Forecast.{Forecast, placeOf}
 use Rattle.brake.specs.declared.BrakeOut.the-variants as out
 use Rattle.workspace.specs.declared.WallMasks.{WallMasks}
-use Rattle.brake.specs.Answer.{plan, lentJudged, rowLent, outcome, answerAt, sentAt, forecastRefusal, forecastAnswer, brakeSent, brakeRefusal, brakeAnswer, holdSent, holdRefusal, holdAnswer}
+use Rattle.brake.specs.Answer.{plan, lentJudged, lastUnfit, rowLent, outcome, answerAt, sentAt, forecastRefusal, forecastAnswer, brakeSent, brakeRefusal, brakeAnswer, holdSent, holdRefusal, holdAnswer}
 use Rattle.lictor.specs.Answer.{numberOf as numberIn, maskNumber, countNumber, emptinessNumber, verdictNumber, binNumber, checkNumber, forecastNumber, sentNumber}
 
 -- n is the number of a call to which these reasons apply
@@ -220,15 +220,15 @@ unfolding sentNumber
 sent-told zero m = refl
 sent-told (suc k) m = refl
 
-pub brake-action-exactly :
-    (c : FuseConfig) (tabs : Tables) (p v : List Float) (room : ℕ)
-    → Exactly (sentNumber (brakeAnswer binary64 c tabs p v room)) (among (configJudged binary64 c tabs ++ (rowLent c (someNotFinite p || someNotFinite v) room ++ (computed when not (brakeSent binary64 c p v .sound) ∷ []))))
+pub brake-action-exactly : (c : FuseConfig) (tabs : Tables) (p v last : List Float) (room : ℕ)
+    → Exactly (sentNumber (brakeAnswer binary64 c tabs p v last room)) (among (configJudged binary64 c tabs ++ (rowLent c (someNotFinite p || someNotFinite v || lastUnfit (c .gripper) last) room (length last) ++ (computed when not (brakeSent binary64 c p v last .sound) ∷ []))))
 unfolding brakeAnswer brakeRefusal
-brake-action-exactly c tabs p v room = exactly _ (sent-told _ _)
+brake-action-exactly c tabs p v last room = exactly _ (sent-told _ _)
 
-pub hold-action-exactly : (c : FuseConfig) (tabs : Tables) (p : List Float) (room : ℕ) → Exactly (sentNumber (holdAnswer binary64 c tabs p room)) (among (configJudged binary64 c tabs ++ (rowLent c (someNotFinite p) room ++ (computed when not (holdSent binary64 c p .sound) ∷ []))))
+pub hold-action-exactly : (c : FuseConfig) (tabs : Tables) (p last : List Float) (room : ℕ)
+    → Exactly (sentNumber (holdAnswer binary64 c tabs p last room)) (among (configJudged binary64 c tabs ++ (rowLent c (someNotFinite p || lastUnfit (c .gripper) last) room (length last) ++ (computed when not (holdSent binary64 c p last .sound) ∷ []))))
 unfolding holdAnswer holdRefusal
-hold-action-exactly c tabs p room = exactly _ (sent-told _ _)
+hold-action-exactly c tabs p last room = exactly _ (sent-told _ _)
 
 -- ---- conformal (R8)
 

@@ -225,10 +225,10 @@ one-lictor-tier1-reset l a r s x y = cleared-given
 pub one-lictor-brake-feasible : With4 lictor-brake-feasible.Post (λ x. x .1 .1 .1 .1 .1 .1 .1 .1 .1 .1 .1 .1 .0 .now) (λ x. x .1 .1 .1 .1 .1 .1 .1 .1 .1 .1 .1 .1 .1 .0 .now) (λ x. x .1 .1 .1 .1 .1 .1 .1 .1 .1 .1 .1 .1 .1 .1 .0 .now) (λ x. x .1 .1 .1 .1 .1 .1 .1 .1 .1 .1 .1 .0 .now)
 one-lictor-brake-feasible l a r s x y = forecast-given
 
-pub one-lictor-brake-action : With2 lictor-brake-action.Post (λ x. x .1 .1 .1 .1 .1 .1 .1 .0 .now) (λ x. x .1 .1 .1 .1 .1 .1 .0 .now)
+pub one-lictor-brake-action : With2 lictor-brake-action.Post (λ x. x .1 .1 .1 .1 .1 .1 .1 .1 .0 .now) (λ x. x .1 .1 .1 .1 .1 .1 .1 .0 .now)
 one-lictor-brake-action l a r s x y = sent-given
 
-pub one-lictor-hold-action : With2 lictor-hold-action.Post (λ x. x .1 .1 .1 .1 .1 .1 .0 .now) (λ x. x .1 .1 .1 .1 .1 .0 .now)
+pub one-lictor-hold-action : With2 lictor-hold-action.Post (λ x. x .1 .1 .1 .1 .1 .1 .1 .0 .now) (λ x. x .1 .1 .1 .1 .1 .1 .0 .now)
 one-lictor-hold-action l a r s x y = sent-given
 
 -- ---- conformal (R8)

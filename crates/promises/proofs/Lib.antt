@@ -3,5 +3,6 @@ pub mod Exported
 pub mod Counts
 pub mod Exactly
 pub mod Stall
+pub mod Gripper
 pub mod Beliefs
 pub mod Refused

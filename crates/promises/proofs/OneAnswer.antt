@@ -384,10 +384,10 @@ one-stopping-stop-distance l a r s x y = unique
 pub one-brake-feasible : OneWithLent brake-feasible.Post (λ x. x .1 .1 .1 .1 .1 .1 .1 .1 .0 .now)
 one-brake-feasible l a r s x y = both
 
-pub one-brake-action : OneWithLent brake-action.Post (λ x. x .1 .1 .1 .1 .1 .0 .now)
+pub one-brake-action : OneWithLent brake-action.Post (λ x. x .1 .1 .1 .1 .1 .1 .0 .now)
 one-brake-action l a r s x y = both
 
-pub one-hold-action : OneWithLent hold-action.Post (λ x. x .1 .1 .1 .1 .0 .now)
+pub one-hold-action : OneWithLent hold-action.Post (λ x. x .1 .1 .1 .1 .1 .0 .now)
 one-hold-action l a r s x y = both
 
 -- ---- conformal (R8)

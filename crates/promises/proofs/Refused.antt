@@ -106,13 +106,13 @@ unfolding sentNumber
 row-kept zero m row k l is = absurd (is refl)
 row-kept (suc n) m row k l is = refl
 
-brake-kept : (c : FuseConfig) (tabs : Tables) (p v l : List Float) → Refuses (sentNumber (brakeAnswer binary64 c tabs p v (length l))) → brakeOutput binary64 c tabs p v l ≡ l
+brake-kept : (c : FuseConfig) (tabs : Tables) (p v last l : List Float) → Refuses (sentNumber (brakeAnswer binary64 c tabs p v last (length l))) → brakeOutput binary64 c tabs p v last l ≡ l
 unfolding brakeAnswer brakeOutput
-brake-kept c tabs p v l = row-kept (brakeRefusal binary64 c tabs p v (length l)) (masksSent binary64 c p) (brakeSent binary64 c p v .value) (c .dim) l
+brake-kept c tabs p v last l = row-kept (brakeRefusal binary64 c tabs p v last (length l)) (masksSent binary64 c p) (brakeSent binary64 c p v last .value) (c .dim) l
 
-hold-kept : (c : FuseConfig) (tabs : Tables) (p l : List Float) → Refuses (sentNumber (holdAnswer binary64 c tabs p (length l))) → holdOutput binary64 c tabs p l ≡ l
+hold-kept : (c : FuseConfig) (tabs : Tables) (p last l : List Float) → Refuses (sentNumber (holdAnswer binary64 c tabs p last (length l))) → holdOutput binary64 c tabs p last l ≡ l
 unfolding holdAnswer holdOutput
-hold-kept c tabs p l = row-kept (holdRefusal binary64 c tabs p (length l)) (masksSent binary64 c p) (holdSent binary64 c p .value) (c .dim) l
+hold-kept c tabs p last l = row-kept (holdRefusal binary64 c tabs p last (length l)) (masksSent binary64 c p) (holdSent binary64 c p last .value) (c .dim) l
 
 -- ---- a forecast: what it comes to is accepted or 13
 

@@ -26,8 +26,8 @@ module _ (c : FuseConfig) (tabs : Tables) (set : c .calibrated ≡ true) where
         let h : (r : Reason) → among (configJudged binary64 c tabs) r ≡ false = λ r. neither _ _ (neither _ _ (all r) .0) .0 in
         neither-applies (h size) (h withdrawn);
     by-brake-feasible = λ p v rows k from room e. let h = brake-feasible-exactly c tabs p v rows k from room .1 .1 e in neither-applies (h size) (h withdrawn);
-    by-brake-action = λ p v room e. let h = brake-action-exactly c tabs p v room .1 .1 e in neither-applies (h size) (h withdrawn);
-    by-hold-action = λ p room e. let h = hold-action-exactly c tabs p room .1 .1 e in neither-applies (h size) (h withdrawn);
+    by-brake-action = λ p v last room e. let h = brake-action-exactly c tabs p v last room .1 .1 e in neither-applies (h size) (h withdrawn);
+    by-hold-action = λ p last room e. let h = hold-action-exactly c tabs p last room .1 .1 e in neither-applies (h size) (h withdrawn);
   }
 
 pub accepted-names-no-stall : AcceptedNamesNoStall

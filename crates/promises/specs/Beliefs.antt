@@ -62,8 +62,8 @@ pub record ChannelsAre4 (c : FuseConfig) (tabs : Tables) : Type 0 where
   pub chunk-is-4 : (p aux rows : List Float) (k : Header) (room : ℕ) → chunkAnswer binary64 c tabs p aux rows k room ≡ check.Refused (refusedFor 4)
   pub action-is-4 : (p aux prev a : List Float) (room : ℕ) → actionAnswer binary64 c tabs p aux prev a room ≡ check.Refused (refusedFor 4)
   pub forecast-is-4 : (p v rows : List Float) (k : Header) (from room : ℕ) → forecastAnswer binary64 c tabs p v rows k from room ≡ forecast.Refused (refusedFor 4)
-  pub brake-is-4 : (p v : List Float) (room : ℕ) → brakeAnswer binary64 c tabs p v room ≡ sent.Refused (refusedFor 4)
-  pub hold-is-4 : (p : List Float) (room : ℕ) → holdAnswer binary64 c tabs p room ≡ sent.Refused (refusedFor 4)
+  pub brake-is-4 : (p v last : List Float) (room : ℕ) → brakeAnswer binary64 c tabs p v last room ≡ sent.Refused (refusedFor 4)
+  pub hold-is-4 : (p last : List Float) (room : ℕ) → holdAnswer binary64 c tabs p last room ≡ sent.Refused (refusedFor 4)
 
 abbrev pub OneChannelIsRefused : Type 0
 OneChannelIsRefused =

@@ -22,6 +22,7 @@ use Rattle.envelope.specs.declared.Contact.the-variants.{Zone}
 use Rattle.envelope.specs.declared.ZoneSlot.{ZoneSlot}
 use Rattle.envelope.specs.declared.Zones.{Zones}
 use Rattle.envelope.specs.declared.AbsentCamera.the-variants as absent
+use Rattle.envelope.specs.declared.Gripper.the-variants as gripper
 use Rattle.workspace.specs.declared.Shape.the-variants.{Box, Disc}
 use Rattle.layout.specs.Places.{count, in16}
 use Rattle.layout.specs.Chunk.{chunkOf, headerFlat, unheld}
@@ -96,6 +97,11 @@ pub record ChoiceCounts (n : List Float) (c : List ℕ) : Type 0 where
 pub record ShapeCounts (n : List Float) (c : List ℕ) : Type 0 where
   pub zero-is-a-box : count c 33 ≡ 0 → configOf n c .shape ≡ Box
   pub one-is-a-disc : count c 33 ≡ 1 → configOf n c .shape ≡ Disc (at n 50) (at n 51) (at n 52)
+
+-- the mode of the gripper: 0, which a struct of zeros has, is the Rust's, and 1 the one that has the last command
+pub record GripperCounts (n : List Float) (c : List ℕ) : Type 0 where
+  pub zero-is-to-zero : count c 34 ≡ 0 → configOf n c .gripper ≡ gripper.ToZero
+  pub one-is-last-command : count c 34 ≡ 1 → configOf n c .gripper ≡ gripper.LastCommand
 
 -- a held chunk: its sizes, each cut to its field
 abbrev pub cut : Header → Header

@@ -2,3 +2,4 @@ pub mod Beliefs
 pub mod Refused
 pub mod Counts
 pub mod Stall
+pub mod Gripper

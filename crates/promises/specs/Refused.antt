@@ -40,5 +40,5 @@ pub record RefusalChangesNothing : Type 0 where
   pub after-reset : (rt : Tier1Rt) → Refuses (resetOf rt .refusal .number) → resetOf rt .rt ≡ rt
   pub after-brake-feasible : (c : FuseConfig) (tabs : Tables) (p v rows : List Float) (k : Header) (from : ℕ) (l : List Float) → Refuses (forecastNumber (forecastAnswer binary64 c tabs p v rows k from (length l)))
       → (forecastNumber (forecastAnswer binary64 c tabs p v rows k from (length l)) ≡ 13 → ⊥) → forecastSlacks binary64 c tabs p v rows k from l ≡ l
-  pub after-brake-action : (c : FuseConfig) (tabs : Tables) (p v l : List Float) → Refuses (sentNumber (brakeAnswer binary64 c tabs p v (length l))) → brakeOutput binary64 c tabs p v l ≡ l
-  pub after-hold-action : (c : FuseConfig) (tabs : Tables) (p l : List Float) → Refuses (sentNumber (holdAnswer binary64 c tabs p (length l))) → holdOutput binary64 c tabs p l ≡ l
+  pub after-brake-action : (c : FuseConfig) (tabs : Tables) (p v last l : List Float) → Refuses (sentNumber (brakeAnswer binary64 c tabs p v last (length l))) → brakeOutput binary64 c tabs p v last l ≡ l
+  pub after-hold-action : (c : FuseConfig) (tabs : Tables) (p last l : List Float) → Refuses (sentNumber (holdAnswer binary64 c tabs p last (length l))) → holdOutput binary64 c tabs p last l ≡ l

@@ -22,8 +22,8 @@ pub record NamedNowhere (c : FuseConfig) (tabs : Tables) : Type 0 where
   pub by-check-chunk : (p aux rows : List Float) (k : Header) (room : ℕ) → checkNumber (chunkAnswer binary64 c tabs p aux rows k room) ≡ 0 → NamesNoStall (c .calib)
   pub by-features : (p ext : List Float) (there : Bool) (k : Header) (rows : List Float) (rt : Tier1Rt) (sc : Scores) → featuresOf binary64 c tabs p ext there k rows rt sc .refusal .number ≡ 0 → NamesNoStall (c .calib)
   pub by-brake-feasible : (p v rows : List Float) (k : Header) (from room : ℕ) → forecastNumber (forecastAnswer binary64 c tabs p v rows k from room) ≡ 0 → NamesNoStall (c .calib)
-  pub by-brake-action : (p v : List Float) (room : ℕ) → sentNumber (brakeAnswer binary64 c tabs p v room) ≡ 0 → NamesNoStall (c .calib)
-  pub by-hold-action : (p : List Float) (room : ℕ) → sentNumber (holdAnswer binary64 c tabs p room) ≡ 0 → NamesNoStall (c .calib)
+  pub by-brake-action : (p v last : List Float) (room : ℕ) → sentNumber (brakeAnswer binary64 c tabs p v last room) ≡ 0 → NamesNoStall (c .calib)
+  pub by-hold-action : (p last : List Float) (room : ℕ) → sentNumber (holdAnswer binary64 c tabs p last room) ≡ 0 → NamesNoStall (c .calib)
 
 abbrev pub AcceptedNamesNoStall : Type 0
 AcceptedNamesNoStall = (c : FuseConfig) (tabs : Tables) → c .calibrated ≡ true → NamedNowhere c tabs

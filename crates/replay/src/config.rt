@@ -16,8 +16,8 @@ fn numbers(x: &Numbers) -> [f64; 53] {
     n
 }
 
-// Its counts and codes; those of a calibration and of further zones are 0, and so is the shape's, which is the box. The choice for an absent camera is the one that answers as the Rust does: no zone.
-fn counts(w: &Words) -> [u64; 34] {
+// Its counts and codes; those of a calibration and of further zones are 0, and so are the shape's, which is the box, and the gripper's, which is the mode of the Rust. The choice for an absent camera is the one that answers as the Rust does: no zone.
+fn counts(w: &Words) -> [u64; 35] {
     [
         w[0],
         w[1],
@@ -46,6 +46,7 @@ fn counts(w: &Words) -> [u64; 34] {
         0,
         0,
         1,
+        0,
         0,
         0,
         0,

@@ -60,7 +60,7 @@ pub(crate) fn rows_agree(w: &Words, x: &Numbers) -> bool {
     let vel = part(x, 67, w[66]);
     let mut braked = [0.0; 8];
     let mut held = [0.0; 8];
-    let brake = brake::brake_action(c, &t, &t, pos, vel, &mut braked);
-    let hold = brake::hold_action(c, &t, &t, pos, &mut held);
+    let brake = brake::brake_action(c, &t, &t, pos, vel, &[], &mut braked);
+    let hold = brake::hold_action(c, &t, &t, pos, &[], &mut held);
     is_sent(brake, &braked, part(x, 75, 8)) & is_sent(hold, &held, part(x, 83, 8))
 }

@@ -194,7 +194,7 @@ module _ (f : Format) (s : Checks) (bits : ℕ) (w : Zones) (choice : AbsentCame
 module _ (f : Format) (t : Tables) (c : FuseConfig) (bits : ℕ) (w : Zones) (choice : AbsentCamera) where
   -- the configuration of the other call
   abbrev changed : FuseConfig
-  changed = altered c (c .limits) (c .shape) w choice (c .norm) (c .walls) (c .brake) bits (c .calib) (c .«horizon_ticks»)
+  changed = altered c (c .limits) (c .shape) w choice (c .norm) (c .walls) (c .brake) (c .gripper) bits (c .calib) (c .«horizon_ticks»)
 
   checks-rearmed : checksOf f changed ≡ rearmed (checksOf f c) bits w choice
   unfolding checksOf

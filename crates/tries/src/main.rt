@@ -1,6 +1,6 @@
 // One action checked, for the desk to try: a record from standard input, one line to standard output.
 //
-// A record has 121 little-endian words: the 53 numbers and the 34 counts of a configuration, in the places of include/lictor.h; the
+// A record has 122 little-endian words: the 53 numbers and the 35 counts of a configuration, in the places of include/lictor.h; the
 // position, how many numbers it has and eight of them; the camera's, likewise; eight of the row before, and eight of the action. The line
 // is the refusal's number or, accepted, 0 with the trips, the moved coordinates, the peak speed and the projected row, whose numbers are
 // the sixteen hexadecimal digits of their bits, and the masks of the low and the high walls that moved it. The answer is that of
@@ -15,9 +15,9 @@ use libc::STDOUT_FILENO;
 use refusal::Refusal;
 use tier0::Tier0Out;
 
-type Words = [u64; 121];
+type Words = [u64; 122];
 
-type Numbers = [f64; 121];
+type Numbers = [f64; 122];
 
 // A record's words, and the numbers that they stand for.
 struct Record {
@@ -26,18 +26,18 @@ struct Record {
 }
 
 // Room for the bytes of a record.
-fn record_buffer() -> [u8; 968]
-    ensures { λ r. ⌜ 968 ≡ length r ⌝ }
+fn record_buffer() -> [u8; 976]
+    ensures { λ r. ⌜ 976 ≡ length r ⌝ }
 {
-    [0; 968]
+    [0; 976]
 }
 
 // The record that bytes stand for; a byte that is not there counts as 0.
 fn record_of(b: &[u8]) -> Record {
-    let mut words = [0; 121];
-    let mut numbers = [0.0; 121];
+    let mut words = [0; 122];
+    let mut numbers = [0.0; 122];
     let mut i = 0usize;
-    while i < 121 {
+    while i < 122 {
         let w = words::word(b, (8 * i) as u32);
         words[i] = w;
         numbers[i] = words::float_of(w);
@@ -49,8 +49,8 @@ fn record_of(b: &[u8]) -> Record {
 // The n numbers from word at on, or as many as there are.
 fn part(x: &Numbers, at: u16, n: u64) -> &[f64] {
     let all = &x[..];
-    let from = fmath::fewer(at as usize, 121);
-    let end = from + fmath::fewer(n as usize, 121 - from);
+    let from = fmath::fewer(at as usize, 122);
+    let end = from + fmath::fewer(n as usize, 122 - from);
     &all[from..end]
 }
 
@@ -62,7 +62,7 @@ fn config_numbers(x: &Numbers) -> [f64; 53] {
 }
 
 // Its counts and codes.
-fn config_counts(w: &Words) -> [u64; 34] {
+fn config_counts(w: &Words) -> [u64; 35] {
     [
         w[53],
         w[54],
@@ -98,6 +98,7 @@ fn config_counts(w: &Words) -> [u64; 34] {
         w[84],
         w[85],
         w[86],
+        w[87],
     ]
 }
 
@@ -168,10 +169,10 @@ fn answer(w: &Words, x: &Numbers) -> bool {
     }
     let c: FuseConfig = layout::config::config_of(&n, &k);
     let t = unread();
-    let pos = part(x, 88, w[87]);
-    let aux = part(x, 97, w[96]);
-    let prev = part(x, 105, w[53]);
-    let act = part(x, 113, w[53]);
+    let pos = part(x, 89, w[88]);
+    let aux = part(x, 98, w[97]);
+    let prev = part(x, 106, w[53]);
+    let act = part(x, 114, w[53]);
     let mut out = [0.0; 8];
     let a = tier0::check_action(c, &t, &t, pos, aux, prev, act, &mut out);
     say_answer(a, &out)
@@ -189,7 +190,7 @@ fn main() {
         complain(b"tries: a read failed\n");
         return;
     }
-    if f.n < 968 {
+    if f.n < 976 {
         complain(b"tries: the input ends inside the record\n");
         return;
     }

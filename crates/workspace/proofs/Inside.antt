@@ -17,7 +17,7 @@ use Rattle.fmath.specs.Answer.{someNotFinite}
 use Rattle.fmath.specs.Clamp.{clamped}
 use Rattle.fmath.proofs.Clamping.{clamp-between}
 use Rattle.checked.proofs.Copy.{length-eight}
-use Rattle.checked.proofs.Each.{all-at, over-at, over-keeps}
+use Rattle.checked.proofs.Each.{all-at, over-at, over-keeps, length-over}
 use Rattle.checked.proofs.Ordered.{Real, finite-real}
 use Rattle.pull.proofs.Steps.{pulled-keeps, length-pulled}
 use Rattle.workspace.specs.declared.Shape.{Shape}
@@ -74,6 +74,10 @@ pub setpoint-inside : (f : Format) (w : Walls) (p : List Float) (n j : ℕ) → 
     → Between w j (at (setpoint f w p n .value) j)
 unfolding setpoint
 setpoint-inside f w p n j h b bx fit = inward-inside f w (eight p 8) n j h (omega (arith, length-eight p 8)) bx (finite-real (at (eight p 8) j) (eight-finite p j b fit))
+
+pub setpoint-long : (f : Format) (w : Walls) (p : List Float) (n : ℕ) → length (setpoint f w p n .value) ≡ 8
+unfolding setpoint inward
+setpoint-long f w p n = let on = ontoDisc f (w .shape) (eight p 8) .value in length-over (insideAt w on) on n ∙ onto-long f (w .shape) (eight p 8) ∙ length-eight p 8
 
 -- at a box nothing is computed
 pub setpoint-sound : (f : Format) (w : Walls) (p : List Float) (n : ℕ) → w .shape ≡ Box → setpoint f w p n .sound ≡ true

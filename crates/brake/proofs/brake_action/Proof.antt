@@ -15,8 +15,8 @@ use borrow.Author.Needs.{needs}
 use Rattle.brake.proofs.brake_action.Statement.{statement}
 use Rattle.brake.proofs.brake_action.Tie as tie
 
-either : {a b x y : Bool} → a ≡ x → b ≡ y → (not a || not b) ≡ (not x || not y)
-either g h = rw (g, h)
+either : {a b d x y z : Bool} → a ≡ x → b ≡ y → d ≡ z → (not a || not b || d) ≡ (not x || not y || z)
+either g h i = rw (g, h, i)
 
 compile-requires : tie.Need-compile-requires
 compile-requires c κs = search needs
@@ -27,6 +27,9 @@ all-finite-requires c κs = search needs
 all-finite-requires-2 : tie.Need-all-finite-requires-2
 all-finite-requires-2 c κs = search needs
 
+last-unfit-requires : tie.Need-last-unfit-requires
+last-unfit-requires c κs = search needs
+
 row-refusal-requires : tie.Need-row-refusal-requires
 row-refusal-requires c κs = search needs
 
@@ -35,20 +38,45 @@ of-requires c κs = search needs
 
 returns : tie.Need-returns
 unfolding brakeAnswer brakeOutput
-returns c = let g = c .before .before .before .before .before .before .before .before .before .args in let w = row-refused binary64 (g .c) (tables (now (g .center)) (now (g .scale))) (now (g .out)) (either (c .before .before .before .before .all-finite .ensures) (c .before .before .before .all-finite2 .ensures)) (brakeSent binary64 (g .c) (now (g .pos)) (now (g .vel))) (sent.Done (masksSent binary64 (g .c) (now (g .pos)))) (brake-judged binary64 (g .c) (now (g .pos)) (now (g .vel)) (tables (now (g .center)) (now (g .scale))) (length (now (g .out)))) (c .before .before .row-refusal .ensures _ (compiled-number (c .before .before .before .before .before .compile .ensures))) (c .before .if1 .taken) (c .of .ensures) in (w .gives, w .leaves)
+returns c =
+    let n = c .before .before in
+    let g = n .before .before .before .before .before .before .before .before .before .args in
+    let t = tables (now (g .center)) (now (g .scale)) in
+    let w = row-refused binary64 (g .c) t (length (now (g .last))) (now (g .out)) (either (n .before .before .before .all-finite .ensures) (n .before .before .all-finite2 .ensures) (n .before .last-unfit .ensures)) (brakeSent binary64 (g .c) (now (g .pos)) (now (g .vel)) (now (g .last))) (sent.Done (masksSent binary64 (g .c) (now (g .pos)))) (brake-judged binary64 (g .c) (now (g .pos)) (now (g .vel)) (now (g .last)) t (length (now (g .out)))) (n .row-refusal .ensures _ (compiled-number (n .before .before .before .before .compile .ensures))) (c .before .if1 .taken) (c .of .ensures) in
+    (w .gives, w .leaves)
 
 workspace-of-requires : tie.Need-workspace-of-requires
 workspace-of-requires c κs = search needs
 
 brake-row-requires : tie.Need-brake-row-requires
-brake-row-requires c κs = let g = c .before .before .before .before .before .before .before .before .before .args in sized binary64 (g .c) (tables (now (g .center)) (now (g .scale))) (not (c .before .before .before .before .all-finite .result) || not (c .before .before .before .all-finite2 .result)) (length (now (g .out))) (sym (c .before .before .row-refusal .ensures _ (compiled-number (c .before .before .before .before .before .compile .ensures))) ∙ c .before .if1 .left) .0
+brake-row-requires c κs =
+    let n = c .before .before in
+    let g = n .before .before .before .before .before .before .before .before .before .args in
+    let t = tables (now (g .center)) (now (g .scale)) in
+    sized binary64 (g .c) t (not (n .before .before .before .all-finite .result) || not (n .before .before .all-finite2 .result) || n .before .last-unfit .result) (length (now (g .out))) (length (now (g .last))) (sym (n .row-refusal .ensures _ (compiled-number (n .before .before .before .before .compile .ensures))) ∙ c .before .if1 .left) .0
+
+sent-row-requires : tie.Need-sent-row-requires
+sent-row-requires c κs =
+    let n = c .before .before .before in
+    let g = n .before .before .before .before .before .before .before .before .before .args in
+    let t = tables (now (g .center)) (now (g .scale)) in
+    let sizes = sized binary64 (g .c) t (not (n .before .before .before .all-finite .result) || not (n .before .before .all-finite2 .result) || n .before .last-unfit .result) (length (now (g .out))) (length (now (g .last))) (sym (n .row-refusal .ensures _ (compiled-number (n .before .before .before .before .compile .ensures))) ∙ c .before .before .if1 .left) in
+    (sizes .0, sizes .2)
 
 of-requires-2 : tie.Need-of-requires-2
 of-requires-2 c κs = search needs
 
 returns-2 : tie.Need-returns-2
 unfolding brakeAnswer brakeOutput
-returns-2 c = let g = c .before .before .before .before .before .before .before .before .before .before .before .before .before .args in let w = row-unsound binary64 (g .c) (tables (now (g .center)) (now (g .scale))) (now (g .out)) (either (c .before .before .before .before .before .before .before .before .all-finite .ensures) (c .before .before .before .before .before .before .before .all-finite2 .ensures)) (brakeSent binary64 (g .c) (now (g .pos)) (now (g .vel))) (sent.Done (masksSent binary64 (g .c) (now (g .pos)))) (brake-judged binary64 (g .c) (now (g .pos)) (now (g .vel)) (tables (now (g .center)) (now (g .scale))) (length (now (g .out)))) (sym (c .before .before .before .before .before .before .row-refusal .ensures _ (compiled-number (c .before .before .before .before .before .before .before .before .before .compile .ensures))) ∙ c .before .before .before .before .before .if1 .left) (brake-is-sent binary64 (g .c) (now (g .pos)) (now (g .vel)) (c .before .before .before .before .workspace-of .ensures ∙ ap (workspaceFrom (g .c .shape)) (compiled-derived (c .before .before .before .before .before .before .before .before .before .compile .ensures))) (c .before .before .before .brake-row .ensures)) (not-true _ (c .before .if2 .taken)) (c .of2 .ensures) in (w .gives, w .leaves)
+returns-2 c =
+    let r = c .before .before .before in
+    let e = r .before .before in
+    let n = e .before .before in
+    let g = n .before .before .before .before .before .before .before .before .before .args in
+    let t = tables (now (g .center)) (now (g .scale)) in
+    let walls = e .workspace-of .ensures ∙ ap (workspaceFrom (g .c .shape)) (compiled-derived (n .before .before .before .before .compile .ensures)) in
+    let w = row-unsound binary64 (g .c) t (length (now (g .last))) (now (g .out)) (either (n .before .before .before .all-finite .ensures) (n .before .before .all-finite2 .ensures) (n .before .last-unfit .ensures)) (brakeSent binary64 (g .c) (now (g .pos)) (now (g .vel)) (now (g .last))) (sent.Done (masksSent binary64 (g .c) (now (g .pos)))) (brake-judged binary64 (g .c) (now (g .pos)) (now (g .vel)) (now (g .last)) t (length (now (g .out)))) (sym (n .row-refusal .ensures _ (compiled-number (n .before .before .before .before .compile .ensures))) ∙ e .before .if1 .left) (brake-is-sent binary64 (g .c) (now (g .pos)) (now (g .vel)) (now (g .last)) walls (r .before .brake-row .ensures) (r .sent-row .ensures)) (not-true _ (c .before .if2 .taken)) (c .of2 .ensures) in
+    (w .gives, w .leaves)
 
 slice-aggregate-put : tie.Need-slice-aggregate-put
 slice-aggregate-put c = search needs
@@ -63,12 +91,21 @@ same-length : tie.Need-same-length
 same-length c = search needs
 
 -- the row has eight numbers
-long : (c : tie.After-put) → length (c .before .before .before .before .before .before .brake-row .result .at) ≡ 8
+long : (c : tie.After-put) → length (c .before .before .before .before .before .before .sent-row .result .at) ≡ 8
 long c = search needs
 
 returns-3 : tie.Need-returns-3
 unfolding brakeAnswer brakeOutput
-returns-3 c = let g = c .before .before .before .before .before .before .before .before .before .before .before .before .before .before .before .before .before .before .before .args in let walls = c .before .before .before .before .before .before .before .before .before .before .workspace-of .ensures ∙ ap (workspaceFrom (g .c .shape)) (compiled-derived (c .before .before .before .before .before .before .before .before .before .before .before .before .before .before .before .compile .ensures)) in let w = row-done binary64 (g .c) (tables (now (g .center)) (now (g .scale))) (now (g .out)) (either (c .before .before .before .before .before .before .before .before .before .before .before .before .before .before .all-finite .ensures) (c .before .before .before .before .before .before .before .before .before .before .before .before .before .all-finite2 .ensures)) (brakeSent binary64 (g .c) (now (g .pos)) (now (g .vel))) (sent.Done (masksSent binary64 (g .c) (now (g .pos)))) (brake-judged binary64 (g .c) (now (g .pos)) (now (g .vel)) (tables (now (g .center)) (now (g .scale))) (length (now (g .out)))) (sym (c .before .before .before .before .before .before .before .before .before .before .before .before .row-refusal .ensures _ (compiled-number (c .before .before .before .before .before .before .before .before .before .before .before .before .before .before .before .compile .ensures))) ∙ c .before .before .before .before .before .before .before .before .before .before .before .if1 .left) (brake-is-sent binary64 (g .c) (now (g .pos)) (now (g .vel)) walls (c .before .before .before .before .before .before .before .before .before .brake-row .ensures)) (not-false _ (c .before .before .before .before .before .before .before .if2 .left)) (long (c .before .before .before)) (c .before .before .before .put .ensures) (masks-are-sent binary64 (g .c) (now (g .pos)) walls (c .sent-masks .ensures)) in (w .gives, w .leaves)
+returns-3 c =
+    let u = c .before .before .before in
+    let r = u .before .before .before .before .before .before in
+    let e = r .before .before in
+    let n = e .before .before in
+    let g = n .before .before .before .before .before .before .before .before .before .args in
+    let t = tables (now (g .center)) (now (g .scale)) in
+    let walls = e .workspace-of .ensures ∙ ap (workspaceFrom (g .c .shape)) (compiled-derived (n .before .before .before .before .compile .ensures)) in
+    let w = row-done binary64 (g .c) t (length (now (g .last))) (now (g .out)) (either (n .before .before .before .all-finite .ensures) (n .before .before .all-finite2 .ensures) (n .before .last-unfit .ensures)) (brakeSent binary64 (g .c) (now (g .pos)) (now (g .vel)) (now (g .last))) (sent.Done (masksSent binary64 (g .c) (now (g .pos)))) (brake-judged binary64 (g .c) (now (g .pos)) (now (g .vel)) (now (g .last)) t (length (now (g .out)))) (sym (n .row-refusal .ensures _ (compiled-number (n .before .before .before .before .compile .ensures))) ∙ e .before .if1 .left) (brake-is-sent binary64 (g .c) (now (g .pos)) (now (g .vel)) (now (g .last)) walls (r .before .brake-row .ensures) (r .sent-row .ensures)) (not-false _ (u .before .before .before .before .if2 .left)) (long u) (u .put .ensures) (masks-are-sent binary64 (g .c) (now (g .pos)) walls (c .sent-masks .ensures)) in
+    (w .gives, w .leaves)
 
 pub brake-action-spec : {M : Type 1} → statement M
 brake-action-spec =
@@ -77,11 +114,13 @@ brake-action-spec =
     compile-requires
     all-finite-requires
     all-finite-requires-2
+    last-unfit-requires
     row-refusal-requires
     of-requires
     returns
     workspace-of-requires
     brake-row-requires
+    sent-row-requires
     of-requires-2
     returns-2
     slice-aggregate-put

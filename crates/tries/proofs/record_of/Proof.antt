@@ -5,10 +5,10 @@ use Rattle.tries.proofs.record_of.Statement.{statement}
 use Rattle.tries.proofs.record_of.Tie as tie
 
 abbrev Inv-loop : tie.InvT-loop
-Inv-loop b words₀ numbers₀ i₀ words numbers i = i ≤ 121
+Inv-loop b words₀ numbers₀ i₀ words numbers i = i ≤ 122
 
 abbrev μ-loop : tie.MeasureT-loop
-μ-loop b words₀ numbers₀ i₀ words numbers i = 121 - i
+μ-loop b words₀ numbers₀ i₀ words numbers i = 122 - i
 
 loop-holds : tie.Need-loop-holds Inv-loop μ-loop
 loop-holds c = search needs

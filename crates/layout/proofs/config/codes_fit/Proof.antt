@@ -18,12 +18,6 @@ element-copy-out-result-3 c = search needs
 element-copy-out-result-4 : tie.Need-element-copy-out-result-4
 element-copy-out-result-4 c = search needs
 
-element-copy-out-result-5 : tie.Need-element-copy-out-result-5
-element-copy-out-result-5 c = search needs
-
-element-copy-out-result-6 : tie.Need-element-copy-out-result-6
-element-copy-out-result-6 c = search needs
-
 returns : tie.Need-returns
 unfolding codesFit every every-from
 returns c = refl
@@ -36,6 +30,4 @@ codes-fit-spec =
     element-copy-out-result-2
     element-copy-out-result-3
     element-copy-out-result-4
-    element-copy-out-result-5
-    element-copy-out-result-6
     returns)

@@ -68,21 +68,28 @@ element-copy-out-absent-camera-of c = search needs
 absent-camera-of-requires : tie.Need-absent-camera-of-requires
 absent-camera-of-requires c κs = search needs
 
-element-copy-out-t17 : tie.Need-element-copy-out-t17
-element-copy-out-t17 c = search needs
+element-copy-out-gripper-of : tie.Need-element-copy-out-gripper-of
+element-copy-out-gripper-of c = search needs
 
-element-copy-out-t42 : tie.Need-element-copy-out-t42
-element-copy-out-t42 c = search needs
+gripper-of-requires : tie.Need-gripper-of-requires
+gripper-of-requires c κs = search needs
 
-element-copy-out-t46 : tie.Need-element-copy-out-t46
-element-copy-out-t46 c = search needs
+element-copy-out-t18 : tie.Need-element-copy-out-t18
+element-copy-out-t18 c = search needs
 
-element-copy-out-t50 : tie.Need-element-copy-out-t50
-element-copy-out-t50 c = search needs
+element-copy-out-t45 : tie.Need-element-copy-out-t45
+element-copy-out-t45 c = search needs
+
+element-copy-out-t49 : tie.Need-element-copy-out-t49
+element-copy-out-t49 c = search needs
+
+element-copy-out-t53 : tie.Need-element-copy-out-t53
+element-copy-out-t53 c = search needs
 
 returns : tie.Need-returns
 returns c =
-    let a = c .before .before .before .before in
+    let h = c .before .before .before .before in
+    let a = h .before .before in
     let l = a .before .before .before .before in
     let b = l .before .before .before .before .before in
     let w = b .before .before .before .before .before .before .before in
@@ -103,6 +110,7 @@ returns c =
     (l .calibration-of .ensures)
     (a .before .before .to-u322 .ensures)
     (a .absent-camera-of .ensures)
+    (h .gripper-of .ensures)
 
 pub config-of-spec : {M : Type 1} → statement M
 config-of-spec =
@@ -129,8 +137,10 @@ config-of-spec =
     to-u32-requires-2
     element-copy-out-absent-camera-of
     absent-camera-of-requires
-    element-copy-out-t17
-    element-copy-out-t42
-    element-copy-out-t46
-    element-copy-out-t50
+    element-copy-out-gripper-of
+    gripper-of-requires
+    element-copy-out-t18
+    element-copy-out-t45
+    element-copy-out-t49
+    element-copy-out-t53
     returns)

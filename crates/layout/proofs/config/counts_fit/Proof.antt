@@ -8,6 +8,9 @@ use Rattle.layout.proofs.config.counts_fit.Tie as tie
 codes-fit-requires : tie.Need-codes-fit-requires
 codes-fit-requires c κs = search needs
 
+choices-fit-requires : tie.Need-choices-fit-requires
+choices-fit-requires c κs = search needs
+
 fields-fit-requires : tie.Need-fields-fit-requires
 fields-fit-requires c κs = search needs
 
@@ -22,13 +25,14 @@ element-copy-out-result-2 c = search needs
 
 returns : tie.Need-returns
 unfolding countsFit every every-from
-returns c = rw (c .before .before .zones-held .ensures, c .before .before .before .fields-fit .ensures, c .before .before .before .before .codes-fit .ensures)
+returns c = rw (c .before .before .zones-held .ensures, c .before .before .before .fields-fit .ensures, c .before .before .before .before .choices-fit .ensures, c .before .before .before .before .before .codes-fit .ensures)
 
 pub counts-fit-spec : {M : Type 1} → statement M
 counts-fit-spec =
     tie.close
     (tie.spec
     codes-fit-requires
+    choices-fit-requires
     fields-fit-requires
     zones-held-requires
     element-copy-out-result

@@ -27,9 +27,9 @@ same-length c = search needs
 
 returns-2 : tie.Need-returns-2
 returns-2 c =
-    let s = c .before .before .before .before .before .before .before .before .before .before .before .before .args in
+    let s = c .before .before .before .before .before .before .before .before .before .before .before .before .before .args in
     sent-fits (not-false _ (c .before .before .before .before .before .before .before .if1 .left)) (c .before .before .before .before .before .before .before .before .counts-fit .ensures)
-    (brake-alike (tables (now (s .center)) (now (s .scale))) (now (s .pos)) (now (s .vel)) (now (s .out)) (c .before .before .before .before .brake-action .ensures) (c .before .before .before .before .before .before .config-of .ensures))
+    (brake-alike (tables (now (s .center)) (now (s .scale))) (now (s .pos)) (now (s .vel)) (now (s .last)) (now (s .out)) (c .before .before .before .before .brake-action .ensures) (c .before .before .before .before .before .before .config-of .ensures))
     (c .put-sent .ensures)
 
 pub lictor-brake-action-spec : {M : Type 1} → statement M

@@ -27,9 +27,9 @@ same-length c = search needs
 
 returns-2 : tie.Need-returns-2
 returns-2 c =
-    let s = c .before .before .before .before .before .before .before .before .before .before .before .args in
+    let s = c .before .before .before .before .before .before .before .before .before .before .before .before .args in
     sent-fits (not-false _ (c .before .before .before .before .before .before .before .if1 .left)) (c .before .before .before .before .before .before .before .before .counts-fit .ensures)
-    (hold-alike (tables (now (s .center)) (now (s .scale))) (now (s .pos)) (now (s .out)) (c .before .before .before .before .hold-action .ensures) (c .before .before .before .before .before .before .config-of .ensures))
+    (hold-alike (tables (now (s .center)) (now (s .scale))) (now (s .pos)) (now (s .last)) (now (s .out)) (c .before .before .before .before .hold-action .ensures) (c .before .before .before .before .before .before .config-of .ensures))
     (c .put-sent .ensures)
 
 pub lictor-hold-action-spec : {M : Type 1} → statement M
