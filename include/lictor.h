@@ -36,10 +36,10 @@
 /* ---- the version of this file, and so of the archive that it was installed with */
 
 #define LICTOR_VERSION_MAJOR 0
-#define LICTOR_VERSION_MINOR 7
+#define LICTOR_VERSION_MINOR 8
 #define LICTOR_VERSION_PATCH 0
-#define LICTOR_VERSION "0.7.0"
-/* for comparisons: LICTOR_VERSION_NUMBER >= 700 is 0.7.0 or later */
+#define LICTOR_VERSION "0.8.0"
+/* for comparisons: LICTOR_VERSION_NUMBER >= 800 is 0.8.0 or later */
 #define LICTOR_VERSION_NUMBER (LICTOR_VERSION_MAJOR * 10000 + LICTOR_VERSION_MINOR * 100 + LICTOR_VERSION_PATCH)
 
 /* ---- what a compiler is told: a result that is dropped and a null pointer are mistakes */
@@ -72,8 +72,9 @@ extern "C" {
    where the table has nothing against it; a zone's two channels are judged by themselves in this, so that a pair that its fields cannot
    hold, with nothing against it alone, is LICTOR_MISFIT also where another zone has the same pair. What is not there is not judged: a term
    past n_terms, the numbers and channels of a zone past the count, the centre and the radius of a round table where the shape is the box,
-   the walls of the first two axes where it is a disc, the calibration's counts without a calibration, and what the header of a buffer that
-   holds no chunk says of one. (What is there and not read is judged, as react_ticks is for the second-order brake.) The width of an
+   the walls of the first two axes where it is a disc, the calibration's counts without a calibration, the last command of a brake or a hold
+   under LICTOR_GRIPPER_TO_ZERO, and what the header of a buffer that holds no chunk says of one. (What is there and not read is judged, as
+   react_ticks is for the second-order brake, and the last command of a velocity kind under LICTOR_GRIPPER_LAST_COMMAND.) The width of an
    argument that is passed by itself is its C type; C cuts what is wider before the call. */
 
 enum lictor_refusal {
@@ -99,14 +100,15 @@ enum lictor_refusal {
     LICTOR_LEN_MISMATCH = 9,
     /* a chunk's width differs from dim */
     LICTOR_WIDTH = 10,
-    /* a slice is too short */
+    /* a slice is too short; a last command under LICTOR_GRIPPER_LAST_COMMAND alone */
     LICTOR_SHORT = 11,
-    /* a number of an input slice, of a trail, of held features or of scores isn't finite */
+    /* a number of an input slice, of a trail, of held features or of scores isn't finite; of a last command
+       under LICTOR_GRIPPER_LAST_COMMAND alone */
     LICTOR_NOT_FINITE = 12,
     /* a computed number isn't finite */
     LICTOR_COMPUTED = 13,
     /* the boundary's own: a code or a flag is none of its kind, or a count doesn't fit its field and no number above is for it; of a
-       guard form also: a pointer is null and its count isn't 0 */
+       guard form also: a pointer is null and its count isn't 0, a last command's under LICTOR_GRIPPER_LAST_COMMAND alone */
     LICTOR_MISFIT = 255
 };
 
@@ -270,7 +272,7 @@ uint64_t lictor_trail_len(const double numbers[256], const struct lictor_trail_m
 LICTOR_MUST_USE LICTOR_NOT_NULL
 uint64_t lictor_trail_is_empty(const double numbers[256], const struct lictor_trail_marks *marks, uint64_t *empty);
 
-/* ---- the configuration: 53 numbers, 34 counts and codes, and the calibration's two tables */
+/* ---- the configuration: 53 numbers, 35 counts and codes, and the calibration's two tables */
 
 /* How many slow zones one arm may have. The first one is contact_radius, contact_v_max, contact_a0 and contact_a1; the fields of the others,
    contact1, contact2 and contact3, stand at the ends of the two structs. A zone past the count is not read. */
@@ -312,6 +314,7 @@ struct lictor_counts {
     uint64_t contact2_a0, contact2_a1;        /* 29..30: the third's */
     uint64_t contact3_a0, contact3_a1;        /* 31..32: the fourth's */
     uint64_t shape;                           /* 33: a code, LICTOR_BOX or LICTOR_DISC */
+    uint64_t gripper;                         /* 34: a code, LICTOR_GRIPPER_TO_ZERO or LICTOR_GRIPPER_LAST_COMMAND */
 };
 
 /* codes of kind */
@@ -344,6 +347,13 @@ struct lictor_counts {
    walls. A round table with dim or pos_dim below 2 is LICTOR_SHAPE. */
 #define LICTOR_BOX 0
 #define LICTOR_DISC 1
+
+/* codes of gripper: what a row of positions that brakes or holds has on the axes past pos_dim, where there are no walls. All zeros has the
+   first: 0, which opens a gripper that stands there. With the second it is the last command, which the caller lends, bit for bit: the
+   gripper stays as it was told. Axes within pos_dim are the same under both, and so are the rows of LICTOR_EE_DELTA and
+   LICTOR_JOINT_VELOCITY. */
+#define LICTOR_GRIPPER_TO_ZERO 0
+#define LICTOR_GRIPPER_LAST_COMMAND 1
 
 /* trip bits */
 #define LICTOR_TRIP_WORKSPACE 1
@@ -548,35 +558,45 @@ uint64_t lictor_brake_feasible(const struct lictor_numbers *numbers, const struc
 
 /* At which wall the position of a row that brakes or holds was stopped: bit j is coordinate j, counted from 0, of the first min(dim,
    pos_dim). A position on its wall sets none, a round table sets none of its two axes, and what a short position lacks counts as 0. Both are
-   0 for LICTOR_EE_DELTA and LICTOR_JOINT_VELOCITY; what is armed and the clamp code don't matter. */
+   0 for LICTOR_EE_DELTA and LICTOR_JOINT_VELOCITY; what is armed, the clamp code, the gripper code and the last command don't matter. */
 struct lictor_wall_marks {
     uint64_t low_dims;  /* a bit for each axis that was raised to its low wall */
     uint64_t high_dims; /* a bit for each axis that was lowered to its high wall */
 };
 
 /* The row that brakes, over the first dim numbers of out: the position moved inside its workspace, or the velocity ramped down; and the marks
-   of the walls that moved it. A position or velocity may be short: what is missing counts as 0. LICTOR_MISFIT, LICTOR_SIZE to
-   LICTOR_WITHDRAWN, LICTOR_SHORT to LICTOR_COMPUTED. */
+   of the walls that moved it. A position or velocity may be short: what is missing counts as 0.
+   last is the last command, the row that was sent before. Under LICTOR_GRIPPER_LAST_COMMAND a row of positions has its numbers past pos_dim;
+   for every kind, and also where dim is at most pos_dim, fewer than dim numbers are LICTOR_SHORT, and any that isn't finite, read or not,
+   is LICTOR_NOT_FINITE. Under LICTOR_GRIPPER_TO_ZERO last is neither judged nor read: LICTOR_NONE with 0 may be passed. Under both, last and
+   out may not overlap: a caller who keeps the last row in one buffer has the next one written to another, and copies it after the call.
+   LICTOR_MISFIT, LICTOR_SIZE to LICTOR_WITHDRAWN, LICTOR_SHORT to LICTOR_COMPUTED. */
 LICTOR_MUST_USE LICTOR_NOT_NULL
 uint64_t lictor_brake_action(const struct lictor_numbers *numbers, const struct lictor_counts *counts,
                              const double center[192], const double scale[192], const double *position,
-                             size_t position_count, const double *velocity, size_t velocity_count, double *out,
-                             size_t out_count, struct lictor_wall_marks *walls);
+                             size_t position_count, const double *velocity, size_t velocity_count, const double *last,
+                             size_t last_count, double *out, size_t out_count, struct lictor_wall_marks *walls);
 
 /* The row that holds, over the first dim numbers of out: the latched position moved inside its workspace, or no velocity; and the marks
-   likewise. LICTOR_MISFIT, LICTOR_SIZE to LICTOR_WITHDRAWN, LICTOR_SHORT to LICTOR_COMPUTED. The last is for a position whose distance from
-   the centre of a round table, or what is computed to move it, isn't finite: at a box it is never given. */
+   likewise.
+   last is the last command, the row that was sent before. Under LICTOR_GRIPPER_LAST_COMMAND a row of positions has its numbers past pos_dim;
+   for every kind, and also where dim is at most pos_dim, fewer than dim numbers are LICTOR_SHORT, and any that isn't finite, read or not,
+   is LICTOR_NOT_FINITE. Under LICTOR_GRIPPER_TO_ZERO last is neither judged nor read: LICTOR_NONE with 0 may be passed. Under both, last and
+   out may not overlap: a caller who keeps the last row in one buffer has the next one written to another, and copies it after the call.
+   LICTOR_MISFIT, LICTOR_SIZE to LICTOR_WITHDRAWN, LICTOR_SHORT to LICTOR_COMPUTED. LICTOR_COMPUTED is for a position whose distance from the
+   centre of a round table, or what is computed to move it, isn't finite: at a box it is never given. */
 LICTOR_MUST_USE LICTOR_NOT_NULL
 uint64_t lictor_hold_action(const struct lictor_numbers *numbers, const struct lictor_counts *counts,
                             const double center[192], const double scale[192], const double *position,
-                            size_t position_count, double *out, size_t out_count, struct lictor_wall_marks *walls);
+                            size_t position_count, const double *last, size_t last_count, double *out, size_t out_count,
+                            struct lictor_wall_marks *walls);
 
 /* ---- guard forms: the entries that take a configuration, a calibration or a chunk, on one struct for each
 
    Where the entry is handed several arrays that belong together, its guard form is handed the struct that has them, so that no array of
    another configuration comes in between. A null pointer with a count of 0 is a slice of no numbers, as of a camera that is silent (an arm
-   that has zones and no camera on purpose sets LICTOR_ABSENT_CAMERA_NO_ZONE); with any other count it is refused with LICTOR_MISFIT. A
-   pointer that has no count is not null. */
+   that has zones and no camera on purpose sets LICTOR_ABSENT_CAMERA_NO_ZONE); with any other count it is refused with LICTOR_MISFIT, save
+   that a last command is no argument under LICTOR_GRIPPER_TO_ZERO. A pointer that has no count is not null. */
 
 /* A configuration with its calibration. Start from all zeros, then set what the arm has. lictor_guard_derive judges it; so does every call. */
 struct lictor_config {
@@ -606,6 +626,12 @@ static inline const double *lictor_lent(const double *numbers) { return numbers 
 /* Whether a pointer is null and yet has numbers. */
 LICTOR_MUST_USE
 static inline int lictor_missing(const double *numbers, size_t count) { return !numbers && count > 0; }
+
+/* The same of a last command, which is an argument under LICTOR_GRIPPER_LAST_COMMAND alone. */
+LICTOR_MUST_USE
+static inline int lictor_last_missing(const struct lictor_config *config, const double *last, size_t last_count) {
+    return config->counts.gripper == LICTOR_GRIPPER_LAST_COMMAND && lictor_missing(last, last_count);
+}
 
 /* lictor_derive */
 LICTOR_MUST_USE LICTOR_NOT_NULL
@@ -737,27 +763,30 @@ static inline uint64_t lictor_guard_brake_feasible(const struct lictor_config *c
                                  distances, place);
 }
 
-/* lictor_brake_action */
+/* lictor_brake_action; last and out may not overlap. Under LICTOR_GRIPPER_TO_ZERO a null last is no numbers, whatever its count. */
 LICTOR_MUST_USE
 static inline uint64_t lictor_guard_brake_action(const struct lictor_config *config, const double *position,
                                                  size_t position_count, const double *velocity, size_t velocity_count,
-                                                 double *out, size_t out_count, struct lictor_wall_marks *walls) {
+                                                 const double *last, size_t last_count, double *out, size_t out_count,
+                                                 struct lictor_wall_marks *walls) {
     double none = 0.0;
-    if (lictor_missing(position, position_count) || lictor_missing(velocity, velocity_count) || lictor_missing(out, out_count))
+    if (lictor_missing(position, position_count) || lictor_missing(velocity, velocity_count) ||
+        lictor_last_missing(config, last, last_count) || lictor_missing(out, out_count))
         return LICTOR_MISFIT;
     return lictor_brake_action(LICTOR_CONFIG_PARTS(config), lictor_lent(position), position_count, lictor_lent(velocity),
-                               velocity_count, out ? out : &none, out_count, walls);
+                               velocity_count, lictor_lent(last), last ? last_count : 0, out ? out : &none, out_count, walls);
 }
 
-/* lictor_hold_action */
+/* lictor_hold_action; last and out likewise */
 LICTOR_MUST_USE
 static inline uint64_t lictor_guard_hold_action(const struct lictor_config *config, const double *position,
-                                                size_t position_count, double *out, size_t out_count,
-                                                struct lictor_wall_marks *walls) {
+                                                size_t position_count, const double *last, size_t last_count, double *out,
+                                                size_t out_count, struct lictor_wall_marks *walls) {
     double none = 0.0;
-    if (lictor_missing(position, position_count) || lictor_missing(out, out_count)) return LICTOR_MISFIT;
-    return lictor_hold_action(LICTOR_CONFIG_PARTS(config), lictor_lent(position), position_count, out ? out : &none, out_count,
-                              walls);
+    if (lictor_missing(position, position_count) || lictor_last_missing(config, last, last_count) || lictor_missing(out, out_count))
+        return LICTOR_MISFIT;
+    return lictor_hold_action(LICTOR_CONFIG_PARTS(config), lictor_lent(position), position_count, lictor_lent(last),
+                              last ? last_count : 0, out ? out : &none, out_count, walls);
 }
 
 /* ---- the structs have nothing between their fields */
@@ -770,7 +799,7 @@ static inline uint64_t lictor_guard_hold_action(const struct lictor_config *conf
 LICTOR_ASSERT(lictor_chunk_header, 6);
 LICTOR_ASSERT(lictor_trail_marks, 2);
 LICTOR_ASSERT(lictor_numbers, 53);
-LICTOR_ASSERT(lictor_counts, 34);
+LICTOR_ASSERT(lictor_counts, 35);
 LICTOR_ASSERT(lictor_derived, 29);
 LICTOR_ASSERT(lictor_check_marks, 4);
 LICTOR_ASSERT(lictor_held_marks, 2);
@@ -780,7 +809,7 @@ LICTOR_ASSERT(lictor_forecast_distances, 2);
 LICTOR_ASSERT(lictor_wall_marks, 2);
 LICTOR_ASSERT(lictor_scores, 25);
 LICTOR_ASSERT(lictor_marks, 2);
-LICTOR_ASSERT(lictor_config, 53 + 34 + 192 + 192);
+LICTOR_ASSERT(lictor_config, 53 + 35 + 192 + 192);
 #undef LICTOR_ASSERT
 
 #ifdef __cplusplus

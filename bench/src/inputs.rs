@@ -2,8 +2,8 @@
 
 use differential::rng::Rng;
 use model::{
-    AbsentCamera, BrakeModel, Calibration, ChunkBuf, ChunkView, ClampMode, ContactLimit, FuseConfig, Scores, Shape,
-    Tier1Rt, Trail, Zones, NAMED,
+    AbsentCamera, BrakeModel, Calibration, ChunkBuf, ChunkView, ClampMode, ContactLimit, FuseConfig, Gripper, Scores,
+    Shape, Tier1Rt, Trail, Zones, NAMED,
 };
 
 /// Numbers in [0, 1), the same in every run.
@@ -33,6 +33,11 @@ pub fn second_order(dim: usize) -> FuseConfig {
     let brake =
         BrakeModel { k_p: 100.0, k_v: 20.0, dt: 0.01, substeps: 64, commit: 64, react: 1, ..FuseConfig::PLAIN.brake };
     FuseConfig { brake, ..boxed(dim) }
+}
+
+/// Positions of seven axes, and a gripper past them.
+pub fn gripping(gripper: Gripper) -> FuseConfig {
+    FuseConfig { pos_dim: 7, gripper, ..boxed(8) }
 }
 
 /// Everything armed, the position inside the slow zone, limits that some rows exceed.

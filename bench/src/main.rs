@@ -8,7 +8,7 @@ mod inputs;
 use std::{env, hint::black_box, time::Instant};
 
 use differential::{linked, port::Port};
-use model::{ClampMode, FuseConfig};
+use model::{ClampMode, FuseConfig, Gripper};
 use oracle::rust::{self, brake, conformal, fmath, tier0, tier1};
 
 const ROUNDS: usize = 15;
@@ -87,6 +87,10 @@ fn main() {
     check_chunk(&port, "check_chunk 64 x 8, round table", &round, &inputs::numbers(512));
     check_chunk(&port, "check_chunk 64 x 8, beyond a table", &round, &inputs::about_the_walls(512));
     check_action(&port, "check_action, 8 axes, round table", &round);
+    for (mode, gripper) in [("", Gripper::ToZero), (", last command", Gripper::LastCommand)] {
+        brake_action(&port, &format!("brake_action, 8 axes{mode}"), &inputs::gripping(gripper));
+        hold_action(&port, &format!("hold_action, 8 axes{mode}"), &inputs::gripping(gripper));
+    }
     features(&port, true);
     features(&port, false);
     gate(&port);
@@ -190,9 +194,9 @@ fn forecast(port: &Port, name: &str, cfg: &FuseConfig) {
     line(name, 10, rust, ported);
 }
 
-/// The configuration as the Rust has it, which is with a box, and with one zone or none.
+/// The configuration as the Rust has it, which is with a box, with one zone or none, and without a last command.
 fn in_the_rust(cfg: &FuseConfig) -> Option<rust::FuseConfig> {
-    (!cfg.shape.disc && cfg.zones.count <= 1).then(|| oracle::config(cfg))
+    (!cfg.shape.disc && cfg.zones.count <= 1 && cfg.gripper == Gripper::ToZero).then(|| oracle::config(cfg))
 }
 
 /// Everything armed. Beside the Rust's trips and moved axes the port gives the walls that stopped them.
@@ -224,6 +228,33 @@ fn check_action(port: &Port, name: &str, cfg: &FuseConfig) {
     let ported = port
         .check_action
         .map(|_| calls(1000, move || lictor::tier0::check_action(black_box(&cfg), pos, aux, prev, a, &mut out)));
+    line(name, 1000, rust, ported);
+}
+
+fn brake_action(port: &Port, name: &str, cfg: &FuseConfig) {
+    let raw = in_the_rust(cfg);
+    let (pos, vel, last) = (&inputs::numbers(8), &inputs::numbers(8), &inputs::numbers(8));
+    let mut to = [0.0; 8];
+    let rust =
+        raw.as_ref().map(|raw| calls(1000, || brake::brake_action(black_box(raw), pos, vel, black_box(&mut to))));
+    let mut out = [0.0; 8];
+    let cfg = linked::config(cfg);
+    let ported = port.brake_action.map(|_| {
+        calls(1000, move || lictor::brake::brake_action(black_box(&cfg), pos, vel, last, black_box(&mut out)))
+    });
+    line(name, 1000, rust, ported);
+}
+
+fn hold_action(port: &Port, name: &str, cfg: &FuseConfig) {
+    let raw = in_the_rust(cfg);
+    let (pos, last) = (&inputs::numbers(8), &inputs::numbers(8));
+    let mut to = [0.0; 8];
+    let rust = raw.as_ref().map(|raw| calls(1000, || brake::hold_action(black_box(raw), pos, black_box(&mut to))));
+    let mut out = [0.0; 8];
+    let cfg = linked::config(cfg);
+    let ported = port
+        .hold_action
+        .map(|_| calls(1000, move || lictor::brake::hold_action(black_box(&cfg), pos, last, black_box(&mut out))));
     line(name, 1000, rust, ported);
 }
 
@@ -309,7 +340,7 @@ fn tick(port: &Port) {
         lictor::tier0::check_chunk(&cfg, &pos, &aux, ch, &mut rows)?;
         let projected = lictor::chunk::ChunkView { data: &rows, ..ch };
         let told = lictor::brake::brake_feasible(&cfg, &pos, &vel, projected, 0, &mut slacks)?;
-        lictor::brake::brake_action(&cfg, &pos, &vel, &mut row)?;
+        lictor::brake::brake_action(&cfg, &pos, &vel, &[], &mut row)?;
         Ok((window.hits(), told.feasible))
     };
     once().expect("a tick that is accepted");

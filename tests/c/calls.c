@@ -139,7 +139,7 @@ static int shown(uint64_t at, uint64_t value) {
     return 0;
 }
 
-/* the place of a count among the configuration's 34 */
+/* the place of a count among the configuration's 35 */
 #define AT(count) (offsetof(struct lictor_counts, count) / sizeof(uint64_t))
 
 /* Both sides of the edge of each count that the table or its field bounds. */
@@ -192,6 +192,8 @@ static void widths(void) {
         /* of one axis a disc is too much, and of two it is not (round_tables) */
         {AT(shape), 0, 0}, {AT(shape), 1, 15}, {AT(shape), 2, 255}, {AT(shape), 255, 255}, {AT(shape), 256, 255}, {AT(shape), bits, 255},
         {AT(shape), bits + 1, 255}, {AT(shape), most, 255},
+        {AT(gripper), 0, 0}, {AT(gripper), 1, 0}, {AT(gripper), 2, 255}, {AT(gripper), 255, 255}, {AT(gripper), 256, 255},
+        {AT(gripper), 257, 255}, {AT(gripper), bits, 255}, {AT(gripper), bits + 1, 255}, {AT(gripper), most, 255},
     };
     const struct {
         uint64_t a0, a1, aux, due;
@@ -491,8 +493,8 @@ static void turntable(void) {
 #define MOVING(from, vel, first) \
     lictor_brake_feasible(&n, &c, center, scale, from, 3, vel, 3, origin, 3, 1, 3, 1, first, slacks, 2, &f, &r, &place)
 #define FORECAST(from, first) MOVING(from, origin, first)
-#define BRAKE(pos, count) lictor_brake_action(&n, &c, center, scale, pos, count, origin, 3, out, 3, &w)
-#define HOLD(pos, count) lictor_hold_action(&n, &c, center, scale, pos, count, out, 3, &w)
+#define BRAKE(pos, count) lictor_brake_action(&n, &c, center, scale, pos, count, origin, 3, LICTOR_NONE, 0, out, 3, &w)
+#define HOLD(pos, count) lictor_hold_action(&n, &c, center, scale, pos, count, LICTOR_NONE, 0, out, 3, &w)
 #define OUT(x, y, z) (out[0] == (x) && out[1] == (y) && out[2] == (z))
 #define MARKS(raised, moved, low, high) (m.trips == (raised) && m.clamped_dims == (moved) && m.low_dims == (low) && m.high_dims == (high))
     table(&n, &c);
@@ -737,8 +739,8 @@ static void cameras(void) {
 #undef PASSED
 }
 
-/* The edges of the choice's code, of the shape's code and of the count of zones, and a fourth zone that is refused, at every entry that takes a
-   configuration: a refused call writes nothing. */
+/* The edges of the choice's code, of the shape's code, of the gripper's code and of the count of zones, and a fourth zone that is refused, at
+   every entry that takes a configuration: a refused call writes nothing. */
 static void codes(void) {
     static struct lictor_tier1 t;
     const uint64_t most = UINT64_MAX, bits = UINT64_C(1) << 32;
@@ -753,6 +755,8 @@ static void codes(void) {
         {AT(contact3_a0), 7, 4}, {AT(contact3_a1), 8, 4}, {AT(contact3_a1), 300, 4},
         {AT(shape), 0, 0}, {AT(shape), 1, 15}, {AT(shape), 2, 255}, {AT(shape), 3, 255}, {AT(shape), 256, 255}, {AT(shape), bits, 255},
         {AT(shape), bits + 1, 255}, {AT(shape), most, 255},
+        {AT(gripper), 0, 0}, {AT(gripper), 1, 0}, {AT(gripper), 2, 255}, {AT(gripper), 3, 255}, {AT(gripper), 256, 255},
+        {AT(gripper), 257, 255}, {AT(gripper), bits, 255}, {AT(gripper), bits + 1, 255}, {AT(gripper), most, 255},
     };
     struct lictor_numbers n;
     struct lictor_counts c;
@@ -783,10 +787,10 @@ static void codes(void) {
         CODE(lictor_brake_feasible(&n, &c, center, scale, origin, 1, origin, 1, origin, 1, 1, 1, 1, 0, slacks, 1, &f, &r, &place));
         EXPECT((f.count == 7) == (due != 0) && (slacks[0] == 7.0) == (due != 0) && place == (due == 0 || due == LICTOR_MISFIT ? 7 : 0));
         out[0] = 7.0;
-        CODE(lictor_brake_action(&n, &c, center, scale, origin, 1, origin, 1, out, 1, &w));
+        CODE(lictor_brake_action(&n, &c, center, scale, origin, 1, origin, 1, origin, 1, out, 1, &w));
         EXPECT((w.low_dims == 7) == (due != 0) && (out[0] == 7.0) == (due != 0));
         w.low_dims = 7, out[0] = 7.0;
-        CODE(lictor_hold_action(&n, &c, center, scale, origin, 1, out, 1, &w));
+        CODE(lictor_hold_action(&n, &c, center, scale, origin, 1, origin, 1, out, 1, &w));
         EXPECT((w.low_dims == 7) == (due != 0) && (out[0] == 7.0) == (due != 0));
 #undef CODE
     }
@@ -863,8 +867,8 @@ static void brakes(void) {
     n.brake_k_p = 1e308;
     EXPECT(FORECAST(0, 5) == LICTOR_COMPUTED && place == 2 && m.count == 0 && slacks[0] < -1e307 && slacks[1] == 0.25);
 #undef FORECAST
-#define BRAKE(pos, count, room) lictor_brake_action(&n, &c, center, scale, pos, count, still, 1, out, room, &w)
-#define HOLD(pos, count, room) lictor_hold_action(&n, &c, center, scale, pos, count, out, room, &w)
+#define BRAKE(pos, count, room) lictor_brake_action(&n, &c, center, scale, pos, count, still, 1, LICTOR_NONE, 0, out, room, &w)
+#define HOLD(pos, count, room) lictor_hold_action(&n, &c, center, scale, pos, count, LICTOR_NONE, 0, out, room, &w)
     EXPECT(BRAKE(far, 1, 2) == LICTOR_ACCEPTED && out[0] == 1.25 && out[1] == 7.0 && w.low_dims == 0 && w.high_dims == 1);
     EXPECT(HOLD(still, 0, 2) == LICTOR_ACCEPTED && out[0] == 0.0 && out[1] == 7.0 && w.low_dims == 0 && w.high_dims == 0);
     /* a position that is missing counts as 0, below a low wall above 0 */
@@ -887,6 +891,99 @@ static void brakes(void) {
     w.low_dims = w.high_dims = UINT64_MAX, c.kind = LICTOR_JOINT_VELOCITY;
     EXPECT(HOLD(far, 1, 2) == LICTOR_ACCEPTED && out[0] == 0.0 && w.low_dims == 0 && w.high_dims == 0);
 #undef BRAKE
+#undef HOLD
+}
+
+/* A row that brakes or holds, written over sevens, and its marks. */
+struct sent {
+    uint64_t number;
+    double row[9];
+    struct lictor_wall_marks walls;
+};
+
+/* What is there where a call is refused with this number. */
+static struct sent left(uint64_t number) {
+    struct sent s = {number, {0.0}, {7, 7}};
+    for (int i = 0; i < 9; i++) s.row[i] = 7.0;
+    return s;
+}
+
+/* Whether two calls answer and write the same, bit for bit. */
+static int alike(struct sent a, struct sent b) { return memcmp(&a, &b, sizeof a) == 0; }
+
+/* An arm that moves, beyond a wall on four of its axes, brakes or holds. */
+static struct sent braked(const struct lictor_numbers *n, const struct lictor_counts *c, int holds, const double *last, size_t last_count) {
+    const double position[8] = {5.0, -5.0, 0.25, 2.0, -3.0, 0.5, -0.5, 0.125}, velocity[8] = {0.5, -0.5, 0.25, 2.0, 1.0, -1.0, 0.5, 0.25};
+    struct sent s = left(0);
+    s.number = holds ? lictor_hold_action(n, c, center, scale, position, 8, last, last_count, s.row, 9, &s.walls)
+                     : lictor_brake_action(n, c, center, scale, position, 8, velocity, 8, last, last_count, s.row, 9, &s.walls);
+    return s;
+}
+
+/* Brake and hold in both modes of the gripper, for every kind, with dim above, at and below pos_dim, at a box and on a round table, with last
+   commands from no number to one more than dim, of which none or any one is not finite. */
+static void grippers(void) {
+    /* a zero that has a sign, the least number and the greatest: they are kept bit for bit */
+    const double command[9] = {0.75, -0.0, 0x1p-1074, -0.875, 9.0, -0.0, 0x1.fffffffffffffp1023, -7.0, 3.0};
+    const uint64_t sizes[9][2] = {{1, 1}, {2, 1}, {4, 2}, {8, 1}, {8, 3}, {3, 3}, {8, 8}, {2, 4}, {1, 8}};
+    struct lictor_numbers n;
+    struct lictor_counts c;
+    for (unsigned setting = 0; setting < 9 * 5 * 2 * 2; setting++) {
+        const uint64_t dim = sizes[setting / 20][0], pos_dim = sizes[setting / 20][1];
+        const int holds = setting % 2;
+        struct sent zeroed, kept;
+        table(&n, &c);
+        c.dim = dim, c.pos_dim = pos_dim, c.kind = setting / 4 % 5, c.shape = setting / 2 % 2, n.a_max = 0.5;
+        n.box_lo[0] = n.box_lo[1] = -1.0, n.box_hi[0] = n.box_hi[1] = n.disc_radius = 1.0;
+        if (c.shape == LICTOR_DISC && (dim < 2 || pos_dim < 2)) continue;
+        zeroed = kept = braked(&n, &c, holds, LICTOR_NONE, 0);
+        EXPECT(zeroed.number == LICTOR_ACCEPTED);
+        for (uint64_t j = pos_dim; j < dim && c.kind != LICTOR_EE_DELTA && c.kind != LICTOR_JOINT_VELOCITY; j++) {
+            EXPECT(zeroed.row[j] == 0.0);
+            kept.row[j] = command[j];
+        }
+        for (size_t count = 0; count <= dim + 1; count++) {
+            /* the place of a number that is not finite; none where it is the count */
+            for (size_t unfit = 0; unfit <= count; unfit++) {
+                double last[10];
+                memcpy(last, command, sizeof command);
+                last[unfit] = unfit % 2 ? -INFINITY : NAN;
+                c.gripper = LICTOR_GRIPPER_TO_ZERO;
+                EXPECT(alike(braked(&n, &c, holds, last, count), zeroed) || shown(setting, count));
+                c.gripper = LICTOR_GRIPPER_LAST_COMMAND;
+                EXPECT(alike(braked(&n, &c, holds, last, count),
+                             count < dim ? left(LICTOR_SHORT) : unfit < count ? left(LICTOR_NOT_FINITE) : kept) ||
+                       shown(setting, count));
+            }
+        }
+    }
+    /* the whole row of an arm of two axes with two grippers, by both entries; what is beyond a wall is marked as ever */
+    table(&n, &c);
+    c.shape = LICTOR_BOX, c.dim = 4, c.pos_dim = 2, n.box_lo[0] = n.box_lo[1] = -1.0, n.box_hi[0] = n.box_hi[1] = 1.0;
+    for (int holds = 0; holds < 2; holds++) {
+        const struct sent zeroed = {0, {1.0, -1.0, 0.0, 0.0, 7.0, 7.0, 7.0, 7.0, 7.0}, {2, 1}};
+        const struct sent kept = {0, {1.0, -1.0, 0x1p-1074, -0.875, 7.0, 7.0, 7.0, 7.0, 7.0}, {2, 1}};
+        c.gripper = LICTOR_GRIPPER_TO_ZERO;
+        EXPECT(alike(braked(&n, &c, holds, command, 4), zeroed));
+        c.gripper = LICTOR_GRIPPER_LAST_COMMAND;
+        EXPECT(alike(braked(&n, &c, holds, command, 4), kept));
+        /* the configuration is judged before the last command is */
+        c.substeps = 0;
+        EXPECT(alike(braked(&n, &c, holds, LICTOR_NONE, 0), left(LICTOR_STEPS)));
+        c.substeps = 1, c.gripper = 2;
+        EXPECT(alike(braked(&n, &c, holds, command, 4), left(LICTOR_MISFIT)));
+    }
+    /* 11 comes before 12, and 12 before 13, which a round table gives; one array may be lent twice where both are read alone */
+    const double lost[3] = {1e200, 0.0, 0.5}, unfit[3] = {0.0, 0.0, NAN};
+    struct sent s = left(0);
+#define HOLD(pos, last, last_count, room) lictor_hold_action(&n, &c, center, scale, pos, 3, last, last_count, s.row, room, &s.walls)
+    table(&n, &c);
+    c.pos_dim = 2, c.gripper = LICTOR_GRIPPER_LAST_COMMAND;
+    EXPECT(HOLD(unfit, unfit + 1, 2, 3) == LICTOR_SHORT && HOLD(lost, unfit, 3, 2) == LICTOR_SHORT);
+    EXPECT(HOLD(lost, unfit, 3, 3) == LICTOR_NOT_FINITE && HOLD(unfit, lost, 3, 3) == LICTOR_NOT_FINITE);
+    EXPECT(HOLD(lost, lost, 3, 3) == LICTOR_COMPUTED && alike(s, left(0)));
+    n.disc_x = 1e200;
+    EXPECT(HOLD(lost, lost, 3, 3) == LICTOR_ACCEPTED && s.row[0] == 1e200 && s.row[1] == 0.0 && s.row[2] == 0.5 && s.row[3] == 7.0);
 #undef HOLD
 }
 
@@ -946,6 +1043,7 @@ int main(void) {
     codes();
     features();
     brakes();
+    grippers();
     gate();
     puts(failed ? "C calls: failed" : "C calls: as expected");
     return failed;

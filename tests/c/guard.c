@@ -53,7 +53,7 @@ static struct lictor_config arm(void) {
 
 /* What the calls below read and write. */
 struct tick {
-    double pos[AXES], vel[AXES], aux[CHANNELS], ext[4], rows[ROWS * AXES], previous[AXES];
+    double pos[AXES], vel[AXES], aux[CHANNELS], ext[4], rows[ROWS * AXES], previous[AXES], last[AXES + 1];
     double out[ROWS * AXES], row[AXES], slacks[64], speed;
     struct lictor_tier1 state;
     struct lictor_scores scores;
@@ -67,6 +67,25 @@ struct tick {
 };
 
 static const uint32_t terms[8] = {3, 60};
+
+/* What all guard forms that take a configuration answer, or no refusal's number where they differ. */
+static uint64_t every_form(const struct lictor_config *c, struct tick *a) {
+    const uint16_t dim = c->counts.dim == 1 ? 1 : AXES;
+    const struct lictor_chunk chunk = {a->rows, (size_t)(ROWS * dim), 0, 0, ROWS, dim, 2};
+    const uint64_t due = lictor_guard_derive(c, &a->derived), answers[] = {
+        lictor_guard_check_chunk(c, a->pos, AXES, a->aux, CHANNELS, &chunk, a->out, ROWS * AXES, &a->found, &a->speed),
+        lictor_guard_check_action(c, a->pos, AXES, NULL, 0, a->previous, AXES, a->rows, AXES, a->row, AXES, &a->found, &a->speed),
+        lictor_guard_features(c, &a->state, a->pos, AXES, NULL, 0, &chunk, &a->scores, &a->marks),
+        lictor_guard_brake_feasible(c, a->pos, AXES, a->vel, AXES, &chunk, 0, a->slacks, 64, &a->forecast, &a->distances, &a->place),
+        lictor_guard_brake_action(c, a->pos, AXES, a->vel, AXES, a->last, AXES, a->row, AXES, &a->walls),
+        lictor_guard_hold_action(c, a->pos, AXES, a->last, AXES, a->row, AXES, &a->walls),
+    };
+    for (size_t i = 0; i < sizeof answers / sizeof *answers; i++)
+        if (answers[i] != due) return UINT64_MAX;
+    return due;
+}
+
+#define DUE(due) EXPECT(every_form(&c, &a) == (due))
 
 /* Both calls answer and write the same; the number is kept in answer. */
 #define SAME(number_a, number_b)                                              \
@@ -82,15 +101,18 @@ static void forms(void) {
     static struct tick a, b;
     int refusals = 0;
     const struct lictor_wall_marks none = {0, 0};
-    uint64_t answer, stopped = 0, turned = 0, slowed[LICTOR_MAX_ZONES + 1] = {0};
+    uint64_t answer, stopped = 0, turned = 0, kept = 0, slowed[LICTOR_MAX_ZONES + 1] = {0};
     lictor_tier1_new(LICTOR_TIER1_PARTS(&a.state));
     for (uint32_t t = 0; t < 2000; t++) {
         struct lictor_config c = arm();
         struct lictor_chunk chunk = {a.rows, ROWS * AXES, t + 7, t, ROWS, AXES, 2};
         const size_t from = below(4), i = below(7), pos = AXES - (below(30) == 0), aux = below(CHANNELS + 1), ext = below(5);
+        const size_t last = below(30) == 0 ? below(AXES) : AXES + below(2);
         draw(a.pos, AXES), draw(a.vel, AXES), draw(a.aux, CHANNELS), draw(a.ext, 4), draw(a.rows, ROWS * AXES), draw(a.previous, AXES);
+        draw(a.last, AXES + 1);
         c.counts.brake = below(5), c.counts.kind = below(5), c.counts.contact = below(5), c.counts.clamp = below(2);
         c.counts.absent_camera = below(2), c.counts.shape = below(3) == 0 ? LICTOR_DISC : LICTOR_BOX;
+        c.counts.gripper = below(2), c.counts.pos_dim = below(3) == 0 ? AXES - 1 : AXES;
         c.numbers.margin = below(2) ? 1.5 : 0.0;
         if (below(30) == 0) chunk.exec_steps = 9;
         if (below(30) == 0) a.rows[4] = NAN;
@@ -98,6 +120,8 @@ static void forms(void) {
         if (below(30) == 0) c.counts.kind = 5;
         if (below(30) == 0) c.counts.absent_camera = 2;
         if (below(30) == 0) c.counts.shape = 2 + below(300);
+        if (below(30) == 0) c.counts.gripper = 2 + below(300);
+        if (below(30) == 0) a.last[below(AXES + 1)] = NAN;
         if (below(30) == 0) c.numbers.disc_radius = 0.0;
         if (below(30) == 0) c.numbers.disc_y = NAN;
         if (below(30) == 0) c.counts.pos_dim = 1;
@@ -133,12 +157,14 @@ static void forms(void) {
              lictor_guard_brake_feasible(&c, a.pos, pos, a.vel, AXES, &chunk, from, b.slacks, 64, &b.forecast, &b.distances, &b.place));
         a.row[0] = b.row[0] = a.pos[0];
         a.walls = b.walls = none;
-        SAME(lictor_brake_action(PARTS, a.pos, pos, a.vel, AXES, a.row, AXES, &a.walls),
-             lictor_guard_brake_action(&c, a.pos, pos, a.vel, AXES, b.row, AXES, &b.walls));
+        SAME(lictor_brake_action(PARTS, a.pos, pos, a.vel, AXES, a.last, last, a.row, AXES, &a.walls),
+             lictor_guard_brake_action(&c, a.pos, pos, a.vel, AXES, a.last, last, b.row, AXES, &b.walls));
         stopped |= a.walls.low_dims | a.walls.high_dims << AXES;
         if (answer == LICTOR_ACCEPTED && c.counts.shape == LICTOR_DISC && c.counts.kind == LICTOR_EE_POSITION) turned += a.row[0] != a.pos[0];
         a.walls = b.walls = none;
-        SAME(lictor_hold_action(PARTS, a.pos, pos, a.row, AXES, &a.walls), lictor_guard_hold_action(&c, a.pos, pos, b.row, AXES, &b.walls));
+        SAME(lictor_hold_action(PARTS, a.pos, pos, a.last, last, a.row, AXES, &a.walls),
+             lictor_guard_hold_action(&c, a.pos, pos, a.last, last, b.row, AXES, &b.walls));
+        if (answer == LICTOR_ACCEPTED) kept += a.row[AXES - 1] == a.last[AXES - 1];
         a.length = lictor_action(a.rows, ROWS * AXES, ROWS, AXES, i, a.row, AXES);
         b.length = lictor_guard_action(&chunk, i, b.row, AXES);
         SAME(0, 0);
@@ -150,11 +176,14 @@ static void forms(void) {
     EXPECT(refusals > 500 && refusals < 12000 && stopped == (1 << 2 * AXES) - 1);
     /* a brake is moved onto a round table, and left where it is */
     EXPECT(turned > 20 && turned < 200);
+    /* a gripper is kept, and is not */
+    EXPECT(kept > 50 && kept < 500);
     EXPECT(slowed[0] == 0);
     for (int i = 1; i <= LICTOR_MAX_ZONES; i++) EXPECT(slowed[i] > 50);
 }
 
-/* No numbers are a null pointer with a count of 0; with any other count nothing is written, and LICTOR_MISFIT given. */
+/* No numbers are a null pointer with a count of 0; with any other count nothing is written, and LICTOR_MISFIT given, unless it is a last command
+   that is no argument. */
 static void nulls(void) {
     struct lictor_config c = arm();
     static struct tick a, b;
@@ -169,6 +198,10 @@ static void nulls(void) {
     lictor_guard_features(&c, &a.state, pos, pos_count, ext, ext_count, ch, &a.scores, &a.marks)
 #define FORECAST(pos, pos_count, vel, vel_count, ch, slacks, slacks_count) \
     lictor_guard_brake_feasible(&c, pos, pos_count, vel, vel_count, ch, 0, slacks, slacks_count, &a.forecast, &a.distances, &a.place)
+#define BRAKE(pos, pos_count, vel, vel_count, last, last_count, out, out_count) \
+    lictor_guard_brake_action(&c, pos, pos_count, vel, vel_count, last, last_count, out, out_count, &a.walls)
+#define HOLD(pos, pos_count, last, last_count, out, out_count) \
+    lictor_guard_hold_action(&c, pos, pos_count, last, last_count, out, out_count, &a.walls)
     b = a;
     EXPECT(CHECK(NULL, 1, a.aux, 2, &chunk, a.out, ROWS * AXES) == LICTOR_MISFIT);
     EXPECT(CHECK(a.pos, AXES, NULL, 1, &chunk, a.out, ROWS * AXES) == LICTOR_MISFIT);
@@ -191,14 +224,22 @@ static void nulls(void) {
     EXPECT(FORECAST(a.pos, AXES, a.vel, AXES, &chunk, NULL, 64) == LICTOR_MISFIT);
     EXPECT(FORECAST(NULL, 0, NULL, 0, &chunk, NULL, 0) == LICTOR_SHORT);
     EXPECT(FORECAST(a.pos, AXES, a.vel, AXES, &chunk, NULL, 0) == LICTOR_SHORT);
-    EXPECT(lictor_guard_hold_action(&c, a.pos, AXES, NULL, 0, &a.walls) == LICTOR_SHORT);
     EXPECT(lictor_lent(NULL) == LICTOR_NONE && lictor_lent(a.pos) == a.pos);
-    EXPECT(lictor_guard_brake_action(&c, NULL, 1, a.vel, AXES, a.row, AXES, &a.walls) == LICTOR_MISFIT);
-    EXPECT(lictor_guard_brake_action(&c, a.pos, AXES, NULL, 1, a.row, AXES, &a.walls) == LICTOR_MISFIT);
-    EXPECT(lictor_guard_brake_action(&c, a.pos, AXES, a.vel, AXES, NULL, 1, &a.walls) == LICTOR_MISFIT);
-    EXPECT(lictor_guard_brake_action(&c, NULL, 0, NULL, 0, NULL, 0, &a.walls) == LICTOR_SHORT);
-    EXPECT(lictor_guard_hold_action(&c, NULL, 1, a.row, AXES, &a.walls) == LICTOR_MISFIT);
-    EXPECT(lictor_guard_hold_action(&c, a.pos, AXES, NULL, 1, &a.walls) == LICTOR_MISFIT);
+    for (c.counts.gripper = 0; c.counts.gripper < 3; c.counts.gripper++) {
+        const enum lictor_refusal due = c.counts.gripper > LICTOR_GRIPPER_LAST_COMMAND ? LICTOR_MISFIT : LICTOR_SHORT;
+        EXPECT(BRAKE(NULL, 1, a.vel, AXES, a.last, AXES, a.row, AXES) == LICTOR_MISFIT && HOLD(NULL, 1, a.last, AXES, a.row, AXES) == LICTOR_MISFIT);
+        EXPECT(BRAKE(a.pos, AXES, NULL, 1, a.last, AXES, a.row, AXES) == LICTOR_MISFIT);
+        EXPECT(BRAKE(a.pos, AXES, a.vel, AXES, a.last, AXES, NULL, 1) == LICTOR_MISFIT && HOLD(a.pos, AXES, a.last, AXES, NULL, 1) == LICTOR_MISFIT);
+        EXPECT(BRAKE(NULL, 0, NULL, 0, NULL, 0, NULL, 0) == due && HOLD(NULL, 0, NULL, 0, NULL, 0) == due);
+        EXPECT(BRAKE(a.pos, AXES, a.vel, AXES, a.last, AXES, NULL, 0) == due && HOLD(a.pos, AXES, a.last, AXES, NULL, 0) == due);
+        /* a last command that is null and yet has numbers; where it is no argument the output is too short */
+        EXPECT(BRAKE(a.pos, AXES, a.vel, AXES, NULL, 1, NULL, 0) == (c.counts.gripper ? LICTOR_MISFIT : LICTOR_SHORT));
+        EXPECT(HOLD(a.pos, AXES, NULL, SIZE_MAX, NULL, 0) == (c.counts.gripper ? LICTOR_MISFIT : LICTOR_SHORT));
+    }
+    c.counts.gripper = LICTOR_GRIPPER_LAST_COMMAND;
+    EXPECT(BRAKE(a.pos, AXES, a.vel, AXES, NULL, 0, a.row, AXES) == LICTOR_SHORT && HOLD(a.pos, AXES, NULL, 0, a.row, AXES) == LICTOR_SHORT);
+    EXPECT(BRAKE(a.pos, AXES, a.vel, AXES, NULL, AXES, a.row, AXES) == LICTOR_MISFIT && HOLD(a.pos, AXES, NULL, AXES, a.row, AXES) == LICTOR_MISFIT);
+    c.counts.gripper = LICTOR_GRIPPER_TO_ZERO;
     EXPECT(lictor_guard_action(&lost, 0, a.row, AXES) == 0 && lictor_guard_action(&without, 0, a.row, AXES) == 0);
     EXPECT(lictor_guard_action(&chunk, 0, NULL, AXES) == 0 && lictor_guard_action(&chunk, 0, NULL, 0) == AXES);
     EXPECT(memcmp(&a, &b, sizeof a) == 0);
@@ -206,10 +247,20 @@ static void nulls(void) {
     EXPECT(CHECK(a.pos, AXES, NULL, 0, &chunk, a.out, ROWS * AXES) == LICTOR_ACCEPTED && a.found.trips == 0);
     EXPECT(ACTION(a.pos, AXES, NULL, 0, a.previous, AXES, a.rows, AXES, a.row, AXES) == LICTOR_ACCEPTED);
     EXPECT(FEATURES(NULL, 0, NULL, 0, &chunk) == LICTOR_ACCEPTED && FEATURES(NULL, 0, NULL, 0, NULL) == LICTOR_ACCEPTED);
-    a.row[0] = 7.0;
-    EXPECT(lictor_guard_brake_action(&c, NULL, 0, NULL, 0, a.row, AXES, &a.walls) == LICTOR_ACCEPTED && a.row[0] == 0.0);
-    a.row[0] = 7.0;
-    EXPECT(lictor_guard_hold_action(&c, NULL, 0, a.row, AXES, &a.walls) == LICTOR_ACCEPTED && a.row[0] == 0.0);
+    for (int i = 0; i < 3; i++) {
+        /* a last command that is null is no argument, whatever its count */
+        const size_t counts[3] = {0, AXES, SIZE_MAX};
+        a.row[0] = 7.0;
+        EXPECT(BRAKE(NULL, 0, NULL, 0, NULL, counts[i], a.row, AXES) == LICTOR_ACCEPTED && a.row[0] == 0.0);
+        a.row[0] = 7.0;
+        EXPECT(HOLD(NULL, 0, NULL, counts[i], a.row, AXES) == LICTOR_ACCEPTED && a.row[0] == 0.0);
+    }
+    /* under the other code it is one, also where nothing was measured */
+    c.counts.gripper = LICTOR_GRIPPER_LAST_COMMAND, c.counts.pos_dim = 1, a.last[1] = -0.0, a.last[2] = 5.0;
+    EXPECT(BRAKE(NULL, 0, NULL, 0, a.last, AXES, a.row, AXES) == LICTOR_ACCEPTED && memcmp(a.row, a.last, sizeof a.row) == 0);
+    a.row[2] = 7.0;
+    EXPECT(HOLD(NULL, 0, a.last, AXES, a.row, AXES) == LICTOR_ACCEPTED && memcmp(a.row, a.last, sizeof a.row) == 0);
+    c = arm();
     c.counts.commit = c.counts.brake_steps = 0;
     EXPECT(FORECAST(a.pos, AXES, a.vel, AXES, &chunk, NULL, 0) == LICTOR_ACCEPTED && a.forecast.count == 0);
     /* the entries' own constant for it */
@@ -218,6 +269,8 @@ static void nulls(void) {
 #undef ACTION
 #undef FEATURES
 #undef FORECAST
+#undef BRAKE
+#undef HOLD
 }
 
 /* A calibration's counts that the gate's types cannot hold are refused as lictor_derive refuses them, and not cut. */
@@ -307,22 +360,9 @@ static void cameras(void) {
    channels, a pair twice and swapped, and what stands past the count. */
 static void zones(void) {
     static struct tick a;
-    const struct lictor_chunk chunk = {a.rows, ROWS * AXES, 0, 0, ROWS, AXES, 2};
     const uint64_t wide = (UINT64_C(1) << 32) + 1;
     struct lictor_config c;
     lictor_tier1_new(LICTOR_TIER1_PARTS(&a.state));
-#define DUE(due)                                                                                                                            \
-    do {                                                                                                                                    \
-        EXPECT(lictor_guard_derive(&c, &a.derived) == (due));                                                                              \
-        EXPECT(lictor_guard_check_chunk(&c, a.pos, AXES, a.aux, CHANNELS, &chunk, a.out, ROWS * AXES, &a.found, &a.speed) == (due));       \
-        EXPECT(lictor_guard_check_action(&c, a.pos, AXES, NULL, 0, a.previous, AXES, a.rows, AXES, a.row, AXES, &a.found, &a.speed) ==     \
-               (due));                                                                                                                     \
-        EXPECT(lictor_guard_features(&c, &a.state, a.pos, AXES, NULL, 0, &chunk, &a.scores, &a.marks) == (due));                           \
-        EXPECT(lictor_guard_brake_feasible(&c, a.pos, AXES, a.vel, AXES, &chunk, 0, a.slacks, 64, &a.forecast, &a.distances, &a.place) ==  \
-               (due));                                                                                                                     \
-        EXPECT(lictor_guard_brake_action(&c, a.pos, AXES, a.vel, AXES, a.row, AXES, &a.walls) == (due));                                   \
-        EXPECT(lictor_guard_hold_action(&c, a.pos, AXES, a.row, AXES, &a.walls) == (due));                                                 \
-    } while (0)
     for (uint64_t count = 0; count < 7; count++) {
         c = arm(), c.counts.contact = count;
         DUE(count > LICTOR_MAX_ZONES ? LICTOR_SIZE : LICTOR_ACCEPTED);
@@ -344,7 +384,6 @@ static void zones(void) {
     DUE(LICTOR_SIZE);
     c.counts.contact = UINT64_MAX;
     DUE(LICTOR_SIZE);
-#undef DUE
     /* a step of 0.1875 along one axis, from inside the second zone, which allows it, and the fourth, which does not */
     c = arm(), c.counts.armed = LICTOR_TRIP_CONTACT;
     for (int i = 0; i < AXES; i++) a.pos[i] = a.previous[i] = 0.0;
@@ -362,23 +401,9 @@ static void zones(void) {
    under either shape, and the least axes of a disc. */
 static void tables(void) {
     static struct tick a;
-    const struct lictor_chunk chunk = {a.rows, ROWS * AXES, 0, 0, ROWS, AXES, 2}, flat = {a.rows, ROWS, 0, 0, ROWS, 1, 2};
     const uint64_t wide = UINT64_C(1) << 32;
     struct lictor_config c;
     lictor_tier1_new(LICTOR_TIER1_PARTS(&a.state));
-#define DUE(due)                                                                                                                            \
-    do {                                                                                                                                    \
-        const struct lictor_chunk *const lent = c.counts.dim == 1 ? &flat : &chunk;                                                         \
-        EXPECT(lictor_guard_derive(&c, &a.derived) == (due));                                                                              \
-        EXPECT(lictor_guard_check_chunk(&c, a.pos, AXES, NULL, 0, lent, a.out, ROWS * AXES, &a.found, &a.speed) == (due));                 \
-        EXPECT(lictor_guard_check_action(&c, a.pos, AXES, NULL, 0, a.previous, AXES, a.rows, AXES, a.row, AXES, &a.found, &a.speed) ==     \
-               (due));                                                                                                                     \
-        EXPECT(lictor_guard_features(&c, &a.state, a.pos, AXES, NULL, 0, lent, &a.scores, &a.marks) == (due));                             \
-        EXPECT(lictor_guard_brake_feasible(&c, a.pos, AXES, a.vel, AXES, lent, 0, a.slacks, 64, &a.forecast, &a.distances, &a.place) ==    \
-               (due));                                                                                                                     \
-        EXPECT(lictor_guard_brake_action(&c, a.pos, AXES, a.vel, AXES, a.row, AXES, &a.walls) == (due));                                   \
-        EXPECT(lictor_guard_hold_action(&c, a.pos, AXES, a.row, AXES, &a.walls) == (due));                                                 \
-    } while (0)
     for (uint64_t shape = 0; shape < 4; shape++) {
         const enum lictor_refusal misfit = shape > LICTOR_DISC ? LICTOR_MISFIT : LICTOR_ACCEPTED;
         c = arm(), c.counts.shape = shape;
@@ -414,14 +439,33 @@ static void tables(void) {
     DUE(LICTOR_MISFIT);
     c.counts.shape = UINT64_MAX;
     DUE(LICTOR_MISFIT);
-#undef DUE
     /* all zeros is the box; a hold that cannot be measured is refused at a disc alone */
     memset(&c, 0, sizeof c);
     EXPECT(c.counts.shape == LICTOR_BOX);
     c = arm(), a.pos[0] = 1e200, a.row[0] = 7.0;
-    EXPECT(lictor_guard_hold_action(&c, a.pos, AXES, a.row, AXES, &a.walls) == LICTOR_ACCEPTED && a.row[0] == 2.0);
+    EXPECT(lictor_guard_hold_action(&c, a.pos, AXES, NULL, 0, a.row, AXES, &a.walls) == LICTOR_ACCEPTED && a.row[0] == 2.0);
     c.counts.shape = LICTOR_DISC, a.row[0] = 7.0;
-    EXPECT(lictor_guard_hold_action(&c, a.pos, AXES, a.row, AXES, &a.walls) == LICTOR_COMPUTED && a.row[0] == 7.0);
+    EXPECT(lictor_guard_hold_action(&c, a.pos, AXES, NULL, 0, a.row, AXES, &a.walls) == LICTOR_COMPUTED && a.row[0] == 7.0);
+}
+
+/* By every guard form that takes a configuration: the gripper's code on both sides of its edge and wider than its field. */
+static void grippers(void) {
+    static struct tick a;
+    const uint64_t wide = UINT64_C(1) << 32, codes[] = {2, 3, 256, 257, wide, wide + LICTOR_GRIPPER_LAST_COMMAND, UINT64_MAX};
+    struct lictor_config c;
+    lictor_tier1_new(LICTOR_TIER1_PARTS(&a.state));
+    memset(&c, 0, sizeof c);
+    EXPECT(c.counts.gripper == LICTOR_GRIPPER_TO_ZERO);
+    c = arm();
+    DUE(LICTOR_ACCEPTED);
+    c.counts.gripper = LICTOR_GRIPPER_LAST_COMMAND;
+    DUE(LICTOR_ACCEPTED);
+    c.numbers.dt = 0.0;
+    DUE(LICTOR_NUMBER);
+    for (size_t i = 0; i < sizeof codes / sizeof *codes; i++) {
+        c.counts.gripper = codes[i];
+        DUE(LICTOR_MISFIT);
+    }
 }
 
 /* Each number has a text of its own, and the version's parts agree. */
@@ -434,7 +478,7 @@ static void words(void) {
         for (uint64_t j = 0; known && j < i; j++) EXPECT(strcmp(lictor_refusal_text(i), lictor_refusal_text(j)) != 0);
     }
     snprintf(version, sizeof version, "%d.%d.%d", LICTOR_VERSION_MAJOR, LICTOR_VERSION_MINOR, LICTOR_VERSION_PATCH);
-    EXPECT(strcmp(version, LICTOR_VERSION) == 0 && LICTOR_VERSION_NUMBER >= 700);
+    EXPECT(strcmp(version, LICTOR_VERSION) == 0 && LICTOR_VERSION_NUMBER >= 800);
 }
 
 int main(void) {
@@ -445,6 +489,7 @@ int main(void) {
     cameras();
     zones();
     tables();
+    grippers();
     words();
     puts(failed ? "guard forms: failed" : "guard forms: as expected");
     return failed;

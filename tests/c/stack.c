@@ -54,12 +54,12 @@ static void forecast(void) {
 
 static void brake(void) {
     struct lictor_wall_marks walls;
-    if (lictor_brake_action(&n, &c, center, scale, still, 8, still, 8, out, 8, &walls)) abort();
+    if (lictor_brake_action(&n, &c, center, scale, still, 8, still, 8, still, 8, out, 8, &walls)) abort();
 }
 
 static void hold(void) {
     struct lictor_wall_marks walls;
-    if (lictor_hold_action(&n, &c, center, scale, still, 8, out, 8, &walls)) abort();
+    if (lictor_hold_action(&n, &c, center, scale, still, 8, still, 8, out, 8, &walls)) abort();
 }
 
 static void derive(void) {
@@ -128,17 +128,18 @@ int main(void) {
     for (int i = 0; i < 8; i++) n.norm_scale[i] = 1.0, n.box_lo[i] = -1.0, n.box_hi[i] = 1.0;
     for (int i = 0; i < 192; i++) scale[i] = 1.0;
     for (int i = 0; i < 512; i++) rows[i] = 0.001 * (i % 11);
-    c.dim = c.pos_dim = 8, c.clamp = LICTOR_CLAMP_PROJECT, c.substeps = 32, c.commit = 64, c.brake_steps = 64;
+    c.dim = 8, c.clamp = LICTOR_CLAMP_PROJECT, c.substeps = 32, c.commit = 64, c.brake_steps = 64;
     c.armed = 63, c.calibrated = 1, c.mask = 0xf7f, c.n_terms = 8, c.horizon_ticks = 200;
     n.contact_radius = n.contact1_radius = n.contact2_radius = n.contact3_radius = 1.0, c.aux_count = 8;
     n.contact_v_max = n.contact1_v_max = n.contact2_v_max = n.contact3_v_max = 1.0;
     c.contact_a0 = c.contact1_a1 = 0, c.contact_a1 = c.contact1_a0 = 1, c.contact2_a0 = c.contact3_a1 = 2, c.contact2_a1 = c.contact3_a0 = 3;
     n.disc_radius = 1.0;
-    /* every brake and every kind of action, without a slow zone and with one to four, with a camera and without one, and either choice and either
-       shape in turn */
+    /* every brake and every kind of action, without a slow zone and with one to four, with a camera and without one, with grippers and without,
+       and either choice, either shape and either mode of the gripper in turn */
     for (unsigned setting = 0; setting < 100; setting++) {
         c.brake = setting / 2 % 5, c.kind = setting / 10 % 5, c.contact = setting % 2 * (1 + setting / 2 % LICTOR_MAX_ZONES);
         camera = setting < 50 ? 8 : 0, c.absent_camera = setting / 8 % 2, c.shape = setting % 3 == 0 ? LICTOR_DISC : LICTOR_BOX;
+        c.gripper = setting / 5 % 2, c.pos_dim = setting / 3 % 2 ? 2 : 8;
         for (size_t i = 0; i < sizeof calls / sizeof *calls; i++) {
             /* once before, so that what the loader does at a first call is not counted */
             used(calls[i].call);

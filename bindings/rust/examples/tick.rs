@@ -1,10 +1,11 @@
 //! One control tick of a packing arm over a table: from the position that was measured and the chunk that was planned to the
-//! row that goes to the motors; and a row of the same arm over a turntable. `examples/tick.c` is the same in C.
+//! row that goes to the motors, whose gripper stays closed also where the arm brakes or holds; and a row of the same arm over a turntable.
+//! `examples/tick.c` is the same in C.
 
 use lictor::{
     brake,
     chunk::ChunkView,
-    config::{trip, BrakeKind, BrakeModel, Config, ConfigBuilder, Contact, Shape},
+    config::{trip, BrakeKind, BrakeModel, Config, ConfigBuilder, Contact, Gripper, Shape},
     conformal::{self, feature, Calibration, Scores},
     tier0,
     tier1::{self, Tier1},
@@ -12,9 +13,13 @@ use lictor::{
     Answer,
 };
 
-/// Two axes along the table, and its height; a chunk has four rows.
+/// Two axes along the table, and its height; a row has the gripper after them, past `pos_dim`; a chunk has four rows.
 const AXES: usize = 3;
+const WIDTH: usize = AXES + 1;
 const ROWS: usize = 4;
+
+/// Where the gripper holds its screw.
+const CLOSED: f64 = 0.75;
 
 /// The camera tells where two trays stand on the table, two numbers each. The second tray's zone is the slower one: steps of 0.25 and of 0.125.
 const CHANNELS: usize = 4;
@@ -62,7 +67,9 @@ fn arm() -> ConfigBuilder {
         react_ticks: 1,
     };
     Config::builder()
-        .axes(AXES)
+        .dim(WIDTH)
+        .pos_dim(AXES)
+        .gripper(Gripper::LastCommand)
         .dt(0.5)
         .v_max(1.0)
         .a_max(4.0)
@@ -82,8 +89,13 @@ impl Guard {
     }
 
     /// The row to send: the planned one where no limit trips, few of the last scores were hits, and the arm can still stop;
-    /// else the one that brakes.
-    fn tick(&mut self, m: &Measured<'_>, planned: ChunkView<'_>) -> Answer<(&'static str, [f64; AXES])> {
+    /// else the one that brakes, with the gripper as in the last row.
+    fn tick(
+        &mut self,
+        m: &Measured<'_>,
+        planned: ChunkView<'_>,
+        last: &[f64; WIDTH],
+    ) -> Answer<(&'static str, [f64; WIDTH])> {
         self.state.trail.push(m.pos, AXES)?;
         tier1::features(&self.config, &mut self.state, m.pos, &[], Some(planned), &mut self.scores)?;
         let calibration = self.config.calibration().expect("the configuration has one");
@@ -92,7 +104,7 @@ impl Guard {
         let hit = conformal::trip(calibration, &self.scores)?;
         self.window.push(hit, window::mask(PUSHES)?);
 
-        let (mut projected, mut row) = ([0.0; ROWS * AXES], [0.0; AXES]);
+        let (mut projected, mut row) = ([0.0; ROWS * WIDTH], [0.0; WIDTH]);
         let found = tier0::check_chunk(&self.config, m.pos, m.aux, planned, &mut projected)?;
         log_walls(m.t, "chunk", found.low_dims, found.high_dims);
         if found.trips & trip::CONTACT != 0 {
@@ -104,7 +116,7 @@ impl Guard {
         if calm && rows.action(0, &mut row) == row.len() {
             return Ok(("follow", row));
         }
-        let walls = brake::brake_action(&self.config, m.pos, m.vel, &mut row)?;
+        let walls = brake::brake_action(&self.config, m.pos, m.vel, last, &mut row)?;
         log_walls(m.t, "brake", walls.low_dims, walls.high_dims);
         Ok(("brake", row))
     }
@@ -114,14 +126,20 @@ impl Guard {
 /// brakes where it is beyond the edge.
 fn turntable(x: f64, y: f64) -> Answer<()> {
     let config = arm().shape(Shape::Disc { center: [0.0, 0.0], radius: 0.75 }).build()?;
-    let (pos, vel, mut row, mut deed) = ([0.25, 0.25, 0.0], [0.0; AXES], [0.0; AXES], "follow");
-    let found = tier0::check_action(&config, &pos, &[], &pos, &[x, y, 0.0], &mut row)?;
+    let (pos, vel, last) = ([0.25, 0.25, 0.0], [0.0; AXES], [0.25, 0.25, 0.0, CLOSED]);
+    let (mut row, mut deed) = ([0.0; WIDTH], "follow");
+    let found = tier0::check_action(&config, &pos, &[], &last, &[x, y, 0.0, CLOSED], &mut row)?;
     if found.trips & trip::WORKSPACE != 0 {
         deed = "beyond the edge, brake";
-        brake::brake_action(&config, &pos, &vel, &mut row)?;
+        brake::brake_action(&config, &pos, &vel, &last, &mut row)?;
     }
-    println!("turntable: {deed} {} {} {}", row[0], row[1], row[2]);
+    println!("turntable: {deed} {}", shown(&row));
     Ok(())
+}
+
+/// The row that goes to the motors.
+fn shown([x, y, z, gripper]: &[f64; WIDTH]) -> String {
+    format!("{x} {y} {z}, gripper {gripper}")
 }
 
 /// Writes to the log which axes the box stopped at which wall, in the chunk or in a row that brakes or holds. Axes are counted
@@ -136,11 +154,11 @@ fn log_walls(t: u32, what: &str, low_dims: u32, high_dims: u32) {
     }
 }
 
-/// The rows of a chunk: where they start along the first axis, and their steps there and up.
-fn straight(first: f64, step: f64, up: f64) -> [f64; ROWS * AXES] {
-    let mut rows = [0.0; ROWS * AXES];
-    for (row, i) in rows.chunks_mut(AXES).zip([0.0, 1.0, 2.0, 3.0]) {
-        row.copy_from_slice(&[first + step * i, 0.0, up * i]);
+/// The rows of a chunk, the gripper closed: where they start along the first axis, and their steps there and up.
+fn straight(first: f64, step: f64, up: f64) -> [f64; ROWS * WIDTH] {
+    let mut rows = [0.0; ROWS * WIDTH];
+    for (row, i) in rows.chunks_mut(WIDTH).zip([0.0, 1.0, 2.0, 3.0]) {
+        row.copy_from_slice(&[first + step * i, 0.0, up * i, CLOSED]);
     }
     rows
 }
@@ -148,7 +166,9 @@ fn straight(first: f64, step: f64, up: f64) -> [f64; ROWS * AXES] {
 fn main() -> Answer<()> {
     assert!(lictor::environment_ok(), "the processor does not round to nearest, or takes small numbers for 0");
     let mut guard = Guard::new()?;
-    let mut last = [0.0; AXES];
+    // the row that was sent last. It is a copy of what was written: a brake or a hold reads it while it writes the next row, and the two may
+    // not overlap
+    let mut last = [0.0, 0.0, 0.0, CLOSED];
     // each tick's position and speed along the first axis, its chunk, and how far to the side the trays stand: in tick 8 the arm is inside
     // both zones, and its step of 0.1875 is too long for the second
     let ticks = [
@@ -165,19 +185,20 @@ fn main() -> Answer<()> {
     for (t, (pos, vel, data, side)) in (1..).zip(&ticks) {
         let aux = [0.125, *side, -0.125, *side];
         let measured = Measured { t, pos: &[*pos, 0.0, 0.0], vel: &[*vel, 0.0, 0.0], aux: &aux };
-        let planned = ChunkView::new(t, t, 3, 1, data);
-        match guard.tick(&measured, planned) {
+        let planned = ChunkView::new(t, t, 4, 1, data);
+        last = match guard.tick(&measured, planned, &last) {
             Ok((deed, row)) => {
-                last = row;
-                println!("tick {t}: {deed} {} {} {}", row[0], row[1], row[2]);
+                println!("tick {t}: {deed} {}", shown(&row));
+                row
             }
             Err(refusal) => {
-                let mut row = [0.0; AXES];
-                let walls = brake::hold_action(&guard.config, &last, &mut row)?;
+                let mut row = [0.0; WIDTH];
+                let walls = brake::hold_action(&guard.config, &last[..AXES], &last, &mut row)?;
                 log_walls(t, "hold", walls.low_dims, walls.high_dims);
-                println!("tick {t}: refused with {}, hold {} {} {}", refusal.number(), row[0], row[1], row[2]);
+                println!("tick {t}: refused with {}, hold {}", refusal.number(), shown(&row));
+                row
             }
-        }
+        };
     }
     // both rows are between the walls, and the second is 0.79 from the middle
     turntable(0.5, 0.5)?;

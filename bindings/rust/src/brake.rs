@@ -21,9 +21,9 @@ pub struct BrakeOut {
 }
 
 /// At which wall the position of a row that brakes or holds was stopped. Bit j is coordinate j, counted from 0, of the first
-/// min(dim, `pos_dim`): an axis past `pos_dim` sets none, though its box of 0..0 may move it. A position that touches its wall sets
-/// none, a round table sets none of its two axes, and what a short position lacks counts as 0. Both are 0 for the velocity kinds, `EeDelta` and `JointVelocity`; what is armed and the
-/// clamp mode do not matter.
+/// min(dim, `pos_dim`): an axis past `pos_dim` sets none, whatever the row has there. A position that touches its wall sets
+/// none, a round table sets none of its two axes, and what a short position lacks counts as 0. Both are 0 for the velocity kinds, `EeDelta`
+/// and `JointVelocity`; what is armed, the clamp mode, the gripper mode and the last command do not matter.
 #[derive(Clone, Copy, Debug, Default, PartialEq, Eq)]
 pub struct WallMarks {
     /// A bit for each axis that was raised to its low wall.
@@ -106,6 +106,11 @@ pub fn brake_feasible(
 /// The row that brakes, over the first dim numbers of `out`: the position moved inside its workspace, or the velocity ramped down. Gives the
 /// walls that stopped it. A short position or velocity counts as 0 past its end.
 ///
+/// `last` is the last command, the row that was sent before. Under [`Gripper::LastCommand`](crate::config::Gripper::LastCommand) a row of
+/// positions has its numbers past `pos_dim`; for every kind, read or not, it needs dim numbers or more, and all of them finite. Under
+/// [`Gripper::ToZero`](crate::config::Gripper::ToZero) it is neither judged nor read: `&[]` may be passed. It cannot be `out` itself: a caller
+/// who keeps the last row in one array has the next one written to another, and copies it after the call.
+///
 /// ```
 /// # use lictor::config::{BrakeKind, BrakeModel, Config};
 /// # let brake = BrakeModel {
@@ -115,13 +120,32 @@ pub fn brake_feasible(
 /// # use lictor::config::ActionKind;
 /// let config = builder.walls([-1.0; 8], [1.0; 8]).build()?;
 /// let mut row = [0.0; 3];
-/// let walls = lictor::brake::brake_action(&config, &[5.0, -5.0, 1.0], &[0.0; 3], &mut row)?;
+/// let walls = lictor::brake::brake_action(&config, &[5.0, -5.0, 1.0], &[0.0; 3], &[], &mut row)?;
 /// assert_eq!(row, [1.0, -1.0, 1.0]); // inside its box
 /// assert_eq!((walls.low_dims, walls.high_dims), (0b010, 0b001)); // the third axis touches its wall
 /// // a velocity that is ramped down meets no wall
 /// let velocities = builder.walls([-1.0; 8], [1.0; 8]).kind(ActionKind::JointVelocity).build()?;
-/// let walls = lictor::brake::brake_action(&velocities, &[5.0, -5.0, 1.0], &[0.0; 3], &mut row)?;
+/// let walls = lictor::brake::brake_action(&velocities, &[5.0, -5.0, 1.0], &[0.0; 3], &[], &mut row)?;
 /// assert_eq!((walls.low_dims, walls.high_dims), (0, 0));
+/// # Ok::<(), lictor::Refusal>(())
+/// ```
+///
+/// A gripper on the last axis keeps its screw:
+///
+/// ```
+/// # use lictor::config::{BrakeKind, BrakeModel, Config};
+/// # let brake = BrakeModel {
+/// #     kind: BrakeKind::PdSecondOrder, k_p: 2.0, k_v: 1.0, dt: 0.5, substeps: 2, commit: 1, brake_steps: 1, react_ticks: 1,
+/// # };
+/// # let builder = Config::builder().dt(1.0).v_max(1.0).a_max(9.0).j_max(9.0).reach_max(99.0).brake(brake);
+/// use lictor::{brake::brake_action, config::Gripper, Refusal};
+/// let arm = builder.pos_dim(2).dim(3).walls([-1.0; 8], [1.0; 8]).gripper(Gripper::LastCommand).build()?;
+/// let (mut row, sent) = ([0.0; 3], [0.5, 0.5, 0.75]);
+/// brake_action(&arm, &[5.0, 0.25, 0.5], &[0.0; 3], &sent, &mut row)?;
+/// assert_eq!(row, [1.0, 0.25, 0.75]);
+/// // the whole row is asked for, and all of its numbers are judged, though one of them is read
+/// assert_eq!(brake_action(&arm, &[5.0, 0.25, 0.5], &[0.0; 3], &sent[..2], &mut row), Err(Refusal::Short));
+/// assert_eq!(brake_action(&arm, &[5.0, 0.25, 0.5], &[0.0; 3], &[f64::NAN, 0.5, 0.75], &mut row), Err(Refusal::NotFinite));
 /// # Ok::<(), lictor::Refusal>(())
 /// ```
 ///
@@ -129,7 +153,7 @@ pub fn brake_feasible(
 ///
 /// [`Size`](crate::Refusal::Size) to [`Withdrawn`](crate::Refusal::Withdrawn), [`Short`](crate::Refusal::Short) to
 /// [`Computed`](crate::Refusal::Computed).
-pub fn brake_action(c: &Config, pos: &[f64], vel: &[f64], out: &mut [f64]) -> Answer<WallMarks> {
+pub fn brake_action(c: &Config, pos: &[f64], vel: &[f64], last: &[f64], out: &mut [f64]) -> Answer<WallMarks> {
     let mut walls = [0; 2];
     // SAFETY: the arrays and slices are live; `out` is lent to us alone, and the place is ours.
     let number = unsafe {
@@ -142,6 +166,8 @@ pub fn brake_action(c: &Config, pos: &[f64], vel: &[f64], out: &mut [f64]) -> An
             pos.len(),
             vel.as_ptr(),
             vel.len(),
+            last.as_ptr(),
+            last.len(),
             out.as_mut_ptr(),
             out.len(),
             &mut walls,
@@ -151,7 +177,7 @@ pub fn brake_action(c: &Config, pos: &[f64], vel: &[f64], out: &mut [f64]) -> An
 }
 
 /// The row that holds, over the first dim numbers of `out`: the latched position moved inside its workspace, or no velocity. Gives the walls
-/// that stopped it.
+/// that stopped it. `last` is the last command, as [`brake_action`] takes it.
 ///
 /// ```
 /// # use lictor::config::{BrakeKind, BrakeModel, Config};
@@ -161,11 +187,11 @@ pub fn brake_action(c: &Config, pos: &[f64], vel: &[f64], out: &mut [f64]) -> An
 /// # let builder = Config::builder().axes(1).dt(1.0).v_max(1.0).a_max(9.0).j_max(9.0).reach_max(99.0).brake(brake);
 /// let config = builder.walls([-1.0; 8], [1.0; 8]).build()?;
 /// let mut row = [0.0];
-/// let walls = lictor::brake::hold_action(&config, &[0.5], &mut row)?;
+/// let walls = lictor::brake::hold_action(&config, &[0.5], &[], &mut row)?;
 /// assert_eq!((row, walls), ([0.5], lictor::brake::WallMarks::default()));
 /// // a position that is missing counts as 0, which lies below a low wall above 0
 /// let above = builder.walls([0.5; 8], [1.0; 8]).build()?;
-/// let walls = lictor::brake::hold_action(&above, &[], &mut row)?;
+/// let walls = lictor::brake::hold_action(&above, &[], &[], &mut row)?;
 /// assert_eq!((row, walls.low_dims, walls.high_dims), ([0.5], 1, 0));
 /// # Ok::<(), lictor::Refusal>(())
 /// ```
@@ -181,16 +207,16 @@ pub fn brake_action(c: &Config, pos: &[f64], vel: &[f64], out: &mut [f64]) -> An
 /// use lictor::{brake::{hold_action, WallMarks}, config::Shape, Refusal};
 /// let table = builder.shape(Shape::Disc { center: [0.0, 0.0], radius: 5.0 }).build()?;
 /// let mut row = [0.0; 2];
-/// assert_eq!(hold_action(&table, &[6.0, 8.0], &mut row), Ok(WallMarks::default()));
+/// assert_eq!(hold_action(&table, &[6.0, 8.0], &[], &mut row), Ok(WallMarks::default()));
 /// assert!(row[0] < 3.0 && 2.999 < row[0]);
-/// assert_eq!(hold_action(&table, &[1e200, 0.0], &mut row), Err(Refusal::Computed { place: 0 }));
+/// assert_eq!(hold_action(&table, &[1e200, 0.0], &[], &mut row), Err(Refusal::Computed { place: 0 }));
 /// # Ok::<(), lictor::Refusal>(())
 /// ```
 ///
 /// # Errors
 ///
 /// As [`brake_action`].
-pub fn hold_action(c: &Config, pos: &[f64], out: &mut [f64]) -> Answer<WallMarks> {
+pub fn hold_action(c: &Config, pos: &[f64], last: &[f64], out: &mut [f64]) -> Answer<WallMarks> {
     let mut walls = [0; 2];
     // SAFETY: the arrays and slices are live; `out` is lent to us alone, and the place is ours.
     let number = unsafe {
@@ -201,6 +227,8 @@ pub fn hold_action(c: &Config, pos: &[f64], out: &mut [f64]) -> Answer<WallMarks
             &c.gate.scale,
             pos.as_ptr(),
             pos.len(),
+            last.as_ptr(),
+            last.len(),
             out.as_mut_ptr(),
             out.len(),
             &mut walls,

@@ -226,6 +226,21 @@ impl Shape {
     }
 }
 
+/// What a row of positions that brakes or holds has on the axes past `pos_dim`, where there are no walls: on a gripper, for one.
+///
+/// Axes within `pos_dim` are the same under both, and so are the rows of [`EeDelta`](ActionKind::EeDelta) and
+/// [`JointVelocity`](ActionKind::JointVelocity).
+#[derive(Clone, Copy, Debug, Default, PartialEq, Eq)]
+pub enum Gripper {
+    /// 0, which opens a gripper that stands there. The last command is neither judged nor read.
+    #[default]
+    ToZero,
+    /// The last command, which the caller lends, bit for bit: the gripper stays as it was told. For every kind of row, a last command shorter
+    /// than dim is refused with [`Short`](crate::Refusal::Short), and one that has a number that is not finite with
+    /// [`NotFinite`](crate::Refusal::NotFinite).
+    LastCommand,
+}
+
 /// The raw configuration. [`Config::builder`] starts from defaults; here every number is named.
 #[derive(Clone, Copy, Debug, PartialEq)]
 pub struct FuseConfig {
@@ -263,6 +278,8 @@ pub struct FuseConfig {
     pub absent_camera: AbsentCamera,
     /// The brake.
     pub brake: BrakeModel,
+    /// What a row that brakes or holds has past `pos_dim`.
+    pub gripper: Gripper,
     /// Whether rows are moved inside the limits.
     pub clamp: ClampMode,
     /// The checks that are made, bits of [`trip`].
@@ -323,6 +340,7 @@ impl Config {
     ///     brake: BrakeModel {
     ///         kind: BrakeKind::BoundedAccel, k_p: 2.0, k_v: 1.0, dt: 0.5, substeps: 2, commit: 1, brake_steps: 4, react_ticks: 1,
     ///     },
+    ///     gripper: Gripper::ToZero,
     ///     clamp: ClampMode::Project,
     ///     armed: trip::ALL,
     ///     aux_count: 0,
@@ -350,7 +368,7 @@ impl Config {
     /// ```
     /// use lictor::{brake, config::{Config, ConfigBuilder}, Refusal};
     /// let unfit = Config::unjudged(&ConfigBuilder::START);
-    /// assert_eq!(brake::hold_action(&unfit, &[0.0], &mut [0.0]), Err(Refusal::Size));
+    /// assert_eq!(brake::hold_action(&unfit, &[0.0], &[], &mut [0.0]), Err(Refusal::Size));
     /// ```
     #[must_use]
     pub fn unjudged(c: &FuseConfig) -> Self {
@@ -413,6 +431,7 @@ impl Config {
             contact3_a0: zone3.a0.into(),
             contact3_a1: zone3.a1.into(),
             shape,
+            gripper: c.gripper as u64,
         };
         Self { numbers, counts, gate }
     }
@@ -489,6 +508,7 @@ impl Config {
 /// | `norm` | centers 0 and scales 1: coordinates as they are |
 /// | `zones`, `aux_count` | no slow zone, and no camera |
 /// | `absent_camera` | [`AbsentCamera::Slow`]: a zone that the camera does not show is slow everywhere |
+/// | `gripper` | [`Gripper::ToZero`]: a row that brakes or holds has 0 past `pos_dim` |
 /// | `calibration` | none: nothing of it is judged |
 ///
 /// ```
@@ -540,6 +560,7 @@ impl ConfigBuilder {
             brake_steps: 0,
             react_ticks: 0,
         },
+        gripper: Gripper::ToZero,
         clamp: ClampMode::Project,
         armed: trip::ALL,
         aux_count: 0,
@@ -716,6 +737,30 @@ impl ConfigBuilder {
         self
     }
 
+    /// What a row that brakes or holds has past `pos_dim`: an arm whose gripper stands there, and keeps what it grips, says
+    /// [`Gripper::LastCommand`].
+    ///
+    /// ```
+    /// # use lictor::config::{BrakeKind, BrakeModel, Config};
+    /// # let brake = BrakeModel {
+    /// #     kind: BrakeKind::PdSecondOrder, k_p: 2.0, k_v: 1.0, dt: 0.5, substeps: 2, commit: 1, brake_steps: 1, react_ticks: 1,
+    /// # };
+    /// # let builder = Config::builder().dt(1.0).v_max(9.0).a_max(9.0).j_max(9.0).reach_max(99.0).walls([-1.0; 8], [1.0; 8]).brake(brake);
+    /// use lictor::{brake, config::Gripper};
+    /// // one axis, and a gripper that is closed at 0.75
+    /// let arm = builder.pos_dim(1).dim(2);
+    /// let (mut row, sent) = ([0.0; 2], [0.25, 0.75]);
+    /// brake::hold_action(&arm.build()?, &[0.5, 0.75], &[], &mut row)?;
+    /// assert_eq!(row, [0.5, 0.0]); // it opens
+    /// brake::hold_action(&arm.gripper(Gripper::LastCommand).build()?, &[0.5, 0.75], &sent, &mut row)?;
+    /// assert_eq!(row, [0.5, 0.75]); // it stays closed
+    /// # Ok::<(), lictor::Refusal>(())
+    /// ```
+    pub const fn gripper(mut self, choice: Gripper) -> Self {
+        self.0.gripper = choice;
+        self
+    }
+
     /// Whether rows are moved inside the limits.
     pub const fn clamp(mut self, clamp: ClampMode) -> Self {
         self.0.clamp = clamp;
@@ -817,6 +862,15 @@ mod tests {
         assert_eq!(core::mem::offset_of!(raw::Numbers, disc_x), 50 * 8);
         assert_eq!(core::mem::offset_of!(raw::Counts, shape), 33 * 8);
         assert_eq!(core::mem::size_of::<raw::Numbers>(), 53 * 8);
-        assert_eq!(core::mem::size_of::<raw::Counts>(), 34 * 8);
+    }
+
+    /// The code after the shape's, and nothing after it.
+    #[test]
+    fn the_gripper_has_its_place() {
+        let laid = |gripper| Config::unjudged(&FuseConfig { gripper, ..ConfigBuilder::START }).counts;
+        assert_eq!((laid(Gripper::ToZero).gripper, laid(Gripper::LastCommand).gripper), (0, 1));
+        assert_eq!((Gripper::default(), ConfigBuilder::START.gripper), (Gripper::ToZero, Gripper::ToZero));
+        assert_eq!(core::mem::offset_of!(raw::Counts, gripper), 34 * 8);
+        assert_eq!(core::mem::size_of::<raw::Counts>(), 35 * 8);
     }
 }

@@ -63,6 +63,7 @@ pub struct Counts {
     pub contact3_a0: u64,
     pub contact3_a1: u64,
     pub shape: u64,
+    pub gripper: u64,
 }
 
 extern "C" {
@@ -235,6 +236,8 @@ extern "C" {
         pos_len: usize,
         vel: *const f64,
         vel_len: usize,
+        last: *const f64,
+        last_len: usize,
         out: *mut f64,
         out_len: usize,
         walls: &mut [u64; 2],
@@ -246,6 +249,8 @@ extern "C" {
         scale: &[f64; 192],
         pos: *const f64,
         pos_len: usize,
+        last: *const f64,
+        last_len: usize,
         out: *mut f64,
         out_len: usize,
         walls: &mut [u64; 2],

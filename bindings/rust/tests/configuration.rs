@@ -122,7 +122,7 @@ fn kind_clamp_and_armed_come_to_the_library() {
     assert_eq!(check(arm().armed(!trip::ALL)), Ok((0, false)));
     let hold = |kind| {
         let mut row = [7.0; 2];
-        brake::hold_action(&arm().kind(kind).build()?, &[0.5, 0.5], &mut row)?;
+        brake::hold_action(&arm().kind(kind).build()?, &[0.5, 0.5], &[], &mut row)?;
         Ok::<_, Refusal>(row)
     };
     assert_eq!(hold(ActionKind::EePosition), Ok([0.5, 0.5]));
@@ -366,10 +366,10 @@ fn an_arm_stops_on_a_round_table() {
         assert_eq!((told, slacks), (Err(Refusal::Computed { place: 1 }), [7.0; 4]));
     }
     let (pulled, mut row) = (5.0 * (1.0 - 1.0 / 68_719_476_736.0) / 10.0, [7.0; 3]);
-    let walls = brake::hold_action(&config, &[6.0, 8.0, -9.0], &mut row).unwrap();
+    let walls = brake::hold_action(&config, &[6.0, 8.0, -9.0], &[], &mut row).unwrap();
     assert_eq!((walls.low_dims, walls.high_dims, row), (0b100, 0, [6.0 * pulled, 8.0 * pulled, -1.0]));
     let kept = row;
-    let braked = brake::brake_action(&config, &[0.0, 1e200], &[], &mut row);
+    let braked = brake::brake_action(&config, &[0.0, 1e200], &[], &[], &mut row);
     assert_eq!((braked, row), (Err(Refusal::Computed { place: 0 }), kept));
 }
 
@@ -401,7 +401,7 @@ fn a_configuration_that_is_not_judged_is_refused_by_each_call() {
     let unfit = Config::unjudged(&ConfigBuilder::START);
     let chunk = ChunkView::new(0, 0, 2, 1, &[0.0, 0.0]);
     assert_eq!(tier0::check_chunk(&unfit, &[0.0; 2], &[], chunk, &mut [0.0; 2]), Err(Refusal::Size));
-    assert_eq!(brake::brake_action(&unfit, &[], &[], &mut [0.0; 2]), Err(Refusal::Size));
+    assert_eq!(brake::brake_action(&unfit, &[], &[], &[], &mut [0.0; 2]), Err(Refusal::Size));
 }
 
 #[test]

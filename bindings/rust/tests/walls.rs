@@ -51,14 +51,14 @@ fn any_row_up_to_pos_dim_under_project_with_the_box_armed() {
 fn brake_and_hold_whatever_is_armed() {
     let walls = |builder: ConfigBuilder| {
         let (config, position) = (builder.build()?, [-2.0, 2.0, 2.0, 1.0]);
-        let braked = brake_action(&config, &position, &[0.0; 4], &mut [0.0; 4])?;
-        assert_eq!(hold_action(&config, &position, &mut [0.0; 4]), Ok(braked));
+        let braked = brake_action(&config, &position, &[0.0; 4], &[], &mut [0.0; 4])?;
+        assert_eq!(hold_action(&config, &position, &[], &mut [0.0; 4]), Ok(braked));
         Ok::<_, Refusal>((braked.low_dims, braked.high_dims))
     };
     assert_eq!(walls(arm().armed(0).clamp(ClampMode::Off)), Ok((0b0001, 0b0110)));
     assert_eq!(walls(arm().pos_dim(2)), Ok((0b0001, 0b0010)));
     assert_eq!(walls(arm().kind(ActionKind::EeDelta)), Ok((0, 0)));
-    let short = hold_action(&arm().walls([0.5; 8], [1.0; 8]).build().unwrap(), &[0.75], &mut [0.0; 4]);
+    let short = hold_action(&arm().walls([0.5; 8], [1.0; 8]).build().unwrap(), &[0.75], &[], &mut [0.0; 4]);
     assert_eq!(short, Ok(WallMarks { low_dims: 0b1110, high_dims: 0 }));
 }
 
