@@ -4,11 +4,14 @@
 use std::fmt::Debug;
 
 use model::{
-    brake, conformal, envelope, tier0, tier1, AbsentCamera, ChunkView, ContactLimit, FuseConfig, Refusal, Scores,
-    Shape, Tier1Rt, Zones, CONTACT, MAX_SUBSTEPS, MAX_ZONES, WORKSPACE,
+    brake, conformal, envelope, tier0, tier1, AbsentCamera, ChunkView, ContactLimit, FuseConfig, Gripper, Refusal,
+    Scores, Shape, Tier1Rt, Zones, CONTACT, MAX_SUBSTEPS, MAX_ZONES, WORKSPACE,
 };
 
-use crate::{part::CHOICES, port::Port};
+use crate::{
+    part::{CHOICES, GRIPPERS, KINDS},
+    port::Port,
+};
 
 /// A condition in the documents' words, the field, and the number due for each of the field's values.
 #[derive(Clone)]
@@ -683,13 +686,22 @@ fn choices() -> Vec<Condition> {
     ]
 }
 
-/// The condition of a configuration under the old choice: what is judged does not depend on it.
-fn under_the_old_choice(mut condition: Condition) -> Condition {
-    for case in &mut condition.cases {
-        case.value += ", NoZone";
-        case.cfg.absent_camera = AbsentCamera::NoZone;
+/// Either mode of the gripper is accepted, for each kind, with an axis past pos_dim and without.
+fn modes() -> Vec<Condition> {
+    let set = |c: &mut FuseConfig, (gripper, kind, pos_dim)| (c.gripper, c.kind, c.pos_dim) = (gripper, kind, pos_dim);
+    let values = GRIPPERS.into_iter().flat_map(|mode| KINDS.map(|kind| [1, 2, 3].map(|n| ((mode, kind, n), 0))));
+    let values: Vec<_> = values.flatten().collect();
+    vec![at("the configuration has a mode, the Rust's or the new one", "(gripper, kind, pos_dim)", set, &values)]
+}
+
+/// The condition of a configuration with another choice: what is judged does not depend on it.
+fn under(condition: &Condition, name: &str, choose: fn(&mut FuseConfig)) -> Condition {
+    let mut other = condition.clone();
+    for case in &mut other.cases {
+        case.value = format!("{}, {name}", case.value);
+        choose(&mut case.cfg);
     }
-    condition
+    other
 }
 
 fn clear_flag() -> Vec<Condition> {
@@ -782,7 +794,7 @@ fn together() -> Vec<Condition> {
     .concat()
 }
 
-/// Every condition under the new choice, which a form without a tick has, and under the old one.
+/// Every condition under the choices that a form without a tick has, and under the other one for an absent camera and for the gripper.
 fn table() -> Vec<Condition> {
     let parts = [
         sizes(),
@@ -805,9 +817,13 @@ fn table() -> Vec<Condition> {
         clear_flag(),
         together(),
     ];
-    let new = parts.concat();
-    let old: Vec<Condition> = new.iter().cloned().map(under_the_old_choice).collect();
-    [new, old, choices()].concat()
+    let unticked = parts.concat();
+    let with = |name: &str, choose: fn(&mut FuseConfig)| -> Vec<Condition> {
+        unticked.iter().map(|condition| under(condition, name, choose)).collect()
+    };
+    let camera = with("NoZone", |c| c.absent_camera = AbsentCamera::NoZone);
+    let gripper = with("LastCommand", |c| c.gripper = Gripper::LastCommand);
+    [unticked, camera, gripper, choices(), modes()].concat()
 }
 
 /// What an entry gives for a configuration.
@@ -864,11 +880,11 @@ fn judges_of_positions(port: &Port) -> Vec<Judge> {
             asked("check_action", accepted, Box::new(call));
         }
         if let Some(f) = port.brake_action {
-            let call = move |c: &FuseConfig| number(f(c, &pos, &ZEROS, &mut ZEROS.clone()));
+            let call = move |c: &FuseConfig| number(f(c, &pos, &ZEROS, &ZEROS, &mut ZEROS.clone()));
             asked("brake_action", accepted, Box::new(call));
         }
         if let Some(f) = port.hold_action {
-            let call = move |c: &FuseConfig| number(f(c, &pos, &mut ZEROS.clone()));
+            let call = move |c: &FuseConfig| number(f(c, &pos, &ZEROS, &mut ZEROS.clone()));
             asked("hold_action", accepted, Box::new(call));
         }
     }

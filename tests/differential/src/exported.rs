@@ -6,7 +6,7 @@ use model::{BrakeOut, ChunkView, Derived, FuseConfig, Refusal, Tier0Out, WallMar
 use crate::port::{Answer, Port};
 
 pub type Numbers = [f64; 53];
-pub type Counts = [u64; 34];
+pub type Counts = [u64; 35];
 type Table = [f64; BINS * NFEAT];
 
 extern "C" {
@@ -78,6 +78,8 @@ extern "C" {
         pos_len: usize,
         vel: *const f64,
         vel_len: usize,
+        last: *const f64,
+        last_len: usize,
         out: *mut f64,
         out_len: usize,
         walls: &mut [u64; 2],
@@ -89,6 +91,8 @@ extern "C" {
         scale: &Table,
         pos: *const f64,
         pos_len: usize,
+        last: *const f64,
+        last_len: usize,
         out: *mut f64,
         out_len: usize,
         walls: &mut [u64; 2],
@@ -130,8 +134,8 @@ pub fn laid(c: &FuseConfig) -> (Numbers, Counts) {
         counts.extend([z.a0, z.a1].map(u64::from));
     }
     numbers.extend([c.shape.center[0], c.shape.center[1], c.shape.radius]);
-    counts.push(c.shape.disc.into());
-    (numbers.try_into().expect("53 numbers"), counts.try_into().expect("34 counts"))
+    counts.extend([c.shape.disc.into(), c.gripper as u64]);
+    (numbers.try_into().expect("53 numbers"), counts.try_into().expect("35 counts"))
 }
 
 /// The value where the number is 0, else the refusal with its place.
@@ -253,11 +257,14 @@ fn brake_feasible(
     given(number, place, || BrakeOut { count: count as usize, feasible: feasible == 1, margin, stop_dist })
 }
 
-fn walls(number: u64, [low_dims, high_dims]: [u64; 2]) -> Answer<WallMarks> {
-    given(number, 0, || WallMarks { low_dims: low_dims as u32, high_dims: high_dims as u32 })
+/// The marks, which a refusal leaves as they were.
+fn walls(number: u64, marks: [u64; 2]) -> Answer<WallMarks> {
+    assert!(number == 0 || marks == [7; 2], "refused with {number}, and marks are written");
+    let [low_dims, high_dims] = marks.map(|mark| mark as u32);
+    given(number, 0, || WallMarks { low_dims, high_dims })
 }
 
-fn brake_action(c: &FuseConfig, p: &[f64], v: &[f64], out: &mut [f64]) -> Answer<WallMarks> {
+fn brake_action(c: &FuseConfig, p: &[f64], v: &[f64], last: &[f64], out: &mut [f64]) -> Answer<WallMarks> {
     let ((numbers, counts), mut marks) = (laid(c), [7; 2]);
     let number = unsafe {
         lictor_brake_action(
@@ -269,6 +276,8 @@ fn brake_action(c: &FuseConfig, p: &[f64], v: &[f64], out: &mut [f64]) -> Answer
             p.len(),
             v.as_ptr(),
             v.len(),
+            last.as_ptr(),
+            last.len(),
             out.as_mut_ptr(),
             out.len(),
             &mut marks,
@@ -277,7 +286,7 @@ fn brake_action(c: &FuseConfig, p: &[f64], v: &[f64], out: &mut [f64]) -> Answer
     walls(number, marks)
 }
 
-fn hold_action(c: &FuseConfig, p: &[f64], out: &mut [f64]) -> Answer<WallMarks> {
+fn hold_action(c: &FuseConfig, p: &[f64], last: &[f64], out: &mut [f64]) -> Answer<WallMarks> {
     let ((numbers, counts), mut marks) = (laid(c), [7; 2]);
     let number = unsafe {
         lictor_hold_action(
@@ -287,6 +296,8 @@ fn hold_action(c: &FuseConfig, p: &[f64], out: &mut [f64]) -> Answer<WallMarks> 
             &c.cal.scale,
             p.as_ptr(),
             p.len(),
+            last.as_ptr(),
+            last.len(),
             out.as_mut_ptr(),
             out.len(),
             &mut marks,

@@ -1,8 +1,8 @@
 //! Good inputs, and their parts.
 
 use model::{
-    AbsentCamera, BrakeModel, Calibration, ChunkBuf, ChunkView, ClampMode, ContactLimit, FuseConfig, Scores, Shape,
-    Trail, Zones, BINS, HELD, MAX_D, MAX_H, NAMED, NFEAT, STALL, WORKSPACE,
+    AbsentCamera, BrakeModel, Calibration, ChunkBuf, ChunkView, ClampMode, ContactLimit, FuseConfig, Gripper, Scores,
+    Shape, Trail, Zones, BINS, HELD, MAX_D, MAX_H, NAMED, NFEAT, STALL, WORKSPACE,
 };
 
 use crate::{
@@ -226,7 +226,8 @@ fn fill_axes(rng: &mut Rng, field: Field, cfg: &mut FuseConfig, room: f64) {
 }
 
 /// A configuration that is accepted, unless the field's size is too much for a derived number. Of two, one has limits
-/// that the field's numbers seldom exceed. It has the box, the old choice and no more than one zone, which is what the Rust has.
+/// that the field's numbers seldom exceed. It has the box, the old choice, no more than one zone and the gripper's old mode, which is what the
+/// Rust has.
 pub fn config(rng: &mut Rng, field: Field) -> FuseConfig {
     let room = if rng.one_in(2) { 32.0 } else { 1.0 };
     let dim = rng.within(1, MAX_D);
@@ -250,6 +251,7 @@ pub fn config(rng: &mut Rng, field: Field) -> FuseConfig {
         norm_scale: [-1.0; 8],
         zones: contact(rng, field, aux_count),
         absent_camera: AbsentCamera::NoZone,
+        gripper: Gripper::ToZero,
         brake: brake(rng),
         clamp: if rng.one_in(4) { ClampMode::Off } else { ClampMode::Project },
         armed: if rng.one_in(3) { 63 } else { rng.below(128) as u32 },
@@ -266,29 +268,35 @@ pub fn config(rng: &mut Rng, field: Field) -> FuseConfig {
     cfg
 }
 
-/// All parts but the shape and the choice for an absent camera: one part more would change the inputs that the kept sample was made of.
+/// All parts but the choice for an absent camera, the shape and the gripper's mode: one part more would change the inputs that the kept sample
+/// was made of.
 pub fn config_parts(c: &mut FuseConfig) -> Vec<Part<'_>> {
-    let mut parts = config_parts_with_choice(c);
-    parts.pop();
-    parts
+    config_parts_but(c, |part| matches!(part, Part::Absent(_) | Part::Shape(_) | Part::Gripper(_)))
 }
 
-/// All parts but the shape, the choice last.
+/// The same with the choice, which stands last.
 pub fn config_parts_with_choice(c: &mut FuseConfig) -> Vec<Part<'_>> {
-    let mut parts = all_config_parts(c);
-    parts.pop();
-    parts
+    config_parts_but(c, |part| matches!(part, Part::Shape(_) | Part::Gripper(_)))
 }
 
-/// All parts but the choice, the shape last.
+/// The same with the shape, which stands last.
 pub fn config_parts_with_shape(c: &mut FuseConfig) -> Vec<Part<'_>> {
+    config_parts_but(c, |part| matches!(part, Part::Absent(_) | Part::Gripper(_)))
+}
+
+/// The same with the shape and the gripper's mode, which stand last.
+pub fn config_parts_with_gripper(c: &mut FuseConfig) -> Vec<Part<'_>> {
+    config_parts_but(c, |part| matches!(part, Part::Absent(_)))
+}
+
+/// All parts but those that are left out.
+fn config_parts_but(c: &mut FuseConfig, left_out: fn(&Part<'_>) -> bool) -> Vec<Part<'_>> {
     let mut parts = all_config_parts(c);
-    let choice = parts.len() - 2;
-    parts.remove(choice);
+    parts.retain(|part| !left_out(part));
     parts
 }
 
-/// All parts, the choice and the shape last.
+/// All parts; the choice, the shape and the gripper's mode last.
 fn all_config_parts(c: &mut FuseConfig) -> Vec<Part<'_>> {
     let mut parts = vec![
         Part::Usize(&mut c.dim),
@@ -322,10 +330,11 @@ fn all_config_parts(c: &mut FuseConfig) -> Vec<Part<'_>> {
     parts.extend(calibration_parts(&mut c.cal));
     parts.push(Part::Absent(&mut c.absent_camera));
     parts.push(Part::Shape(&mut c.shape));
+    parts.push(Part::Gripper(&mut c.gripper));
     parts
 }
 
-/// All parts but the shape, with each of several zones in the place of the one.
+/// All parts but the shape and the gripper's mode, with each of several zones in the place of the one.
 pub fn config_parts_with_zones(c: &mut FuseConfig) -> Vec<Part<'_>> {
     let several = |part| match part {
         Part::Contact(zones) => Part::Zones(zones),
@@ -414,6 +423,35 @@ pub fn lay_edge(rng: &mut Rng, shape: &mut Shape, point: &[f64]) {
             shape.radius = radius;
         }
     }
+}
+
+/// Of four grippers three are in the new mode, and of three rows two are made wider than the position where there is an axis for that.
+pub fn lay_gripper(rng: &mut Rng, cfg: &mut FuseConfig) {
+    if !rng.one_in(4) {
+        cfg.gripper = Gripper::LastCommand;
+    }
+    let least = if cfg.shape.disc { 2 } else { 1 };
+    let most = cfg.pos_dim.min(cfg.dim - 1);
+    if most >= least && !rng.one_in(3) {
+        cfg.pos_dim = rng.within(least, most);
+    }
+}
+
+/// A last command of dim numbers, a few more or fewer, with zeros of either sign, and seldom one that is not finite; in the Rust's mode of any
+/// length, and with one that is not finite in every second.
+pub fn last_command(rng: &mut Rng, field: Field, cfg: &FuseConfig) -> Vec<f64> {
+    let length = match (cfg.gripper, rng.below(8)) {
+        (Gripper::LastCommand, 2..) => cfg.dim + rng.pick(&[0, 0, 0, 1, 2]),
+        (Gripper::LastCommand, 1) => cfg.dim - 1,
+        _ => rng.below(cfg.dim + 3),
+    };
+    let mut last = field.numbers(rng, length);
+    let seldom = if cfg.gripper == Gripper::ToZero { 2 } else { 8 };
+    if length > 0 && rng.one_in(seldom) {
+        let at = rng.below(length);
+        last[at] = rng.pick(&[f64::NAN, f64::INFINITY, f64::NEG_INFINITY]);
+    }
+    last
 }
 
 /// The configuration with dim and pos_dim at most those of one axis less.

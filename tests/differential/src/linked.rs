@@ -4,7 +4,7 @@
 use lictor::{brake, chunk, config, conformal, fmath, tier0, tier1, window};
 use model::{
     AbsentCamera, ActionKind, BrakeKind, BrakeOut, Calibration, ChunkBuf, ChunkView, ClampMode, ContactLimit, Derived,
-    FuseConfig, Scores, Shape, Tier0Out, Tier1Rt, Trail, WallMarks, Zones, MAX_ZONES,
+    FuseConfig, Gripper, Scores, Shape, Tier0Out, Tier1Rt, Trail, WallMarks, Zones, MAX_ZONES,
 };
 
 use crate::port::{Answer, Port};
@@ -42,8 +42,8 @@ pub fn port() -> Port {
         brake_feasible: Some(|c, p, v, ch, from, slacks| {
             answer(brake::brake_feasible(&config(c), p, v, chunk_view(&ch), from, slacks)).map(forecast)
         }),
-        brake_action: Some(|c, p, v, out| walls(brake::brake_action(&config(c), p, v, out))),
-        hold_action: Some(|c, p, out| walls(brake::hold_action(&config(c), p, out))),
+        brake_action: Some(|c, p, v, last, out| walls(brake::brake_action(&config(c), p, v, last, out))),
+        hold_action: Some(|c, p, last, out| walls(brake::hold_action(&config(c), p, last, out))),
         standardise: Some(|c, bin, sc| on_scores(sc, |s| conformal::standardise(&calibration(c), bin, s))),
         aggregate: Some(|c, sc| on_scores(sc, |s| conformal::aggregate(&calibration(c), s))),
         trip: Some(|c, sc| answer(conformal::trip(&calibration(c), &scores(sc)))),
@@ -251,6 +251,10 @@ pub fn config(c: &FuseConfig) -> config::Config {
         absent_camera: match c.absent_camera {
             AbsentCamera::Slow => config::AbsentCamera::Slow,
             AbsentCamera::NoZone => config::AbsentCamera::NoZone,
+        },
+        gripper: match c.gripper {
+            Gripper::ToZero => config::Gripper::ToZero,
+            Gripper::LastCommand => config::Gripper::LastCommand,
         },
         brake: brake(&c.brake),
         clamp: match c.clamp {

@@ -1,7 +1,7 @@
 //! The parts of an input: one of them is broken to damage a good input, and they are made simpler one by one when a
 //! failure is shown.
 
-use model::{AbsentCamera, ActionKind, BrakeKind, ClampMode, ContactLimit, Shape, Zones, MAX_ZONES};
+use model::{AbsentCamera, ActionKind, BrakeKind, ClampMode, ContactLimit, Gripper, Shape, Zones, MAX_ZONES};
 
 use crate::{input::ChunkIn, number::broken, rng::Rng};
 
@@ -26,6 +26,7 @@ pub enum Part<'a> {
     Zones(&'a mut Zones),
     Absent(&'a mut AbsentCamera),
     Shape(&'a mut Shape),
+    Gripper(&'a mut Gripper),
     Chunk(&'a mut ChunkIn),
 }
 
@@ -62,6 +63,7 @@ impl Part<'_> {
             Part::Zones(z) => damage_zones(rng, z),
             Part::Absent(choice) => **choice = rng.pick(&CHOICES),
             Part::Shape(shape) => damage_shape(rng, shape),
+            Part::Gripper(mode) => **mode = rng.pick(&GRIPPERS),
             Part::Chunk(c) => damage_chunk(rng, c),
         }
     }
@@ -85,6 +87,7 @@ impl Part<'_> {
             Part::Zones(z) => simpler_zones(z, way),
             Part::Absent(choice) => once(way, *choice, AbsentCamera::Slow),
             Part::Shape(shape) => simpler_shape(shape, way),
+            Part::Gripper(mode) => once(way, *mode, Gripper::ToZero),
             Part::Chunk(c) => simpler_chunk(c, way),
         }
     }
@@ -107,6 +110,8 @@ pub const BRAKES: [BrakeKind; 5] = [
 ];
 
 pub const CHOICES: [AbsentCamera; 2] = [AbsentCamera::Slow, AbsentCamera::NoZone];
+
+pub const GRIPPERS: [Gripper; 2] = [Gripper::ToZero, Gripper::LastCommand];
 
 fn damage_one(rng: &mut Rng, v: &mut [f64]) {
     if !v.is_empty() {
@@ -295,7 +300,8 @@ fn simpler_zones(z: &mut Zones, way: usize) -> Option<bool> {
     Some(z.count < before.count || way == PAST && format!("{z:?}") != format!("{before:?}"))
 }
 
-/// The box; what the box does not read; and then centre and radius, number by number.
+/// The box; what the box does not read; and then centre and radius, number by number. The usual radius of a box is that of `BOX`, so that
+/// shrinking ends.
 fn simpler_shape(shape: &mut Shape, way: usize) -> Option<bool> {
     match way {
         0 => once(0, &mut shape.disc, false),
@@ -306,7 +312,7 @@ fn simpler_shape(shape: &mut Shape, way: usize) -> Option<bool> {
             Some(changed)
         }
         _ => match (way - 2) / WAYS {
-            0 => simpler_number(&mut shape.radius, 1.0, (way - 2) % WAYS),
+            0 => simpler_number(&mut shape.radius, if shape.disc { 1.0 } else { Shape::BOX.radius }, (way - 2) % WAYS),
             1 => simpler_number(&mut shape.center[0], 0.0, (way - 2) % WAYS),
             2 => simpler_number(&mut shape.center[1], 0.0, (way - 2) % WAYS),
             _ => None,

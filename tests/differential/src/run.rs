@@ -15,7 +15,7 @@ use crate::{part::Part, rng::Rng};
 pub struct Shown {
     pub numbers: Vec<f64>,
     pub counts: Vec<u64>,
-    /// What a request added and the Rust has not, sides and their masks: the port's are compared with the model's.
+    /// What a request added and the Rust has not, sides, their masks and the sign of a kept command: the port's are compared with the model's.
     pub added: Vec<i64>,
 }
 
@@ -27,7 +27,7 @@ pub struct Outcome {
 }
 
 pub type Call<I> = Box<dyn Fn(&I) -> Outcome + Send + Sync>;
-/// `None` where the Rust lacks the size, the choice, the zones or the round table.
+/// `None` where the Rust lacks the size, the choice, the zones, the round table or the gripper's mode.
 pub type RustCall<I> = Box<dyn Fn(&I) -> Option<Outcome> + Send + Sync>;
 pub type Parts<I> = for<'a> fn(&'a mut I) -> Vec<Part<'a>>;
 
@@ -61,7 +61,7 @@ pub struct Report {
     /// by number
     pub refused: [u64; 18],
     pub against_rust: u64,
-    /// accepted, but of a size, a form, a choice, zones or a round table that the Rust lacks
+    /// accepted, but of a size, a form, a choice, zones, a round table or a gripper's mode that the Rust lacks
     pub skipped: u64,
     pub against_port: u64,
     pub seconds: f64,

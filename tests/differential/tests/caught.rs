@@ -13,8 +13,8 @@ use model::{
     fmath::{self, min},
     refusal::{SHAPE, WITHDRAWN},
     AbsentCamera, ActionKind, BrakeKind, BrakeOut, Calibration, ChunkView, ClampMode, ContactLimit, Derived,
-    FuseConfig, Refusal, Scores, Shape, Tier0Out, Tier1Rt, Trail, WallMarks, Zones, CONTACT, MAX_D, NAMED, REACH,
-    SPEED, STALL, WORKSPACE,
+    FuseConfig, Gripper, Refusal, Scores, Shape, Tier0Out, Tier1Rt, Trail, WallMarks, Zones, CONTACT, MAX_D, NAMED,
+    REACH, SPEED, STALL, WORKSPACE,
 };
 
 /// What the run of one entry says with this port.
@@ -817,8 +817,10 @@ macro_rules! braked {
     ($masks:expr) => {{
         const MASKS: fn(&FuseConfig, &[f64], WallMarks) -> WallMarks = $masks;
         Port {
-            brake_action: Some(|cfg, p, v, out| brake::brake_action(cfg, p, v, out).map(|w| MASKS(cfg, p, w))),
-            hold_action: Some(|cfg, p, out| brake::hold_action(cfg, p, out).map(|w| MASKS(cfg, p, w))),
+            brake_action: Some(|cfg, p, v, last, out| {
+                brake::brake_action(cfg, p, v, last, out).map(|w| MASKS(cfg, p, w))
+            }),
+            hold_action: Some(|cfg, p, last, out| brake::hold_action(cfg, p, last, out).map(|w| MASKS(cfg, p, w))),
             ..Port::default()
         }
     }};
@@ -830,11 +832,13 @@ fn position_masks(cfg: &FuseConfig, p: &[f64], n: usize, side: fn(f64, f64, f64)
     masks(&derived, n, |c| p.get(c).copied().unwrap_or(0.0), side)
 }
 
+/// Whether brake and hold write positions.
+fn positions(cfg: &FuseConfig) -> bool {
+    !matches!(cfg.kind, ActionKind::JointVelocity | ActionKind::EeDelta)
+}
+
 #[test]
 fn masks_of_brake_and_hold_that_are_others() {
-    fn positions(cfg: &FuseConfig) -> bool {
-        !matches!(cfg.kind, ActionKind::JointVelocity | ActionKind::EeDelta)
-    }
     let touched = braked!(|c, p, w| if positions(c) { position_masks(c, p, shared(c), touched) } else { w });
     let swapped = braked!(|_, _, w| WallMarks { low_dims: w.high_dims, high_dims: w.low_dims });
     let past_pos_dim = braked!(|c, p, w| if positions(c) { position_masks(c, p, c.dim, fmath::side) } else { w });
@@ -897,19 +901,19 @@ macro_rules! braked_with {
                 }
                 Ok(answer.unwrap_or(right))
             }),
-            brake_action: Some(|cfg, p, v, out| {
+            brake_action: Some(|cfg, p, v, last, out| {
                 let mut seen = out.to_vec();
-                let right = brake::brake_action(cfg, p, v, out)?;
-                let answer = brake::brake_action(&other(cfg), p, v, &mut seen);
+                let right = brake::brake_action(cfg, p, v, last, out)?;
+                let answer = brake::brake_action(&other(cfg), p, v, last, &mut seen);
                 if answer.is_ok() {
                     out.copy_from_slice(&seen);
                 }
                 Ok(answer.unwrap_or(right))
             }),
-            hold_action: Some(|cfg, p, out| {
+            hold_action: Some(|cfg, p, last, out| {
                 let mut seen = out.to_vec();
-                let right = brake::hold_action(cfg, p, out)?;
-                let answer = brake::hold_action(&other(cfg), p, &mut seen);
+                let right = brake::hold_action(cfg, p, last, out)?;
+                let answer = brake::hold_action(&other(cfg), p, last, &mut seen);
                 if answer.is_ok() {
                     out.copy_from_slice(&seen);
                 }
@@ -1193,9 +1197,9 @@ fn a_factor_of_1() {
         assert!(text.contains("the port leaves other buffers than the model") && text.contains("disc: true"));
     }
     let sent = Port {
-        hold_action: Some(|cfg, p, out| {
-            let walls = brake::hold_action(cfg, p, out)?;
-            if table(cfg) && !matches!(cfg.kind, ActionKind::JointVelocity | ActionKind::EeDelta) {
+        hold_action: Some(|cfg, p, last, out| {
+            let walls = brake::hold_action(cfg, p, last, out)?;
+            if table(cfg) && positions(cfg) {
                 let at = |c: usize| p.get(c).copied().unwrap_or(0.0);
                 let mut point = [at(0), at(1)];
                 scaled(&cfg.shape, &mut point, cfg.shape.radius, cfg.shape.radius);
@@ -1291,9 +1295,9 @@ fn a_position_that_is_not_moved_onto_the_disc() {
         assert!(text.contains("disc: true"), "a table");
     }
     let unmeasured = Port {
-        hold_action: Some(|cfg, p, out| match brake::hold_action(cfg, p, out) {
+        hold_action: Some(|cfg, p, last, out| match brake::hold_action(cfg, p, last, out) {
             Err(r) if r.number == 13 => {
-                brake::hold_action(&FuseConfig { shape: Shape::disc([0.0; 2], 1.0), ..*cfg }, &[], out)
+                brake::hold_action(&FuseConfig { shape: Shape::disc([0.0; 2], 1.0), ..*cfg }, &[], last, out)
             }
             said => said,
         }),
@@ -1388,11 +1392,10 @@ fn masks_of_the_first_two_axes() {
         let text = on_table(pulled, entry);
         assert!(text.contains("added [") && text.contains("not [0, 0]") && text.contains("disc: true"));
     }
-    let sent =
-        braked!(|c, p, w| match table(c) && !matches!(c.kind, ActionKind::JointVelocity | ActionKind::EeDelta) {
-            true => position_masks(c, p, shared(c), fmath::side),
-            false => w,
-        });
+    let sent = braked!(|c, p, w| match table(c) && positions(c) {
+        true => position_masks(c, p, shared(c), fmath::side),
+        false => w,
+    });
     for entry in ROWS_SENT {
         let text = on_table(sent, entry);
         assert!(text.contains("added [") && text.contains("not [0, 0]") && text.contains("disc: true"));
@@ -1506,6 +1509,348 @@ fn an_arm_on_the_edge_that_is_not_feasible() {
     };
     let shown = on_table(Port { brake_feasible: Some(strict), ..Port::default() }, "brake_feasible");
     assert!(shown.contains("disc: true"), "{shown}");
+}
+
+// ---- grippers
+
+/// What brake and hold are told beside a velocity.
+#[derive(Clone)]
+struct Told {
+    cfg: FuseConfig,
+    p: Vec<f64>,
+    last: Vec<f64>,
+}
+
+impl Told {
+    fn keeps(&self) -> bool {
+        self.cfg.gripper == Gripper::LastCommand
+    }
+
+    /// A last command that is refused with 11 in the new mode, or with 12.
+    fn refuse(&mut self, number: u8) {
+        self.cfg.gripper = Gripper::LastCommand;
+        self.last = vec![f64::NAN; if number == 12 { self.cfg.dim.min(MAX_D) } else { 0 }];
+    }
+
+    /// A last command that is long enough, with zeros for what is missing.
+    fn lengthen(&mut self) {
+        let length = self.last.len().max(self.cfg.dim.min(MAX_D));
+        self.last.resize(length, 0.0);
+    }
+
+    /// Whether the last command is written past pos_dim.
+    fn writes(&self) -> bool {
+        self.keeps() && positions(&self.cfg)
+    }
+
+    /// The axes that it is written on.
+    fn kept(&self) -> std::ops::Range<usize> {
+        let end = if self.writes() { self.cfg.dim } else { 0 };
+        self.cfg.pos_dim.min(end)..end
+    }
+}
+
+/// How a wrong brake and a wrong hold part from the model's: what they are told, what they answer, and what they make of the row that an
+/// accepted call writes.
+struct Wrong {
+    told: fn(&mut Told),
+    answer: fn(&Told, Result<WallMarks, Refusal>) -> Result<WallMarks, Refusal>,
+    row: fn(&Told, &mut [f64]),
+}
+
+const RIGHT: Wrong = Wrong { told: |_| (), answer: |_, said| said, row: |_, _| () };
+
+/// A port that parts from the model in one way.
+macro_rules! gripped {
+    ($($field:ident: $way:expr),*) => {{
+        const WRONG: Wrong = Wrong { $($field: $way,)* ..RIGHT };
+        fn sent(
+            came: Told,
+            out: &mut [f64],
+            call: impl Fn(&Told, &mut [f64]) -> Result<WallMarks, Refusal>,
+        ) -> Result<WallMarks, Refusal> {
+            let mut other = came.clone();
+            (WRONG.told)(&mut other);
+            let walls = (WRONG.answer)(&came, call(&other, out))?;
+            (WRONG.row)(&came, &mut out[..came.cfg.dim]);
+            Ok(walls)
+        }
+        Port {
+            brake_action: Some(|cfg, p, v, last, out| {
+                let came = Told { cfg: *cfg, p: p.to_vec(), last: last.to_vec() };
+                sent(came, out, |t, out| brake::brake_action(&t.cfg, &t.p, v, &t.last, out))
+            }),
+            hold_action: Some(|cfg, p, last, out| {
+                let came = Told { cfg: *cfg, p: p.to_vec(), last: last.to_vec() };
+                sent(came, out, |t, out| brake::hold_action(&t.cfg, &t.p, &t.last, out))
+            }),
+            ..Port::default()
+        }
+    }};
+}
+
+/// The texts of both entries' runs with a gripper, which have to say all of this.
+fn gripper_found(port: Port, said: &[&str]) -> [String; 2] {
+    ROWS_SENT.map(|entry| {
+        let text = failure(port, &format!("{entry} with a gripper"));
+        for words in said {
+            assert!(text.contains(words), "{words} is not said");
+        }
+        text
+    })
+}
+
+const KEPT: &str = "gripper: LastCommand";
+const OTHER_ROW: &str = "the port leaves other buffers than the model";
+
+#[test]
+fn the_last_command_within_pos_dim() {
+    let whole = gripped!(row: |t, row| if t.writes() {
+        row.copy_from_slice(&t.last[..row.len()]);
+    });
+    gripper_found(whole, &[OTHER_ROW, KEPT]);
+    // the axis before pos_dim, and the one after
+    let early = gripped!(row: |t, row| if t.writes() {
+        let first = t.cfg.dim.min(t.cfg.pos_dim) - 1;
+        row[first] = t.last[first];
+    });
+    gripper_found(early, &[OTHER_ROW, KEPT]);
+    let late = gripped!(row: |t, row| if !t.kept().is_empty() {
+        row[t.kept().start] = 0.0;
+    });
+    gripper_found(late, &[OTHER_ROW, KEPT, "dim: 2"]);
+    let ends_early = gripped!(row: |t, row| if t.kept().len() > 1 {
+        row[t.kept().end - 1] = 0.0;
+    });
+    gripper_found(ends_early, &[OTHER_ROW, KEPT, "dim: 3"]);
+    // every axis past those of a round table
+    let off_the_table = gripped!(row: |t, row| if table(&t.cfg) && t.writes() {
+        row[2..].copy_from_slice(&t.last[2..t.cfg.dim]);
+    });
+    gripper_found(off_the_table, &[OTHER_ROW, KEPT, "disc: true", "pos_dim: 3"]);
+}
+
+#[test]
+fn a_velocity_that_writes_the_last_command() {
+    let past = gripped!(row: |t, row| if t.keeps() && !positions(&t.cfg) && t.cfg.pos_dim < t.cfg.dim {
+        row[t.cfg.pos_dim..].copy_from_slice(&t.last[t.cfg.pos_dim..t.cfg.dim]);
+    });
+    for text in gripper_found(past, &[OTHER_ROW, KEPT, "dim: 2"]) {
+        assert!(text.contains("kind: EeDelta") || text.contains("kind: JointVelocity"), "a velocity");
+    }
+}
+
+#[test]
+fn the_rusts_mode_judges_the_last_command() {
+    let numbers = gripped!(told: |t| if !t.keeps() && !t.last.iter().all(|x| x.is_finite()) {
+        t.refuse(12);
+    });
+    let length = gripped!(told: |t| if !t.keeps() && t.last.len() < t.cfg.dim {
+        t.refuse(11);
+    });
+    for (port, number) in [(numbers, 12), (length, 11)] {
+        let said = format!("the port says Refusal {{ number: {number}, place: 0 }}; the model accepts");
+        for text in gripper_found(port, &[&said]) {
+            assert!(!text.contains(KEPT), "the Rust's mode");
+        }
+    }
+}
+
+#[test]
+fn the_rusts_mode_reads_the_last_command() {
+    let read = gripped!(row: |t, row| if !t.writes() {
+        let past = t.cfg.pos_dim.min(row.len());
+        row[past..].iter_mut().zip(t.last.iter().skip(past)).for_each(|(x, last)| *x = *last);
+    });
+    for text in gripper_found(read, &[OTHER_ROW, "dim: 2"]) {
+        assert!(!text.contains(KEPT), "the Rust's mode");
+    }
+}
+
+#[test]
+fn the_codes_of_the_modes_exchanged() {
+    let exchanged = gripped!(told: |t| t.cfg.gripper = if t.keeps() { Gripper::ToZero } else { Gripper::LastCommand });
+    for text in gripper_found(exchanged, &["the port says Refusal { number: 11, place: 0 }; the model accepts"]) {
+        assert!(!text.contains(KEPT), "a form without a tick");
+    }
+}
+
+#[test]
+fn the_new_mode_drops_the_screw() {
+    let opened = gripped!(row: |t, row| row[t.kept()].fill(0.0));
+    gripper_found(opened, &[OTHER_ROW, KEPT, "dim: 2"]);
+    // where the gripper is, and not where it was sent
+    let measured = gripped!(row: |t, row| for j in t.kept() {
+        row[j] = t.p.get(j).copied().unwrap_or(0.0);
+    });
+    gripper_found(measured, &[OTHER_ROW, KEPT, "dim: 2"]);
+}
+
+/// The text of a run in which a last command that is refused is accepted.
+fn accepted_found(port: Port, number: u8) -> [String; 2] {
+    gripper_found(port, &[&format!("the port accepts; the model says Refusal {{ number: {number}, place: 0 }}"), KEPT])
+}
+
+#[test]
+fn a_short_last_command_that_is_accepted() {
+    accepted_found(gripped!(told: |t| t.lengthen()), 11);
+    // by one number
+    let one = gripped!(told: |t| if t.last.len() + 1 == t.cfg.dim {
+        t.lengthen();
+    });
+    accepted_found(one, 11);
+    // where every axis is within pos_dim
+    let within = gripped!(told: |t| if t.cfg.dim <= t.cfg.pos_dim {
+        t.lengthen();
+    });
+    for text in accepted_found(within, 11) {
+        assert!(!text.contains("dim: 2"), "one axis");
+    }
+    // where it reaches pos_dim
+    let reaching = gripped!(told: |t| if t.last.len() >= t.cfg.pos_dim {
+        t.lengthen();
+    });
+    for text in accepted_found(reaching, 11) {
+        assert!(text.contains("dim: 2") && !text.contains("pos_dim"), "an axis past pos_dim");
+    }
+    // of a velocity
+    let velocity = gripped!(told: |t| if !positions(&t.cfg) {
+        t.lengthen();
+    });
+    for text in accepted_found(velocity, 11) {
+        assert!(text.contains("kind: EeDelta") || text.contains("kind: JointVelocity"), "a velocity");
+    }
+}
+
+#[test]
+fn a_last_command_that_is_long_enough_is_refused() {
+    let said = ["the port says Refusal { number: 11, place: 0 }; the model accepts", KEPT];
+    gripper_found(gripped!(told: |t| if t.keeps() && t.last.len() == t.cfg.dim { t.refuse(11) }), &said);
+    let by_pos_dim = gripped!(told: |t| if t.keeps() && t.last.len() < t.cfg.pos_dim { t.refuse(11) });
+    for text in gripper_found(by_pos_dim, &said) {
+        assert!(text.contains("pos_dim: 2"), "more axes of the position");
+    }
+}
+
+/// What is not finite at some places of the last command is passed over.
+macro_rules! passed_over {
+    ($place:expr) => {
+        gripped!(told: |t| if t.keeps() {
+            let passed: fn(&FuseConfig, usize) -> bool = $place;
+            for (j, x) in t.last.iter_mut().enumerate().filter(|(_, x)| !x.is_finite()) {
+                if passed(&t.cfg, j) {
+                    *x = 0.0;
+                }
+            }
+        })
+    };
+}
+
+#[test]
+fn a_last_command_that_is_not_judged() {
+    accepted_found(passed_over!(|_, _| true), 12);
+    // past dim, within pos_dim, and wherever it is not read
+    accepted_found(passed_over!(|c, j| j >= c.dim), 12);
+    accepted_found(passed_over!(|c, j| j < c.dim.min(c.pos_dim)), 12);
+    accepted_found(passed_over!(|c, j| j >= c.dim || j < c.pos_dim), 12);
+    for text in accepted_found(passed_over!(|c, _| c.dim <= c.pos_dim), 12) {
+        assert!(!text.contains("dim: 2"), "one axis");
+    }
+    for text in accepted_found(passed_over!(|c, _| !positions(c)), 12) {
+        assert!(text.contains("kind: EeDelta") || text.contains("kind: JointVelocity"), "a velocity");
+    }
+    // for positions alone, its length and its numbers
+    let positions_alone = gripped!(told: |t| if !positions(&t.cfg) {
+        t.cfg.gripper = Gripper::ToZero;
+    });
+    for text in gripper_found(positions_alone, &["the port accepts; the model says Refusal { number: 1", KEPT]) {
+        assert!(text.contains("kind: EeDelta") || text.contains("kind: JointVelocity"), "a velocity");
+    }
+}
+
+#[test]
+fn a_last_command_judged_elsewhere() {
+    fn unfit(t: &Told) -> bool {
+        t.keeps() && !t.last.iter().all(|x| x.is_finite())
+    }
+    let early = gripped!(answer: |t, said| match said {
+        Err(r) if r.number == 11 && unfit(t) => Err(Refusal { number: 12, ..r }),
+        said => said,
+    });
+    let said = "the port says Refusal { number: 12, place: 0 }; the model says Refusal { number: 11, place: 0 }";
+    gripper_found(early, &[said, KEPT]);
+    let late = gripped!(answer: |t, said| match said {
+        Err(r) if r.number == 12 && unfit(t) => {
+            let mut finite = t.clone();
+            finite.last.fill(0.0);
+            Err(brake::hold_action(&finite.cfg, &finite.p, &finite.last, &mut [0.0; MAX_D]).err().unwrap_or(r))
+        }
+        said => said,
+    });
+    let said = "the port says Refusal { number: 13, place: 0 }; the model says Refusal { number: 12, place: 0 }";
+    gripper_found(late, &[said, KEPT, "disc: true"]);
+    // before the configuration
+    let first = gripped!(answer: |t, said| match said {
+        Err(r) if r.number < 11 && unfit(t) => Err(Refusal { number: 12, ..r }),
+        said => said,
+    });
+    gripper_found(first, &["the port says Refusal { number: 12, place: 0 }; the model says Refusal { number:", KEPT]);
+}
+
+#[test]
+fn a_last_command_that_is_changed() {
+    // a zero of the other sign is the same number, and not the last command
+    let unsigned = gripped!(row: |t, row| for j in t.kept() {
+        row[j] = t.last[j] + 0.0;
+    });
+    for text in gripper_found(unsigned, &["answers otherwise than the model: added [", KEPT]) {
+        assert!(text.contains("-0.0"), "a zero below 0");
+    }
+    // its first numbers, in the place of those past pos_dim
+    let shifted = gripped!(row: |t, row| for j in t.kept() {
+        row[j] = t.last[j - t.cfg.pos_dim];
+    });
+    gripper_found(shifted, &[OTHER_ROW, KEPT, "dim: 2"]);
+    // moved between the walls that the configuration has there, where they are walls
+    let walled = gripped!(row: |t, row| for j in t.kept() {
+        let (lo, hi) = (t.cfg.box_lo[j], t.cfg.box_hi[j]);
+        if lo <= hi {
+            row[j] = fmath::clamp(row[j], lo, hi);
+        }
+    });
+    gripper_found(walled, &[OTHER_ROW, KEPT]);
+    let unprojected = gripped!(row: |t, row| if t.cfg.clamp == ClampMode::Off || t.cfg.armed & WORKSPACE == 0 {
+        row[t.kept()].fill(0.0);
+    });
+    gripper_found(unprojected, &[OTHER_ROW, KEPT]);
+}
+
+#[test]
+fn masks_of_a_last_command() {
+    let marked = gripped!(answer: |t, said| said.map(|w| {
+        let with = |is: fn(f64) -> bool| t.kept().filter(|j| is(t.last[*j])).fold(0, |m, j| m | 1 << j);
+        WallMarks { low_dims: w.low_dims | with(|x| x < 0.0), high_dims: w.high_dims | with(|x| x > 0.0) }
+    }));
+    gripper_found(marked, &["answers otherwise than the model: added [", KEPT]);
+    let unmarked = gripped!(answer: |t, said| said.map(|w| if t.keeps() { WallMarks::default() } else { w }));
+    gripper_found(unmarked, &["answers otherwise than the model: added [0, 0", KEPT]);
+}
+
+/// The last command written, and then the refusal of a position that cannot be measured.
+#[test]
+fn a_refusal_that_writes_the_last_command() {
+    let writes = Port {
+        hold_action: Some(|cfg, p, last, out| {
+            let said = brake::hold_action(cfg, p, last, out);
+            if said.is_err_and(|r| r.number == 13) && cfg.gripper == Gripper::LastCommand && cfg.pos_dim < cfg.dim {
+                out[cfg.pos_dim..cfg.dim].copy_from_slice(&last[cfg.pos_dim..cfg.dim]);
+            }
+            said
+        }),
+        ..Port::default()
+    };
+    let text = failure(writes, "hold_action with a gripper");
+    assert!(text.contains("the port refuses and yet changes a buffer") && text.contains(KEPT));
 }
 
 /// 17 of another configuration than the one that is given; all else of the given one.
@@ -1630,6 +1975,14 @@ fn steps_first(cfg: &FuseConfig) -> Result<model::Derived, Refusal> {
     }
 }
 
+/// The mode LastCommand is refused.
+fn one_mode_alone(cfg: &FuseConfig) -> Result<model::Derived, Refusal> {
+    match cfg.gripper {
+        Gripper::LastCommand => Err(Refusal { number: 1, place: 0 }),
+        Gripper::ToZero => model::envelope::derive(cfg),
+    }
+}
+
 /// A pair is compared with that of the zone before it alone.
 fn neighbours_alone(cfg: &FuseConfig) -> Result<model::Derived, Refusal> {
     let pairs: Vec<(u8, u8)> = cfg.zones.counted().iter().map(|z| (z.a0, z.a1)).collect();
@@ -1688,7 +2041,7 @@ fn shape_after_stall(cfg: &FuseConfig) -> Result<model::Derived, Refusal> {
 
 #[test]
 fn edges_that_are_moved() {
-    let ports: [(differential::port::Derive, &str); 32] = [
+    let ports: [(differential::port::Derive, &str); 34] = [
         (judged!(|c| c.brake.k_p = c.brake.k_p.next_down()), "is below 0: k_p as 0.0: 0 is due"),
         (judged!(|c| c.brake.k_v = c.brake.k_v.next_up()), "above 0: k_v as 0.0: 2 is due"),
         (judged!(|c| c.cal.tau = 0.0), "isn't finite: tau as NaN: 2 is due"),
@@ -1710,6 +2063,14 @@ fn edges_that_are_moved() {
         (neighbours_alone, "a repeated pair: contact and contact2 as (3, 0, ()): 4 is due"),
         (unordered, "a swapped pair is another: contact1 and contact3 as (4, 0, ()): 0 is due"),
         (steps_first, "[dim, dt, substeps, a1] as [false, true, true, false]: 2 is due"),
+        (
+            one_mode_alone,
+            "the Rust's or the new one: (gripper, kind, pos_dim) as (LastCommand, EePosition, 1): 0 is due",
+        ),
+        (
+            judged!(|c| c.box_hi[0] = if c.gripper == Gripper::LastCommand { 1.0 } else { c.box_hi[0] }),
+            "isn't finite: box_hi[0] as NaN, LastCommand: 2 is due",
+        ),
         (judged!(|c| c.cal.mask &= NAMED), "the calibration mask has bit 7: mask as 128: 17 is due"),
         (judged!(|c| c.cal.mask |= c.cal.mask << 1 & 1 << STALL), "has bit 7: mask as 64: 0 is due"),
         (withdrawn!(|c| c.zones = Zones::NONE), "a1], with bit 7 as [false, false, false, true]: 4 is due"),

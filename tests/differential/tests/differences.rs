@@ -3,6 +3,7 @@
 
 use std::panic::catch_unwind;
 
+use differential::port::{BrakeAction, HoldAction};
 use model::*;
 
 const MAX: f64 = f64::MAX;
@@ -91,7 +92,7 @@ fn a_brake_that_does_not_brake() {
     let mut out = [0.0];
     oracle::brake_action(&cfg, &[], &v, &mut out);
     assert_eq!(out, v, "the speed goes out as it came in, although a_max stops it in one tick");
-    assert_eq!(brake::brake_action(&cfg, &[], &v, &mut out), refused(13));
+    assert_eq!(brake::brake_action(&cfg, &[], &v, &[], &mut out), refused(13));
 }
 
 #[test]
@@ -100,11 +101,11 @@ fn a_brake_to_the_upper_corner() {
     let mut out = [0.0];
     oracle::brake_action(&cfg, &p, &[0.0], &mut out);
     assert_eq!(out, [1.0]);
-    assert_eq!(brake::brake_action(&cfg, &p, &[0.0], &mut out), refused(12));
+    assert_eq!(brake::brake_action(&cfg, &p, &[0.0], &[], &mut out), refused(12));
     out = [0.0];
     oracle::hold_action(&cfg, &p, &mut out);
     assert_eq!(out, [1.0]);
-    assert_eq!(brake::hold_action(&cfg, &p, &mut out), refused(12));
+    assert_eq!(brake::hold_action(&cfg, &p, &[], &mut out), refused(12));
 }
 
 #[test]
@@ -203,7 +204,7 @@ fn a_brake_right_despite_an_overflow() {
     let mut out = [7.0];
     oracle::brake_action(&cfg, &[], &[1.0], &mut out);
     assert_eq!(out, [0.0], "an infinite deceleration leaves no speed");
-    assert_eq!(brake::brake_action(&cfg, &[], &[1.0], &mut out), refused(13));
+    assert_eq!(brake::brake_action(&cfg, &[], &[1.0], &[], &mut out), refused(13));
 }
 
 #[test]
@@ -212,7 +213,7 @@ fn a_brake_from_a_nan_speed() {
     let mut out = [7.0];
     oracle::brake_action(&cfg, &[], &[f64::NAN], &mut out);
     assert!(out[0].is_nan());
-    assert_eq!(brake::brake_action(&cfg, &[], &[f64::NAN], &mut out), refused(12));
+    assert_eq!(brake::brake_action(&cfg, &[], &[f64::NAN], &[], &mut out), refused(12));
 }
 
 #[test]
@@ -303,7 +304,7 @@ fn no_side_of_a_wall() {
     }
     let (mut rust, mut out) = ([0.0], [0.0]);
     oracle::brake_action(&cfg, &[2.0], &[], &mut rust);
-    assert_eq!(brake::brake_action(&cfg, &[2.0], &[], &mut out), Ok(WallMarks { low_dims: 0, high_dims: 1 }));
+    assert_eq!(brake::brake_action(&cfg, &[2.0], &[], &[], &mut out), Ok(WallMarks { low_dims: 0, high_dims: 1 }));
     assert_eq!((rust, out), ([1.0], [1.0]));
     assert_eq!((oracle::rust::fmath::clamp(2.0, 0.0, 1.0), fmath::clamp_side(2.0, 0.0, 1.0)), (1.0, (1.0, 1)));
 }
@@ -399,7 +400,7 @@ fn a_corner_that_a_round_table_has_not() {
     oracle::hold_action(&cfg, &corner, &mut rust);
     assert_eq!(rust, corner);
     for hold in [brake::hold_action, port.hold_action.expect("an entry")] {
-        assert_eq!(hold(&disc, &corner, &mut sent), Ok(WallMarks::default()));
+        assert_eq!(hold(&disc, &corner, &[], &mut sent), Ok(WallMarks::default()));
         assert_eq!(sent, [pulled; 2]);
     }
     for feasible in [brake::brake_feasible, port.brake_feasible.expect("an entry")] {
@@ -407,6 +408,41 @@ fn a_corner_that_a_round_table_has_not() {
         assert_eq!([told(corner), told(edge)], [Ok(1.0 - 2f64.sqrt()), Ok(0.0)]);
     }
     assert!(catch_unwind(|| oracle::config(&disc)).is_err(), "the Rust is not asked with a disc");
+}
+
+/// A gripper on the second of two axes, past pos_dim, which a command of 1 has closed: the Rust opens it, and so does the port in the Rust's
+/// mode, whatever is lent; in the new mode it stays closed. There a last command is judged, for a velocity, too, which opens it all the same.
+#[test]
+fn a_gripper_that_keeps_its_screw() {
+    let port = differential::linked::port();
+    let (zeros, closed, nan) = ([0.0; 2], [0.0, 1.0], [f64::NAN, 1.0]);
+    let cfg = FuseConfig { dim: 2, ..boxed(1) };
+    for kind in [ActionKind::EePosition, ActionKind::EeDelta] {
+        let dropped = FuseConfig { kind, ..cfg };
+        let kept = FuseConfig { gripper: Gripper::LastCommand, ..dropped };
+        let (mut held, mut braked) = ([7.0; 2], [7.0; 2]);
+        oracle::hold_action(&dropped, &[], &mut held);
+        oracle::brake_action(&dropped, &[], &[], &mut braked);
+        assert_eq!([held, braked], [zeros; 2]);
+        for (brake, hold) in [
+            (brake::brake_action as BrakeAction, brake::hold_action as HoldAction),
+            (port.brake_action.expect("an entry"), port.hold_action.expect("an entry")),
+        ] {
+            let sent = |cfg: &FuseConfig, last: &[f64]| {
+                let (mut held, mut braked) = ([7.0; 2], [7.0; 2]);
+                let answers = [hold(cfg, &[], last, &mut held), brake(cfg, &[], &[], last, &mut braked)];
+                assert_eq!((answers[0], held), (answers[1], braked));
+                answers[0].map(|_| held)
+            };
+            let row = if kind == ActionKind::EeDelta { zeros } else { closed };
+            assert_eq!([sent(&dropped, &[]), sent(&dropped, &closed), sent(&dropped, &nan)], [Ok(zeros); 3]);
+            assert_eq!(
+                [sent(&kept, &closed), sent(&kept, &closed[..1]), sent(&kept, &nan)],
+                [Ok(row), refused(11), refused(12)]
+            );
+        }
+        assert!(catch_unwind(|| oracle::config(&kept)).is_err(), "the Rust is not asked in the new mode");
+    }
 }
 
 /// A box move that a short leash takes back: nothing of it is left in the Rust's answer.
@@ -543,9 +579,9 @@ fn a_short_predecessor() {
     assert_eq!((rust.trips, out), (0, 7.0), "nothing is checked or written");
     assert_eq!(model, refused(11));
     oracle::brake_action(&cfg, &[0.0], &[0.0], &mut []);
-    assert_eq!(brake::brake_action(&cfg, &[0.0], &[0.0], &mut []), refused(11));
+    assert_eq!(brake::brake_action(&cfg, &[0.0], &[0.0], &[], &mut []), refused(11));
     oracle::hold_action(&cfg, &[0.0], &mut []);
-    assert_eq!(brake::hold_action(&cfg, &[0.0], &mut []), refused(11));
+    assert_eq!(brake::hold_action(&cfg, &[0.0], &[], &mut []), refused(11));
 }
 
 #[test]
@@ -587,7 +623,7 @@ fn a_nan_that_is_not_read() {
     let mut out = [7.0];
     let velocities = FuseConfig { kind: ActionKind::JointVelocity, ..boxed(1) };
     oracle::hold_action(&velocities, &[f64::NAN], &mut out);
-    assert_eq!((out, brake::hold_action(&velocities, &[f64::NAN], &mut out.clone())), ([0.0], refused(12)));
+    assert_eq!((out, brake::hold_action(&velocities, &[f64::NAN], &[], &mut out.clone())), ([0.0], refused(12)));
 }
 
 #[test]
@@ -715,7 +751,7 @@ fn a_configuration_made_by_hand() {
     let crossed = FuseConfig { box_lo: [1.0; 8], box_hi: [-1.0; 8], ..boxed(1) };
     let mut out = [0.0];
     oracle::hold_action(&crossed, &[0.0], &mut out);
-    assert_eq!((out, brake::hold_action(&crossed, &[0.0], &mut out.clone())), ([1.0], refused(2)));
+    assert_eq!((out, brake::hold_action(&crossed, &[0.0], &[], &mut out.clone())), ([1.0], refused(2)));
     let unread = FuseConfig { j_max: f64::NAN, armed: WORKSPACE, ..boxed(1) };
     assert_eq!(checked(&unread, &[0.0], &[], rows(1, &[9.0])), (WORKSPACE, refused(2)));
     let stalled = FuseConfig { calibrated: true, cal: gated(STALL), horizon_ticks: 1, armed: WORKSPACE, ..boxed(1) };

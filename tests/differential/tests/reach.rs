@@ -1,6 +1,6 @@
 //! The generators reach what matters: every trip on its limit and off it, every side of a wall and of clamp, every way in which a zone is not
-//! seen, every zone of several that decides alone, every way on and beside a round table, every kind, every place of 13, and 15 and 17 at every
-//! entry.
+//! seen, every zone of several that decides alone, every way on and beside a round table, every last command of a gripper, every kind, every
+//! place of 13, and 15 and 17 at every entry.
 
 use std::collections::BTreeMap;
 
@@ -15,8 +15,8 @@ use model::{
     tier0 as rule,
 };
 use model::{
-    AbsentCamera, ActionKind, BrakeKind, Calibration, ClampMode, ContactLimit, FuseConfig, Refusal, Shape, Tier0Out,
-    Zones,
+    AbsentCamera, ActionKind, BrakeKind, Calibration, ClampMode, ContactLimit, FuseConfig, Gripper, Refusal, Shape,
+    Tier0Out, Zones,
 };
 use model::{ACCEL, CONTACT, JERK, NFEAT, REACH, SPEED, SPEED_PEAK, STALL, WORKSPACE};
 
@@ -802,6 +802,164 @@ fn the_round_tables_of_brake_and_hold() {
         assert!(!met.0.contains_key(&format!("{name} velocity false too far to measure 0")));
     }
     assert!(!met.0.keys().any(|case| case.contains("disc") && case.contains("Rust asked true")));
+}
+
+/// How dim lies to pos_dim.
+fn to_pos_dim(c: &FuseConfig) -> &'static str {
+    match c.dim.cmp(&c.pos_dim) {
+        std::cmp::Ordering::Less => "dim below pos_dim",
+        std::cmp::Ordering::Equal => "dim at pos_dim",
+        std::cmp::Ordering::Greater => "dim above pos_dim",
+    }
+}
+
+/// Where the last command's first number stands that is not finite.
+fn unfit(i: &brake::BrakeIn) -> Option<&'static str> {
+    let place = i.last.iter().position(|x| !x.is_finite())?;
+    Some(match place {
+        j if j >= i.cfg.dim => "past dim",
+        j if j >= i.cfg.pos_dim => "past pos_dim",
+        _ => "within pos_dim",
+    })
+}
+
+/// What of a last command is judged and read: its length and its numbers, with the number that is given, in either mode.
+fn note_last(met: &mut Met, name: &str, i: &brake::BrakeIn, number: u8, with_zeros: impl Fn(Vec<f64>) -> u8) {
+    let (c, mode) = (&i.cfg, format!("{name} {:?}", i.cfg.gripper));
+    let shape = if c.shape.disc { "disc" } else { "box" };
+    let (short, place) = (i.last.len() < c.dim, unfit(i).unwrap_or("nowhere"));
+    met.note(format!("{mode} {number}"));
+    if number == 0 {
+        met.note(format!("{mode} {shape}, {:?}, {}", c.kind, to_pos_dim(c)));
+        met.note(format!("{mode} {:?}, {}, short {short}, not finite {place}", c.kind, to_pos_dim(c)));
+        met.note(format!("{mode} dim {} pos_dim {}", c.dim, c.pos_dim));
+        met.note(format!("{mode} room {}", i.out.len() - c.dim));
+    }
+    if (1..=8).contains(&c.dim) {
+        met.note(format!("{mode} dim {}, {} numbers", c.dim, i.last.len()));
+    }
+    // what a last command of zeros, long enough, would be answered
+    let otherwise = with_zeros(vec![0.0; c.dim.min(8)]);
+    if c.gripper == Gripper::LastCommand && number != otherwise {
+        met.note(format!("{mode} {number} and not {otherwise} by the last command"));
+        met.note(format!("{mode} {number} by the last command, {:?}, {}", c.kind, to_pos_dim(c)));
+        match number {
+            11 => met.note(format!("{mode} 11 by the last command, not finite {}", place != "nowhere")),
+            _ => met.note(format!("{mode} 12 by the last command, {place}")),
+        }
+    }
+    if number == 11 && i.out.len() < c.dim {
+        met.note(format!("{mode} 11 by the output, the last command short {short}, not finite {}", place != "nowhere"));
+    }
+    if number != 0 && number < 11 || number > 13 {
+        met.note(format!("{mode} the configuration's number, the last command short {short}"));
+    }
+}
+
+/// What is written past pos_dim: the last command beside what the position has there.
+fn note_kept(met: &mut Met, name: &str, i: &brake::BrakeIn) {
+    for (j, x) in i.last.iter().enumerate().take(i.cfg.dim).skip(i.cfg.pos_dim) {
+        let zero = if *x != 0.0 {
+            "no zero"
+        } else if x.is_sign_negative() {
+            "-0.0"
+        } else {
+            "0.0"
+        };
+        let there = match i.p.get(j) {
+            None => "missing",
+            Some(0.0) => "0",
+            Some(_) => "elsewhere",
+        };
+        met.note(format!("{name} keeps {zero}, the position {there}"));
+        met.note(format!("{name} keeps axis {j} of {}", i.cfg.dim));
+    }
+}
+
+#[test]
+fn the_grippers_of_brake_and_hold() {
+    let (port, mut met) = (Port::default(), Met::new());
+    for entry in [brake::brake_action_with_a_gripper(&port), brake::hold_action_with_a_gripper(&port)] {
+        let name = entry.name;
+        for call in 0..CALLS * 2 {
+            let i = entry.input(1, call);
+            let answered = |i: &brake::BrakeIn| (entry.model)(i).answer.map_or_else(|r| r.number, |_| 0);
+            let number = answered(&i);
+            note_last(&mut met, name, &i, number, |last| answered(&brake::BrakeIn { last, ..i.clone() }));
+            let velocity = matches!(i.cfg.kind, ActionKind::JointVelocity | ActionKind::EeDelta);
+            if number == 0 && !velocity && i.cfg.gripper == Gripper::LastCommand {
+                note_kept(&mut met, name, &i);
+            }
+            let shape = if i.cfg.shape.disc { "disc" } else { "box" };
+            note_rust(&mut met, &entry, &i, &format!("{:?} {shape}", i.cfg.gripper));
+        }
+        every_gripper_is_met(&met, name);
+        met.all([format!("{name} ToZero box 0, Rust asked true")]);
+        met.all(
+            ["ToZero disc", "LastCommand box", "LastCommand disc"].map(|c| format!("{name} {c} 0, Rust asked false")),
+        );
+        met.all(["ToZero", "LastCommand"].map(|mode| format!("{name} {mode} disc 13, Rust asked false")));
+    }
+    met.all([
+        "brake_action with a gripper ToZero box 13, Rust asked true".to_string(),
+        "brake_action with a gripper LastCommand box 13, Rust asked false".to_string(),
+    ]);
+    let asked = |case: &&String| case.contains("Rust asked true");
+    assert!(met.0.keys().filter(asked).all(|case| case.contains("ToZero box")), "the Rust has one mode, and the box");
+}
+
+/// What `note_last` and `note_kept` have to have met of one entry.
+fn every_gripper_is_met(met: &Met, name: &str) {
+    let of = |mode: &str, case: String| format!("{name} {mode} {case}");
+    let (modes, sizes) = (["ToZero", "LastCommand"], ["dim below pos_dim", "dim at pos_dim", "dim above pos_dim"]);
+    let kinds = differential::part::KINDS.map(|kind| format!("{kind:?}"));
+    for mode in modes {
+        met.all([0, 1, 2, 3, 4, 11, 12, 13, 15, 17].map(|number| of(mode, number.to_string())));
+        for kind in &kinds {
+            met.all(
+                sizes.iter().flat_map(|size| ["box", "disc"].map(|shape| of(mode, format!("{shape}, {kind}, {size}")))),
+            );
+        }
+        met.all((1..=8).flat_map(|dim| (1..=8).map(move |pos_dim| of(mode, format!("dim {dim} pos_dim {pos_dim}")))));
+        met.all((1..=8).flat_map(|dim| (0..=dim + 2).map(move |n| of(mode, format!("dim {dim}, {n} numbers")))));
+        met.all([0, 1, 2].map(|room| of(mode, format!("room {room}"))));
+        met.all(
+            [true, false].map(|short| of(mode, format!("the configuration's number, the last command short {short}"))),
+        );
+        let both = [(true, true), (true, false), (false, true), (false, false)];
+        met.all(both.map(|(short, unfit)| {
+            of(mode, format!("11 by the output, the last command short {short}, not finite {unfit}"))
+        }));
+    }
+    // in the Rust's mode any last command is accepted
+    for (kind, size) in kinds.iter().flat_map(|kind| sizes.map(|size| (kind, size))) {
+        let places = if size == sizes[2] { &["within pos_dim", "past pos_dim"][..] } else { &["within pos_dim"] };
+        let accepted =
+            |short: bool, place: &str| of("ToZero", format!("{kind}, {size}, short {short}, not finite {place}"));
+        met.all(places.iter().chain(&["nowhere"]).flat_map(|place| [true, false].map(|short| accepted(short, place))));
+        met.all([accepted(false, "past dim")]);
+        let kept = format!("{kind}, {size}, short false, not finite nowhere");
+        met.all([of("LastCommand", kept)]);
+    }
+    // and in the new one it is judged for every kind and every size
+    for number in [11, 12] {
+        let by = |kind: &String, size: &str| of("LastCommand", format!("{number} by the last command, {kind}, {size}"));
+        met.all(kinds.iter().flat_map(|kind| sizes.map(|size| by(kind, size))));
+    }
+    met.all(
+        ["within pos_dim", "past pos_dim", "past dim"]
+            .map(|p| of("LastCommand", format!("12 by the last command, {p}"))),
+    );
+    met.all([true, false].map(|unfit| of("LastCommand", format!("11 by the last command, not finite {unfit}"))));
+    let before = ["11 and not 0", "11 and not 12", "11 and not 13", "12 and not 0", "12 and not 13"];
+    met.all(before.map(|case| of("LastCommand", format!("{case} by the last command"))));
+    let zeros = ["no zero", "0.0", "-0.0"];
+    met.all(zeros.iter().flat_map(|zero| {
+        ["missing", "0", "elsewhere"].map(|there| format!("{name} keeps {zero}, the position {there}"))
+    }));
+    met.all((2..=8).flat_map(|dim| (1..dim).map(move |j| format!("{name} keeps axis {j} of {dim}"))));
+    let judged = |case: &String| case.starts_with(&format!("{name} LastCommand")) && case.contains(", short ");
+    assert!(met.0.keys().filter(|case| judged(case)).all(|case| case.ends_with("short false, not finite nowhere")));
 }
 
 #[test]

@@ -122,7 +122,7 @@ fn a_pulled_point_past_the_edge() {
     assert_eq!(moved(&c, from, past).0[0], WORKSPACE, "a distance of 2");
     let held = alike(|port| {
         let mut out = [7.0; 3];
-        port.hold_action.expect("an entry")(&c, &[far + 4.0], &mut out).map(|w| (w, out))
+        port.hold_action.expect("an entry")(&c, &[far + 4.0], &[], &mut out).map(|w| (w, out))
     });
     assert_eq!(held, Ok((NONE, past)));
 }
@@ -320,8 +320,8 @@ fn the_place_of_the_setpoint() {
 fn held(c: &FuseConfig, p: &[f64]) -> Result<(WallMarks, [f64; 3]), Refusal> {
     alike(|port| {
         let (mut held, mut braked) = ([7.0; 3], [7.0; 3]);
-        let hold = port.hold_action.expect("an entry")(c, p, &mut held);
-        let brake = port.brake_action.expect("an entry")(c, p, &[], &mut braked);
+        let hold = port.hold_action.expect("an entry")(c, p, &[], &mut held);
+        let brake = port.brake_action.expect("an entry")(c, p, &[], &[], &mut braked);
         assert_eq!((brake, braked), (hold, held), "a position is braked as it is held");
         assert!(hold.is_ok() || held == [7.0; 3], "a refusal writes nothing");
         hold.map(|walls| (walls, held))
@@ -351,7 +351,8 @@ fn brake_and_hold() {
         assert_eq!(held(&two, &[3.0, 4.0, 9.0]), Ok((NONE, [3.0, 4.0, 0.0])), "past pos_dim a box of 0..0");
         for kind in [ActionKind::EeDelta, ActionKind::JointVelocity] {
             let velocity = FuseConfig { kind, ..c };
-            let walls = alike(|port| port.hold_action.expect("an entry")(&velocity, &[1e200, 8.0, 9.0], &mut [7.0; 3]));
+            let walls =
+                alike(|port| port.hold_action.expect("an entry")(&velocity, &[1e200, 8.0, 9.0], &[], &mut [7.0; 3]));
             assert_eq!(walls, Ok(NONE), "a velocity is not measured");
         }
     }
@@ -360,7 +361,8 @@ fn brake_and_hold() {
 /// What a configuration is answered by every entry that is listed.
 fn judged(c: &FuseConfig) -> Result<Derived, u8> {
     let number = alike(|port| port.derive.expect("an entry")(c).map_err(|r| r.number));
-    let hold = alike(|port| port.hold_action.expect("an entry")(c, &[], &mut [0.0; 8]).map_err(|r| r.number).err());
+    let hold =
+        alike(|port| port.hold_action.expect("an entry")(c, &[], &[], &mut [0.0; 8]).map_err(|r| r.number).err());
     assert_eq!(number.err(), hold);
     number
 }

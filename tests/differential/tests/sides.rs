@@ -58,8 +58,8 @@ fn stopped(cfg: &FuseConfig, p: &[f64], (low_dims, high_dims): (u32, u32), row: 
     for (side, port) in sides() {
         let (mut braked, mut held) = (vec![7.0; cfg.dim], vec![7.0; cfg.dim]);
         let marks = Ok(WallMarks { low_dims, high_dims });
-        assert_eq!(port.brake_action.expect("an entry")(cfg, p, &[], &mut braked), marks, "{side}: {p:?}");
-        assert_eq!(port.hold_action.expect("an entry")(cfg, p, &mut held), marks, "{side}: {p:?}");
+        assert_eq!(port.brake_action.expect("an entry")(cfg, p, &[], &[], &mut braked), marks, "{side}: {p:?}");
+        assert_eq!(port.hold_action.expect("an entry")(cfg, p, &[], &mut held), marks, "{side}: {p:?}");
         assert_eq!((&braked[..], &held[..]), (row, row), "{side}: {p:?}");
     }
 }
@@ -193,7 +193,7 @@ fn the_leash_of_a_slow_zone() {
 extern "C" {
     fn lictor_check_chunk(
         numbers: &[f64; 53],
-        counts: &[u64; 34],
+        counts: &[u64; 35],
         center: &[f64; 192],
         scale: &[f64; 192],
         position: *const f64,
@@ -212,7 +212,7 @@ extern "C" {
     ) -> u64;
     fn lictor_check_action(
         numbers: &[f64; 53],
-        counts: &[u64; 34],
+        counts: &[u64; 35],
         center: &[f64; 192],
         scale: &[f64; 192],
         position: *const f64,
@@ -230,24 +230,28 @@ extern "C" {
     ) -> u64;
     fn lictor_brake_action(
         numbers: &[f64; 53],
-        counts: &[u64; 34],
+        counts: &[u64; 35],
         center: &[f64; 192],
         scale: &[f64; 192],
         position: *const f64,
         position_count: usize,
         velocity: *const f64,
         velocity_count: usize,
+        last: *const f64,
+        last_count: usize,
         out: *mut f64,
         out_count: usize,
         walls: &mut [u64; 2],
     ) -> u64;
     fn lictor_hold_action(
         numbers: &[f64; 53],
-        counts: &[u64; 34],
+        counts: &[u64; 35],
         center: &[f64; 192],
         scale: &[f64; 192],
         position: *const f64,
         position_count: usize,
+        last: *const f64,
+        last_count: usize,
         out: *mut f64,
         out_count: usize,
         walls: &mut [u64; 2],
@@ -257,7 +261,7 @@ extern "C" {
 /// What the four exported functions answer to one row of one coordinate at `x`, with the kind's code and room in the output, and the marks
 /// that they were lent, which held any bits before.
 fn lent(x: f64, kind: u64, room: usize) -> [(u64, Vec<u64>); 4] {
-    let (mut numbers, mut counts) = ([1.0; 53], [0; 34]);
+    let (mut numbers, mut counts) = ([1.0; 53], [0; 35]);
     numbers[5..6].fill(0.0); // margin
     numbers[27..35].fill(-1.0); // box_lo
     counts[0..1].fill(1); // dim
@@ -275,8 +279,8 @@ fn lent(x: f64, kind: u64, room: usize) -> [(u64, Vec<u64>); 4] {
     unsafe {
         let first = lictor_check_chunk(n, c, t, t, z, 1, z, 0, r, 1, 1, 1, 0, o, room, &mut chunk, s);
         let second = lictor_check_action(n, c, t, t, z, 1, z, 0, z, 1, r, 1, o, room, &mut action, s);
-        let third = lictor_brake_action(n, c, t, t, r, 1, z, 0, o, room, &mut braked);
-        let fourth = lictor_hold_action(n, c, t, t, r, 1, o, room, &mut held);
+        let third = lictor_brake_action(n, c, t, t, r, 1, z, 0, z, 0, o, room, &mut braked);
+        let fourth = lictor_hold_action(n, c, t, t, r, 1, z, 0, o, room, &mut held);
         [(first, chunk.to_vec()), (second, action.to_vec()), (third, braked.to_vec()), (fourth, held.to_vec())]
     }
 }

@@ -7,7 +7,7 @@ use model::boundary;
 extern "C" {
     fn lictor_derive(
         numbers: &[f64; 53],
-        counts: &[u64; 34],
+        counts: &[u64; 35],
         center: &[f64; 192],
         scale: &[f64; 192],
         derived: &mut [f64; 29],
@@ -39,7 +39,7 @@ fn count(rng: &mut Rng, good: u64) -> u64 {
 const CHANNELS: [[usize; 2]; 4] = [[6, 7], [27, 28], [29, 30], [31, 32]];
 
 /// Any count of zones about the greatest, and channels on both sides of their field and of the declared ones, some of them twice.
-fn lay_zones(rng: &mut Rng, c: &mut [u64; 34]) {
+fn lay_zones(rng: &mut Rng, c: &mut [u64; 35]) {
     const PAIRS: [[u64; 2]; 9] =
         [[0, 1], [1, 0], [0, 2], [2, 0], [254, 255], [255, 256], [256, 300], [300, 256], [256, 256]];
     c[5] = rng.below(7) as u64;
@@ -50,9 +50,12 @@ fn lay_zones(rng: &mut Rng, c: &mut [u64; 34]) {
     }
 }
 
+/// Codes of a choice between two, and some that are none.
+const CODES: [u64; 12] = [0, 1, 1, 1, 1, 2, 255, 256, 257, 1 << 32, (1 << 32) + 1, u64::MAX];
+
 /// Either shape, or a code that is none, with dim and pos_dim about the least that a disc has.
-fn lay_shape(rng: &mut Rng, c: &mut [u64; 34]) {
-    c[33] = rng.pick(&[0, 1, 1, 1, 1, 2, 255, 256, 257, 1 << 32, (1 << 32) + 1, u64::MAX]);
+fn lay_shape(rng: &mut Rng, c: &mut [u64; 35]) {
+    c[33] = rng.pick(&CODES);
     [c[0], c[1]] = [0; 2].map(|_: u64| rng.pick(&[1, 2, 2, 2, 3, 8, 9]));
 }
 
@@ -73,18 +76,22 @@ fn counts_of_any_width_are_refused_as_the_table_has_them() {
     let good =
         [[1, 1, 0, 1, 0, 1, 0, 1, 1, 1, 1], [1, 1, 1, 1, 1, 1, 1, 1, 1, 63, 2], [1, 3967, 8, 200, 1, 1, 0, 0, 2, 2, 1]]
             .concat();
-    let good = [good, vec![0]].concat();
+    let good = [good, vec![0, 0]].concat();
     let mut rng = Rng::new(15);
-    let (mut given, mut by_zones, mut by_shape) = (Vec::new(), vec![Vec::new(); 6], vec![Vec::new(); 3]);
+    let (mut given, mut by_zones) = (Vec::new(), vec![Vec::new(); 6]);
+    let (mut by_shape, mut by_gripper) = (vec![Vec::new(); 3], vec![Vec::new(); 3]);
     for _ in 0..400_000 {
         let kept = rng.below(3);
-        let mut c: [u64; 34] =
+        let mut c: [u64; 35] =
             std::array::from_fn(|i| if rng.one_in(1 + 4 * kept) { count(&mut rng, good[i]) } else { good[i] });
         if rng.one_in(3) {
             lay_zones(&mut rng, &mut c);
         }
         if rng.one_in(3) {
             lay_shape(&mut rng, &mut c);
+        }
+        if rng.one_in(3) {
+            c[34] = rng.pick(&CODES);
         }
         let mut derived = [7.0; 29];
         // SAFETY: the arrays are as long as include/lictor.h says, and each stands by itself.
@@ -94,11 +101,14 @@ fn counts_of_any_width_are_refused_as_the_table_has_them() {
         given.push(number as u8);
         by_zones[c[5].min(5) as usize].push(number as u8);
         by_shape[c[33].min(2) as usize].push(number as u8);
+        by_gripper[c[34].min(2) as usize].push(number as u8);
     }
     seen(&given, &[0, 1, 3, 4, 15, 17, 255]);
     seen(&by_shape[0], &[0, 1, 3, 4, 17, 255]);
     seen(&by_shape[1], &[0, 1, 3, 4, 15, 17, 255]);
     assert!(!by_shape[0].contains(&15) && by_shape[2].iter().all(|number| *number == 255));
+    by_gripper[..2].iter().for_each(|given| seen(given, &[0, 1, 3, 4, 15, 17, 255]));
+    assert!(by_gripper[2].len() > 1000 && by_gripper[2].iter().all(|number| *number == 255));
     by_zones[..5].iter().for_each(|given| seen(given, &[0, 1, 3, 255]));
     by_zones[1..5].iter().for_each(|given| seen(given, &[4]));
     seen(&by_zones[5], &[1, 255]);

@@ -24,20 +24,20 @@ fn withdrawn(bits: u64) -> bool {
     bits >> STALL & 1 == 1
 }
 
-/// The configuration's 34 counts, by their names in include/lictor.h, all of its numbers being accepted.
-pub fn counts(c: &[u64; 34]) -> u8 {
+/// The configuration's 35 counts, by their names in include/lictor.h, all of its numbers being accepted.
+pub fn counts(c: &[u64; 35]) -> u8 {
     let &[dim, pos_dim, kind, clamp, brake, contact, contact_a0, contact_a1, ref rest @ ..] = c;
     let &[substeps, commit, brake_steps, react_ticks, ref rest @ ..] = rest;
-    let (rest, last) = (rest.first_chunk::<15>().expect("15 counts"), rest.last_chunk::<7>().expect("7 counts"));
+    let (rest, last) = (rest.first_chunk::<15>().expect("15 counts"), rest.last_chunk::<8>().expect("8 counts"));
     let &[ref terms @ .., armed, aux_count, calibrated, mask, n_terms, horizon_ticks, absent_camera] = rest;
-    let &[contact1_a0, contact1_a1, contact2_a0, contact2_a1, contact3_a0, contact3_a1, shape] = last;
+    let &[contact1_a0, contact1_a1, contact2_a0, contact2_a1, contact3_a0, contact3_a1, shape, gripper] = last;
     let gate = calibrated == 1;
     let four =
         [(contact_a0, contact_a1), (contact1_a0, contact1_a1), (contact2_a0, contact2_a1), (contact3_a0, contact3_a1)];
     let zones = &four[..contact.min(4) as usize];
     let bad = |&(a0, a1): &(u64, u64)| a0 == a1 || a0 >= aux_count || a1 >= aux_count;
     let repeated = (1..zones.len()).any(|i| zones[..i].contains(&zones[i]));
-    let code = kind > 4 || clamp > 1 || brake > 4 || calibrated > 1 || absent_camera > 1 || shape > 1;
+    let code = kind > 4 || clamp > 1 || brake > 4 || calibrated > 1 || absent_camera > 1 || shape > 1 || gripper > 1;
     let field = react_ticks > SHORT
         || armed > WORD
         || gate && horizon_ticks > WORD

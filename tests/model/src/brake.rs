@@ -5,8 +5,8 @@ use crate::{
     chunk::{self, action},
     envelope::{self, derive},
     fmath::{max, min},
-    refusal::{judged, not_finite, shorter, when, COMPUTED, SHORT, WIDTH},
-    workspace, ActionKind, BrakeKind, BrakeOut, ChunkView, Derived, FuseConfig, Refusal, WallMarks, MAX_POS,
+    refusal::{first, judged, not_finite, shorter, when, COMPUTED, SHORT, WIDTH},
+    workspace, ActionKind, BrakeKind, BrakeOut, ChunkView, Derived, FuseConfig, Gripper, Refusal, WallMarks, MAX_POS,
 };
 
 const EPS: f64 = 1e-9;
@@ -175,13 +175,26 @@ fn position_kind(kind: ActionKind) -> bool {
     !matches!(kind, ActionKind::JointVelocity | ActionKind::EeDelta)
 }
 
-/// Each coordinate of p, 0.0 past its end, moved inside its workspace; the sides are those of the coordinates that have walls.
-fn inside(cfg: &FuseConfig, derived: &Derived, p: &[f64], out: &mut [f64]) -> Result<WallMarks, Refusal> {
+/// 11 and 12 of the last command, which is an argument in the mode LastCommand alone: for every kind, and also where no axis is past pos_dim.
+fn judge_last(cfg: &FuseConfig, last: &[f64]) -> Option<u8> {
+    match cfg.gripper {
+        Gripper::ToZero => None,
+        Gripper::LastCommand => first(&[shorter(last, cfg.dim), not_finite(last)]),
+    }
+}
+
+/// Each coordinate of p, 0.0 past its end, moved inside its workspace, and in the mode LastCommand the last command past pos_dim. The sides are
+/// those of the coordinates that have walls.
+fn inside(cfg: &FuseConfig, derived: &Derived, p: &[f64], last: &[f64], out: &mut [f64]) -> Result<WallMarks, Refusal> {
     let mut row = [0.0; MAX_POS];
     let there = p.len().min(MAX_POS);
     row[..there].copy_from_slice(&p[..there]);
     let marks = workspace::walls(cfg, derived, |c| row[c]);
     workspace::move_inside(cfg, derived, cfg.dim, &mut row)?;
+    if cfg.gripper == Gripper::LastCommand {
+        let past = cfg.pos_dim.min(cfg.dim)..cfg.dim;
+        row[past.clone()].copy_from_slice(&last[past]);
+    }
     out[..cfg.dim].copy_from_slice(&row[..cfg.dim]);
     Ok(marks)
 }
@@ -197,11 +210,17 @@ fn ramp(cfg: &FuseConfig, v: &[f64]) -> Checked {
     }
 }
 
-pub fn brake_action(cfg: &FuseConfig, p: &[f64], v: &[f64], out: &mut [f64]) -> Result<WallMarks, Refusal> {
-    judged(&[envelope::judge(cfg), shorter(out, cfg.dim), not_finite(p), not_finite(v)])?;
+pub fn brake_action(
+    cfg: &FuseConfig,
+    p: &[f64],
+    v: &[f64],
+    last: &[f64],
+    out: &mut [f64],
+) -> Result<WallMarks, Refusal> {
+    judged(&[envelope::judge(cfg), shorter(out, cfg.dim), not_finite(p), not_finite(v), judge_last(cfg, last)])?;
     let derived = derive(cfg)?;
     if position_kind(cfg.kind) {
-        return inside(cfg, &derived, p, out);
+        return inside(cfg, &derived, p, last, out);
     }
     let scale = ramp(cfg, v)?;
     let mut ramped = [0.0; MAX_POS];
@@ -212,11 +231,11 @@ pub fn brake_action(cfg: &FuseConfig, p: &[f64], v: &[f64], out: &mut [f64]) -> 
     Ok(WallMarks::default())
 }
 
-pub fn hold_action(cfg: &FuseConfig, p: &[f64], out: &mut [f64]) -> Result<WallMarks, Refusal> {
-    judged(&[envelope::judge(cfg), shorter(out, cfg.dim), not_finite(p)])?;
+pub fn hold_action(cfg: &FuseConfig, p: &[f64], last: &[f64], out: &mut [f64]) -> Result<WallMarks, Refusal> {
+    judged(&[envelope::judge(cfg), shorter(out, cfg.dim), not_finite(p), judge_last(cfg, last)])?;
     let derived = derive(cfg)?;
     if position_kind(cfg.kind) {
-        return inside(cfg, &derived, p, out);
+        return inside(cfg, &derived, p, last, out);
     }
     out[..cfg.dim].fill(0.0);
     Ok(WallMarks::default())

@@ -134,6 +134,16 @@ pub enum AbsentCamera {
     NoZone,
 }
 
+/// What brake and hold of a position kind write on the axes past pos_dim, where a gripper is.
+#[derive(Clone, Copy, Debug, Default, PartialEq, Eq)]
+pub enum Gripper {
+    /// What the position has there moved into a box of 0..0, as in the Rust.
+    #[default]
+    ToZero,
+    /// The last command, which the caller lends.
+    LastCommand,
+}
+
 /// What holds the first two coordinates: their walls, or the disc of a round table. With the walls, centre and radius are unread.
 #[derive(Clone, Copy, Debug, PartialEq)]
 pub struct Shape {
@@ -202,6 +212,7 @@ pub struct FuseConfig {
     pub norm_scale: [f64; MAX_D],
     pub zones: Zones,
     pub absent_camera: AbsentCamera,
+    pub gripper: Gripper,
     pub brake: BrakeModel,
     pub clamp: ClampMode,
     pub armed: u32,
@@ -230,6 +241,7 @@ impl FuseConfig {
         norm_scale: [1.0; MAX_D],
         zones: Zones::NONE,
         absent_camera: AbsentCamera::Slow,
+        gripper: Gripper::ToZero,
         brake: BrakeModel {
             kind: BrakeKind::PdSecondOrder,
             k_p: 1.0,
@@ -275,8 +287,8 @@ impl core::fmt::Debug for FuseConfig {
             };
         }
         differing!(dim, pos_dim, kind, dt, v_max, a_max, j_max, reach_max, margin, box_lo, box_hi, shape);
-        differing!(norm_center, norm_scale, zones, absent_camera, brake, clamp, armed, aux_count, calibrated, cal);
-        differing!(horizon_ticks);
+        differing!(norm_center, norm_scale, zones, absent_camera, gripper, brake, clamp, armed, aux_count, calibrated);
+        differing!(cal, horizon_ticks);
         shown.finish_non_exhaustive()
     }
 }

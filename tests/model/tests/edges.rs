@@ -2,13 +2,14 @@
 
 use model::*;
 
-/// What the configuration is answered after one change, the same under either choice.
+/// What the configuration is answered after one change, the same under either choice and in either mode.
 fn judged(change: impl Fn(&mut FuseConfig)) -> Option<u8> {
     let mut c = FuseConfig::WHOLE;
     change(&mut c);
     let number = envelope::judge(&c);
     assert_eq!(envelope::derive(&c).err().map(|r| r.number), number);
     assert_eq!(envelope::judge(&FuseConfig { absent_camera: AbsentCamera::NoZone, ..c }), number);
+    assert_eq!(envelope::judge(&FuseConfig { gripper: Gripper::LastCommand, ..c }), number);
     number
 }
 
@@ -152,8 +153,8 @@ fn at_every_entry(c: &FuseConfig, rows: ChunkView<'_>) -> [Option<u8>; 7] {
     let answers = [
         envelope::derive(c).err(),
         tier0::check_action(c, &zeros, &[], &zeros, &zeros, &mut out).err(),
-        brake::brake_action(c, &zeros, &zeros, &mut out).err(),
-        brake::hold_action(c, &zeros, &mut out).err(),
+        brake::brake_action(c, &zeros, &zeros, &zeros, &mut out).err(),
+        brake::hold_action(c, &zeros, &zeros, &mut out).err(),
         tier0::check_chunk(c, &zeros, &[], rows, &mut out).err(),
         tier1::features(c, &mut rt, &zeros, &[], Some(rows), &mut sc).err(),
         brake::brake_feasible(c, &zeros, &zeros, rows, 0, &mut out).err(),
@@ -486,7 +487,7 @@ fn a_number_of_a_short_message_that_is_not_finite() {
 #[test]
 fn the_choice_as_a_code() {
     let good = |contact: u64, armed: u64, code: u64| {
-        let mut c = [0; 34];
+        let mut c = [0; 35];
         (c[0], c[1], c[5], c[7], c[8], c[20], c[21], c[26]) = (1, 1, contact, 1, 1, armed, 2, code);
         c
     };
@@ -702,7 +703,7 @@ fn zones_past_the_count() {
 #[test]
 fn zones_as_counts() {
     let good = |contact: u64, aux_count: u64| {
-        let mut c = [0; 34];
+        let mut c = [0; 35];
         (c[0], c[1], c[5], c[8], c[21]) = (1, 1, contact, 1, aux_count);
         for (place, channel) in PLACES.iter().flatten().zip(0..) {
             c[*place] = channel;
@@ -982,8 +983,8 @@ fn brake_and_hold_on_a_round_table() {
     let cfg = FuseConfig { armed: 0, clamp: ClampMode::Off, shape: Shape::disc([3.0, 0.0], 1.0), ..TABLE };
     let both = |c: &FuseConfig, p: &[f64]| {
         let (mut held, mut braked) = ([7.0; 3], [7.0; 3]);
-        let hold = brake::hold_action(c, p, &mut held);
-        assert_eq!((brake::brake_action(c, p, &[], &mut braked), braked), (hold, held));
+        let hold = brake::hold_action(c, p, &[], &mut held);
+        assert_eq!((brake::brake_action(c, p, &[], &[], &mut braked), braked), (hold, held));
         hold.map(|walls| (walls, held))
     };
     let none = WallMarks::default();
@@ -1000,14 +1001,14 @@ fn brake_and_hold_on_a_round_table() {
     let narrow = FuseConfig { pos_dim: 2, ..cfg };
     assert_eq!(both(&narrow, &[3.0, 0.5, 2.0]), Ok((none, [3.0, 0.5, 0.0])), "past pos_dim a box of 0..0");
     let velocity = FuseConfig { kind: ActionKind::JointVelocity, ..cfg };
-    assert_eq!(brake::hold_action(&velocity, &[1e200, 0.0, 0.0], &mut [0.0; 3]), Ok(none), "nothing is measured");
+    assert_eq!(brake::hold_action(&velocity, &[1e200, 0.0, 0.0], &[], &mut [0.0; 3]), Ok(none), "nothing is measured");
 }
 
 /// The code as C passes it: 255 before every other number, and 15 by the counts.
 #[test]
 fn the_shape_as_a_code() {
     let with = |dim: u64, pos_dim: u64, shape: u64| {
-        let mut c = [0; 34];
+        let mut c = [0; 35];
         (c[0], c[1], c[8], c[33]) = (dim, pos_dim, 1, shape);
         boundary::counts(&c)
     };
@@ -1019,4 +1020,197 @@ fn the_shape_as_a_code() {
             assert_eq!(with(dim, pos_dim, shape), 255, "{shape}");
         }
     }
+}
+
+const KINDS: [ActionKind; 5] = [
+    ActionKind::EePosition,
+    ActionKind::EeDelta,
+    ActionKind::JointPosition,
+    ActionKind::JointVelocity,
+    ActionKind::Other,
+];
+
+fn velocity(kind: ActionKind) -> bool {
+    [ActionKind::EeDelta, ActionKind::JointVelocity].contains(&kind)
+}
+
+/// Walls at -1 and 1 in the mode LastCommand.
+fn gripping(dim: usize, pos_dim: usize) -> FuseConfig {
+    let (box_lo, box_hi, gripper) = ([-1.0; MAX_POS], [1.0; MAX_POS], Gripper::LastCommand);
+    FuseConfig { dim, pos_dim, box_lo, box_hi, gripper, ..FuseConfig::PLAIN }
+}
+
+/// The same configuration in the Rust's mode.
+fn to_zero(c: &FuseConfig) -> FuseConfig {
+    FuseConfig { gripper: Gripper::ToZero, ..*c }
+}
+
+/// The number or the masks of a brake and of a hold at rest, which are one, and the row that both write; a refusal writes nothing.
+fn sent(c: &FuseConfig, p: &[f64], last: &[f64]) -> Result<(WallMarks, Vec<f64>), u8> {
+    let (mut held, mut braked) = (vec![7.0; c.dim], vec![7.0; c.dim]);
+    let hold = brake::hold_action(c, p, last, &mut held);
+    let brake = brake::brake_action(c, p, &[], last, &mut braked);
+    assert_eq!((brake, &braked), (hold, &held));
+    assert!(hold.is_ok() || held.iter().all(|x| *x == 7.0));
+    hold.map(|walls| (walls, held)).map_err(|r| r.number)
+}
+
+/// A row that is accepted.
+fn row(c: &FuseConfig, p: &[f64], last: &[f64]) -> Vec<f64> {
+    sent(c, p, last).expect("accepted").1
+}
+
+/// Numbers that are told apart from those of a position, of a wall and of one another.
+const LAST: [f64; 10] = [20.0, 21.0, 22.0, 23.0, 24.0, 25.0, 26.0, 27.0, 28.0, 29.0];
+
+/// Of every pair of sizes: the wall within pos_dim, and past it 0 or the last command.
+#[test]
+fn a_gripper_past_pos_dim() {
+    for (dim, pos_dim) in (1..=8).flat_map(|dim| (1..=8).map(move |pos_dim| (dim, pos_dim))) {
+        let within = |j: usize| j < pos_dim;
+        let due = |past: fn(usize) -> f64| (0..dim).map(|j| if within(j) { 1.0 } else { past(j) }).collect::<Vec<_>>();
+        for kind in KINDS {
+            let c = FuseConfig { kind, ..gripping(dim, pos_dim) };
+            let (kept, dropped) = (sent(&c, &[5.0; 8], &LAST), sent(&to_zero(&c), &[5.0; 8], &LAST));
+            let bits = (1 << dim.min(pos_dim)) - 1;
+            let walls = WallMarks { low_dims: 0, high_dims: if velocity(kind) { 0 } else { bits } };
+            if velocity(kind) {
+                assert_eq!((kept, dropped), (Ok((walls, vec![0.0; dim])), Ok((walls, vec![0.0; dim]))), "{kind:?}");
+            } else {
+                assert_eq!(kept, Ok((walls, due(|j| 20.0 + j as f64))), "{kind:?} {dim}, {pos_dim}");
+                assert_eq!(dropped, Ok((walls, due(|_| 0.0))), "{kind:?} {dim}, {pos_dim}");
+            }
+        }
+    }
+}
+
+/// Bit for bit, whatever the position has there: a zero of either sign, the least and the greatest number, and what lies outside every wall.
+#[test]
+fn a_last_command_as_it_came() {
+    let c = gripping(3, 1);
+    let bits = |row: Vec<f64>| row.into_iter().map(f64::to_bits).collect::<Vec<_>>();
+    for x in [0.0, -0.0, 5e-324, -5e-324, 0.5, -1.0, 9.0, f64::MAX, -f64::MAX] {
+        for p in [&[][..], &[0.5], &[0.5, 3.0, -3.0], &[0.5, -0.0, 0.0, 4.0]] {
+            let first = p.first().copied().unwrap_or(0.0);
+            assert_eq!(bits(row(&c, p, &[7.0, x, -x])), [first, x, -x].map(f64::to_bits), "{x:?}");
+        }
+    }
+    assert_eq!(bits(row(&to_zero(&c), &[0.5, -0.0, 3.0], &[9.0; 3])), [0.5, -0.0, 0.0].map(f64::to_bits));
+}
+
+/// A velocity is ramped and a displacement too, as in the Rust's mode, on the axes past pos_dim as on the others.
+#[test]
+fn a_ramp_with_a_gripper() {
+    for (kind, due) in [(ActionKind::JointVelocity, 4.0), (ActionKind::EeDelta, 2.0)] {
+        let c = FuseConfig { kind, dt: 0.5, a_max: 2.0, ..gripping(2, 1) };
+        let ramped = [c, to_zero(&c)].map(|c| {
+            let mut out = [7.0; 2];
+            let walls = brake::brake_action(&c, &[9.0; 2], &[0.0, 5.0], &LAST, &mut out);
+            assert_eq!(walls, Ok(WallMarks::default()));
+            out
+        });
+        assert_eq!(ramped[0], ramped[1], "{kind:?}");
+        assert!(ramped[0][0] == 0.0 && (ramped[0][1] - due).abs() < 1e-8, "{ramped:?}");
+    }
+}
+
+/// 11 on both sides of dim in the mode LastCommand, for every kind and every pair of sizes; no length is judged in the Rust's.
+#[test]
+fn a_last_command_of_every_length() {
+    for (dim, pos_dim) in (1..=8).flat_map(|dim| (1..=8).map(move |pos_dim| (dim, pos_dim))) {
+        for (kind, length) in KINDS.into_iter().flat_map(|kind| (0..=10).map(move |length| (kind, length))) {
+            let c = FuseConfig { kind, ..gripping(dim, pos_dim) };
+            let number = |c: &FuseConfig| sent(c, &[], &LAST[..length]).err();
+            assert_eq!(number(&c), (length < dim).then_some(11), "{kind:?} {dim}, {pos_dim}: {length}");
+            assert_eq!(number(&to_zero(&c)), None, "{kind:?} {dim}, {pos_dim}: {length}");
+        }
+    }
+}
+
+/// 12 for any number of it, within pos_dim, past it and past dim, for every kind; none is judged in the Rust's mode.
+#[test]
+fn a_last_command_that_is_not_finite() {
+    for (dim, pos_dim) in [(1, 1), (1, 3), (2, 2), (3, 1), (3, 2), (8, 8), (8, 1), (1, 8)] {
+        for (kind, place) in KINDS.into_iter().flat_map(|kind| (0..dim + 2).map(move |place| (kind, place))) {
+            let c = FuseConfig { kind, ..gripping(dim, pos_dim) };
+            for bad in [f64::NAN, f64::from_bits(0xfff0_0000_0000_0001), f64::INFINITY, f64::NEG_INFINITY] {
+                let mut last = vec![0.5; dim + 2];
+                last[place] = bad;
+                assert_eq!(sent(&c, &[], &last).err(), Some(12), "{kind:?} {dim}, {pos_dim}: {place}");
+                assert_eq!(sent(&c, &[], &last[..place.max(dim)]).err(), (place < dim).then_some(12), "not lent");
+                assert_eq!(sent(&to_zero(&c), &[], &last).err(), None, "{kind:?} {dim}, {pos_dim}: {place}");
+            }
+        }
+    }
+}
+
+/// The configuration's number, then 11 of either buffer, then 12 of either input, then 13.
+#[test]
+fn a_last_command_in_the_order_of_judging() {
+    let nan = f64::NAN;
+    let table = FuseConfig { dim: 4, gripper: Gripper::LastCommand, ..TABLE };
+    let number = |c: &FuseConfig, p: &[f64], last: &[f64], room: usize| {
+        let (hold, brake) = (
+            brake::hold_action(c, p, last, &mut vec![0.0; room]),
+            brake::brake_action(c, p, &[], last, &mut vec![0.0; room]),
+        );
+        assert_eq!(hold, brake);
+        hold.map_or_else(|r| r.number, |_| 0)
+    };
+    let far = [1e200, 0.0, 0.0];
+    let short = [nan; 3];
+    for (c, due) in [
+        (FuseConfig { pos_dim: 9, ..table }, 1),
+        (FuseConfig { dt: 0.0, ..table }, 2),
+        (FuseConfig { brake: BrakeModel { substeps: 0, ..table.brake }, ..table }, 3),
+        (FuseConfig { zones: Zones::of(&[ContactLimit::UNUSED]), aux_count: 2, ..table }, 2),
+        (FuseConfig { pos_dim: 1, ..table }, 15),
+    ] {
+        assert_eq!(number(&c, &far, &short, 3), due);
+    }
+    assert_eq!(number(&table, &far, &short, 4), 11, "a short one that is not finite");
+    assert_eq!(number(&table, &[nan], &[0.0; 3], 4), 11, "before the position's 12");
+    assert_eq!(number(&table, &[nan], &[nan; 4], 3), 11, "a short output before either 12");
+    assert_eq!(number(&table, &far, &[0.0, 0.0, 0.0, 0.0, nan], 4), 12, "before 13");
+    assert_eq!(number(&table, &[nan], &[0.0; 4], 4), 12);
+    assert_eq!(number(&table, &far, &[0.0; 4], 4), 13, "which the mode does not change");
+    assert_eq!(number(&to_zero(&table), &far, &short, 4), 13, "and no last command is judged before it");
+    assert_eq!(number(&table, &[0.5], &[0.0; 4], 4), 0);
+    // a velocity of which the norm is not finite
+    let fast = FuseConfig { kind: ActionKind::JointVelocity, ..gripping(1, 1) };
+    let braked = |last: &[f64]| brake::brake_action(&fast, &[], &[1e200], last, &mut [0.0]).map_err(|r| r.number);
+    assert_eq!([braked(&[]), braked(&[nan]), braked(&[0.0, nan]), braked(&[0.0])], [11, 12, 12, 13].map(Err));
+}
+
+/// On a round table the first two axes are pulled and the third has its walls, and the last command stands past those.
+#[test]
+fn a_gripper_at_a_round_table() {
+    let shrunk = 1.0 - 2f64.powi(-36);
+    for pos_dim in [2, 3] {
+        let c = FuseConfig { dim: 4, pos_dim, gripper: Gripper::LastCommand, ..TABLE };
+        let third = if pos_dim == 3 { 1.0 } else { -6.0 };
+        let walls = WallMarks { low_dims: 0, high_dims: if pos_dim == 3 { 4 } else { 0 } };
+        let on_table = [6.0 * (shrunk / 10.0), 8.0 * (shrunk / 10.0), third, 0.5];
+        assert_eq!(sent(&c, &[6.0, 8.0, 9.0, 9.0], &[-8.0, -7.0, -6.0, 0.5]), Ok((walls, on_table.to_vec())));
+        let dropped = [on_table[0], on_table[1], if pos_dim == 3 { 1.0 } else { 0.0 }, 0.0];
+        assert_eq!(sent(&to_zero(&c), &[6.0, 8.0, 9.0, 9.0], &[]), Ok((walls, dropped.to_vec())));
+    }
+}
+
+/// The mode's code as C passes it: judged at any size, before every other number.
+#[test]
+fn the_gripper_as_a_code() {
+    let with = |dim: u64, pos_dim: u64, code: u64| {
+        let mut c = [0; 35];
+        (c[0], c[1], c[8], c[34]) = (dim, pos_dim, 1, code);
+        boundary::counts(&c)
+    };
+    for (dim, pos_dim, due) in [(1, 1, 0), (1, 2, 0), (2, 1, 0), (8, 8, 0), (9, 1, 1), (1, 0, 1)] {
+        assert_eq!([with(dim, pos_dim, 0), with(dim, pos_dim, 1)], [due; 2], "{dim}, {pos_dim}");
+        for code in [2, 3, 255, 256, 257, 1 << 32, (1 << 32) + 1, u64::MAX] {
+            assert_eq!(with(dim, pos_dim, code), 255, "{code}");
+        }
+    }
+    assert_eq!((Gripper::default(), FuseConfig::PLAIN.gripper), (Gripper::ToZero, Gripper::ToZero));
+    assert_eq!((Gripper::ToZero as u64, Gripper::LastCommand as u64), (0, 1));
 }

@@ -153,12 +153,15 @@ fn a_bit_stays_where_the_coordinate_is_brought_back() {
     }
 }
 
-/// What brake and hold answer alike: low and high masks, and the row.
+/// What brake and hold answer alike: low and high masks, and the row. The masks are the same where the last command is written past pos_dim.
 fn braked(cfg: &FuseConfig, p: &[f64]) -> (u32, u32, Vec<f64>) {
-    let (mut row, mut held) = (vec![7.0; cfg.dim], vec![7.0; cfg.dim]);
-    let marks = brake::brake_action(cfg, p, &[], &mut row).expect("a brake that is accepted");
-    assert_eq!(brake::hold_action(cfg, p, &mut held), Ok(marks));
+    let (mut row, mut held, last) = (vec![7.0; cfg.dim], vec![7.0; cfg.dim], [-9.0; MAX_D]);
+    let marks = brake::brake_action(cfg, p, &[], &[], &mut row).expect("a brake that is accepted");
+    assert_eq!(brake::hold_action(cfg, p, &[], &mut held), Ok(marks));
     assert_eq!(row, held);
+    let kept = FuseConfig { gripper: Gripper::LastCommand, ..*cfg };
+    assert_eq!(brake::brake_action(&kept, p, &[], &last, &mut held), Ok(marks));
+    assert_eq!(brake::hold_action(&kept, p, &last, &mut held), Ok(marks));
     (marks.low_dims, marks.high_dims, row)
 }
 

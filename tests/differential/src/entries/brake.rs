@@ -1,12 +1,14 @@
 //! Module 7.
 
-use model::{brake as rule, refusal::COMPUTED, BrakeKind, BrakeOut, FuseConfig, Refusal, WallMarks};
+use model::{
+    brake as rule, refusal::COMPUTED, ActionKind, BrakeKind, BrakeOut, FuseConfig, Gripper, Refusal, WallMarks, MAX_D,
+};
 
 use super::numbers;
 use crate::{
     input::{
-        at_least, chunk, config, config_parts, config_parts_with_shape, lay_edge, lay_on_table, lay_table, lay_walls,
-        narrower_config, ChunkIn,
+        at_least, chunk, config, config_parts, config_parts_with_gripper, config_parts_with_shape, last_command,
+        lay_edge, lay_gripper, lay_on_table, lay_table, lay_walls, narrower_config, ChunkIn,
     },
     number::{at_limit, filler, Field},
     part::Part,
@@ -178,10 +180,11 @@ pub struct BrakeIn {
     pub cfg: FuseConfig,
     pub p: Vec<f64>,
     pub v: Vec<f64>,
+    pub last: Vec<f64>,
     pub out: Vec<f64>,
 }
 
-/// Position and velocity of any length, short ones among them.
+/// Position and velocity of any length, short ones among them; the last command is no argument in the Rust's mode, and is left out.
 fn generate_action(rng: &mut Rng) -> BrakeIn {
     let field = Field::new(rng);
     let mut cfg = config(rng, field);
@@ -192,7 +195,7 @@ fn generate_action(rng: &mut Rng) -> BrakeIn {
         cfg.a_max = at_limit(rng, oracle::rust::fmath::norm(&v, nv.min(cfg.dim)) / cfg.dt);
     }
     let out = cfg.dim + rng.pick(&[0, 0, 1, 2]);
-    BrakeIn { cfg, p, v, out: filler(rng, out) }
+    BrakeIn { cfg, p, v, last: Vec::new(), out: filler(rng, out) }
 }
 
 /// A position with a coordinate that is laid about its walls, where it has that one.
@@ -219,6 +222,18 @@ fn generate_action_on_a_round_table(rng: &mut Rng) -> BrakeIn {
     i
 }
 
+/// A brake with a gripper, in a box or at a round table; of sixteen outputs one is too short.
+fn generate_with_a_gripper(rng: &mut Rng) -> BrakeIn {
+    let mut i = if rng.one_in(2) { generate_at_walls(rng) } else { generate_action_on_a_round_table(rng) };
+    lay_gripper(rng, &mut i.cfg);
+    let field = Field::new(rng);
+    i.last = last_command(rng, field, &i.cfg);
+    if rng.one_in(16) {
+        i.out.truncate(rng.below(i.cfg.dim));
+    }
+    i
+}
+
 fn action_parts(i: &mut BrakeIn) -> Vec<Part<'_>> {
     action_parts_and(config_parts, i)
 }
@@ -233,12 +248,61 @@ fn action_parts_and(config: fn(&mut FuseConfig) -> Vec<Part<'_>>, i: &mut BrakeI
     parts
 }
 
+/// The last command stands last, so that it is what a failure shows, and not the walls.
+fn action_parts_with_gripper(i: &mut BrakeIn) -> Vec<Part<'_>> {
+    let mut parts = vec![Part::Slice(&mut i.p), Part::Slice(&mut i.v), Part::Slice(&mut i.out)];
+    parts.extend(config_parts_with_gripper(&mut i.cfg));
+    parts.push(Part::Slice(&mut i.last));
+    parts
+}
+
 fn narrower_action(i: &BrakeIn) -> Vec<BrakeIn> {
     vec![BrakeIn { cfg: narrower_config(&i.cfg), ..i.clone() }; (i.cfg.dim > 1) as usize]
 }
 
-fn written(answer: Result<WallMarks, Refusal>, out: Vec<f64>) -> Outcome {
-    let shown = |w: WallMarks| Shown { added: vec![w.low_dims as i64, w.high_dims as i64], ..Shown::default() };
+/// One axis less, each in turn, or a last command without its first number.
+fn narrower_with_gripper(i: &BrakeIn) -> Vec<BrakeIn> {
+    let axes = if i.cfg.dim > 1 { i.cfg.dim.min(MAX_D) } else { 0 };
+    let mut all: Vec<BrakeIn> = (0..axes).rev().filter_map(|k| without_axis(i, k)).collect();
+    if let [_, rest @ ..] = &i.last[..] {
+        all.push(BrakeIn { last: rest.to_vec(), ..i.clone() });
+    }
+    all
+}
+
+/// The same without an axis, where the position keeps one.
+fn without_axis(i: &BrakeIn, k: usize) -> Option<BrakeIn> {
+    let mut less = i.clone();
+    let BrakeIn { cfg, p, v, last, .. } = &mut less;
+    (cfg.dim, cfg.pos_dim) = (cfg.dim - 1, cfg.pos_dim - (k < cfg.pos_dim) as usize);
+    for axes in [&mut cfg.box_lo, &mut cfg.box_hi, &mut cfg.norm_center, &mut cfg.norm_scale] {
+        axes[k..].rotate_left(1);
+    }
+    for lent in [p, v, last] {
+        if k < lent.len() {
+            lent.remove(k);
+        }
+    }
+    (less.cfg.pos_dim > 0).then_some(less)
+}
+
+/// What is written of the last command, which is compared bit for bit: as numbers, and here by its sign.
+fn kept_signs(cfg: &FuseConfig, out: &[f64]) -> Vec<i64> {
+    let velocity = matches!(cfg.kind, ActionKind::JointVelocity | ActionKind::EeDelta);
+    match (cfg.gripper, velocity) {
+        (Gripper::LastCommand, false) => {
+            let kept = out.get(cfg.pos_dim..cfg.dim).unwrap_or_default();
+            kept.iter().map(|x| x.is_sign_negative() as i64).collect()
+        }
+        _ => Vec::new(),
+    }
+}
+
+fn written(cfg: &FuseConfig, answer: Result<WallMarks, Refusal>, out: Vec<f64>) -> Outcome {
+    let shown = |w: WallMarks| {
+        let masks = vec![w.low_dims as i64, w.high_dims as i64];
+        Shown { added: [masks, kept_signs(cfg, &out)].concat(), ..Shown::default() }
+    };
     Outcome { answer: answer.map(shown), buffers: numbers(&out) }
 }
 
@@ -249,12 +313,12 @@ fn rust_written(out: Vec<f64>) -> Outcome {
 
 fn braked(f: BrakeAction, i: &BrakeIn) -> Outcome {
     let mut out = i.out.clone();
-    written(f(&i.cfg, &i.p, &i.v, &mut out), out)
+    written(&i.cfg, f(&i.cfg, &i.p, &i.v, &i.last, &mut out), out)
 }
 
 fn held(f: HoldAction, i: &BrakeIn) -> Outcome {
     let mut out = i.out.clone();
-    written(f(&i.cfg, &i.p, &mut out), out)
+    written(&i.cfg, f(&i.cfg, &i.p, &i.last, &mut out), out)
 }
 
 pub fn brake_action(port: &Port) -> Entry<BrakeIn> {
@@ -316,6 +380,30 @@ fn on_a_round_table(name: &'static str, whole: Entry<BrakeIn>) -> Entry<BrakeIn>
         generate: generate_action_on_a_round_table,
         parts: action_parts_with_shape,
         rust: Box::new(move |i| if i.cfg.shape.disc { None } else { rust(i) }),
+        ..whole
+    }
+}
+
+/// The two entries with a gripper. The Rust has one mode and the box alone, and is asked there, whatever the last command is.
+pub fn brake_action_with_a_gripper(port: &Port) -> Entry<BrakeIn> {
+    with_a_gripper("brake_action with a gripper", brake_action(port))
+}
+
+pub fn hold_action_with_a_gripper(port: &Port) -> Entry<BrakeIn> {
+    with_a_gripper("hold_action with a gripper", hold_action(port))
+}
+
+fn with_a_gripper(name: &'static str, whole: Entry<BrakeIn>) -> Entry<BrakeIn> {
+    let rust = whole.rust;
+    Entry {
+        name,
+        generate: generate_with_a_gripper,
+        parts: action_parts_with_gripper,
+        narrower: narrower_with_gripper,
+        rust: Box::new(move |i| match (i.cfg.gripper, i.cfg.shape.disc) {
+            (Gripper::ToZero, false) => rust(i),
+            _ => None,
+        }),
         ..whole
     }
 }

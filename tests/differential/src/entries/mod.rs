@@ -41,6 +41,8 @@ pub fn all(port: &Port) -> Vec<Task> {
         brake::hold_action_at_walls(port).task(),
         brake::brake_action_on_a_round_table(port).task(),
         brake::hold_action_on_a_round_table(port).task(),
+        brake::brake_action_with_a_gripper(port).task(),
+        brake::hold_action_with_a_gripper(port).task(),
         conformal::standardise(port).task(),
         conformal::aggregate(port).task(),
         conformal::trip(port).task(),

@@ -3,8 +3,8 @@
 use lictor_core as rust;
 use lictor_detect::tier1;
 use model::{
-    AbsentCamera, ActionKind, BrakeKind, Calibration, ChunkBuf, ChunkView, ClampMode, Derived, FuseConfig, Scores,
-    Tier1Rt, BINS, HELD, MAX_D, MAX_H, NFEAT, STALL,
+    AbsentCamera, ActionKind, BrakeKind, Calibration, ChunkBuf, ChunkView, ClampMode, Derived, FuseConfig, Gripper,
+    Scores, Tier1Rt, BINS, HELD, MAX_D, MAX_H, NFEAT, STALL,
 };
 
 use crate::trail;
@@ -177,10 +177,16 @@ pub fn contact(cfg: &FuseConfig) -> Option<rust::ContactLimit> {
     zone.map(|z| rust::ContactLimit { radius: z.radius, v_max: z.v_max, aux_center: [z.a0, z.a1] })
 }
 
-/// The walls of each axis, which are all that the Rust has of a workspace: a configuration with a disc is not carried over, by `config` or by
-/// `compile`, so that no run against the Rust has a round table.
+/// The walls of each axis, which are all that the Rust has of a workspace, and past pos_dim a box of 0..0: a configuration with a disc or with
+/// another mode of the gripper is not carried over, by `config` or by `compile`, so that no run against the Rust has a round table or a last
+/// command.
 pub fn walls(cfg: &FuseConfig) -> (&[f64], &[f64]) {
     assert!(!cfg.shape.disc, "the Rust has the box alone, and is asked with {:?}", cfg.shape);
+    assert!(
+        cfg.gripper == Gripper::ToZero,
+        "the Rust has Gripper::ToZero alone, and is asked in the mode {:?}",
+        cfg.gripper
+    );
     let pos_dim = cfg.pos_dim.min(model::MAX_POS);
     (&cfg.box_lo[..pos_dim], &cfg.box_hi[..pos_dim])
 }

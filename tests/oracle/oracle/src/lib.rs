@@ -274,7 +274,7 @@ pub fn time_bin(t: u32, horizon_ticks: u32) -> usize {
 mod tests {
     use std::panic::catch_unwind;
 
-    use model::{AbsentCamera, ContactLimit, Shape, Zones};
+    use model::{AbsentCamera, ContactLimit, Gripper, Shape, Zones};
 
     use super::*;
 
@@ -324,6 +324,17 @@ mod tests {
                     assert_eq!(carried(FuseConfig { shape: Shape { disc, center, radius }, ..cfg }), [!disc; 2]);
                 }
             }
+        }
+    }
+
+    /// Whatever the kind, and whether or not an axis is past pos_dim.
+    #[test]
+    fn a_configuration_with_a_last_command_is_not_carried_over() {
+        let kinds = [model::ActionKind::EePosition, model::ActionKind::EeDelta];
+        for (kind, dim) in kinds.into_iter().flat_map(|kind| [1, 2, 3].map(|dim| (kind, dim))) {
+            let cfg = FuseConfig { kind, dim, absent_camera: AbsentCamera::NoZone, ..FuseConfig::WHOLE };
+            assert_eq!(carried(FuseConfig { gripper: Gripper::ToZero, ..cfg }), [true; 2]);
+            assert_eq!(carried(FuseConfig { gripper: Gripper::LastCommand, ..cfg }), [false; 2]);
         }
     }
 
