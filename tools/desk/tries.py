@@ -183,11 +183,11 @@ def record(s):
     counts = [2, 2, 0, project, second_order, count, first.channel0, first.channel1, 2, 1, 1, 1] + [0] * 8
     counts += [s['armed'], s['channels'], 0, 0, 0, 1, s['absent_camera']]
     counts += [channel for found in further for channel in (found.channel0, found.channel1)]
-    box, round_table = 0, 1
-    counts += [round_table if s['disc'] else box]
+    box, round_table, gripper_to_zero = 0, 1, 0
+    counts += [round_table if s['disc'] else box, gripper_to_zero]
     place, row = (s['p'] + eight)[:8], (s['row'] + eight)[:8]
     camera = (s['camera'] + eight)[:8]
-    return struct.pack('<53d34QQ8dQ8d8d8d', *config, *counts, 2, *place, len(s['camera']), *camera, *place, *row)
+    return struct.pack('<53d35QQ8dQ8d8d8d', *config, *counts, 2, *place, len(s['camera']), *camera, *place, *row)
 
 
 def walls(low, high):
