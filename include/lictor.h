@@ -349,7 +349,7 @@ struct lictor_counts {
 #define LICTOR_DISC 1
 
 /* codes of gripper: what a row of positions that brakes or holds has on the axes past pos_dim, where there are no walls. All zeros has the
-   first: 0, which opens a gripper that stands there. With the second it is the last command, which the caller lends, bit for bit: the
+   first: 0, and a gripper that is open at 0 opens. With the second it is the last command, which the caller lends, bit for bit: the
    gripper stays as it was told. Axes within pos_dim are the same under both, and so are the rows of LICTOR_EE_DELTA and
    LICTOR_JOINT_VELOCITY. */
 #define LICTOR_GRIPPER_TO_ZERO 0

@@ -232,7 +232,7 @@ impl Shape {
 /// [`JointVelocity`](ActionKind::JointVelocity).
 #[derive(Clone, Copy, Debug, Default, PartialEq, Eq)]
 pub enum Gripper {
-    /// 0, which opens a gripper that stands there. The last command is neither judged nor read.
+    /// 0: a gripper that is open at 0 opens. The last command is neither judged nor read.
     #[default]
     ToZero,
     /// The last command, which the caller lends, bit for bit: the gripper stays as it was told. For every kind of row, a last command shorter

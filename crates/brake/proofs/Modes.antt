@@ -45,10 +45,7 @@ module _ (l : List Judged) (a b s : Bool) where
   by-tests : chain l ≡ 0 → chain (l ++ ((short when a) ∷ (notFinite when b) ∷ (computed when not s) ∷ [])) ≡ (if a then 11 else if b then 12 else if not s then 13 else 0)
   by-tests = first-passes l ((short when a) ∷ (notFinite when b) ∷ (computed when not s) ∷ [])
 
-  -- nothing is refused where each passes, and only there
-  all-pass : chain l ≡ 0 → a ≡ false → b ≡ false → s ≡ true → chain (l ++ ((short when a) ∷ (notFinite when b) ∷ (computed when not s) ∷ [])) ≡ 0
-  all-pass z ea eb es = by-tests z ∙ rw (ea, eb, es)
-
+  -- nothing is refused only where each passes
   each-passes : chain (l ++ ((short when a) ∷ (notFinite when b) ∷ (computed when not s) ∷ [])) ≡ 0 → (chain l ≡ 0) × (a ≡ false) × (b ≡ false) × (s ≡ true)
   each-passes z =
       let w = both-pass l ((short when a) ∷ (notFinite when b) ∷ (computed when not s) ∷ []) z in
@@ -79,29 +76,24 @@ module _ (c : FuseConfig) (tabs : Tables) (measured : Bool) (x : Checked (List F
     configured : refusal (tests c tabs) ≡ 0
     roomy : c .dim ≤ room
     long : c .dim ≤ length last
-    fit : measured ≡ false
     finite : someNotFinite last ≡ false
-    sound : x .sound ≡ true
 
   passed : (last : List Float) (room : ℕ) → numberIn LastCommand last room ≡ 0 → Passed last room
   unfolding lastShort lastUnfit
   passed last room z =
       let w = each-passes (tests c tabs) (ltb room (c .dim) || ltb (length last) (c .dim)) (measured || someNotFinite last) (x .sound) z in
       let lengths = neither (ltb room (c .dim)) (ltb (length last) (c .dim)) (w .1) in
-      let numbers = neither measured (someNotFinite last) (w .2) in
       record {
         configured = w .0;
         roomy = ltb-false room (c .dim) (lengths .0);
         long = ltb-false (length last) (c .dim) (lengths .1);
-        fit = numbers .0;
-        finite = numbers .1;
-        sound = w .3;
+        finite = neither measured (someNotFinite last) (w .2) .1;
       }
 
-  passes-in-zero : (other : List Float) (room : ℕ) → refusal (tests c tabs) ≡ 0 → c .dim ≤ room → measured ≡ false → x .sound ≡ true → numberIn ToZero other room ≡ 0
+  -- with a last command that is long enough and finite the number is the Rust's, whatever is lent there
+  same-number : (last other : List Float) (room : ℕ) → c .dim ≤ length last → someNotFinite last ≡ false → numberIn LastCommand last room ≡ numberIn ToZero other room
   unfolding lastShort lastUnfit
-  passes-in-zero other room z roomy fit =
-      all-pass (tests c tabs) (ltb room (c .dim) || false) (measured || false) (x .sound) z (or-false (ltb room (c .dim)) ∙ le-ltb room (c .dim) roomy) (or-false measured ∙ fit)
+  same-number last other room long finite = rw (le-ltb (length last) (c .dim) long, finite)
 
   -- in the Rust's mode no last command is judged or sent
   without-mode : (masks : WallMasks) (last l : List Float) → c .gripper ≡ ToZero → {k n : ℕ} → k ≡ numberIn (c .gripper) last (length l)
@@ -128,7 +120,7 @@ module _ (c : FuseConfig) (tabs : Tables) (measured : Bool) (x : Checked (List F
   known = passed c tabs measured x last (length l) (sym ek ∙ z)
 
   there : n ≡ 0
-  there = en ∙ passes-in-zero c tabs measured x other (length l) (known .configured) (known .roomy) (known .fit) (known .sound)
+  there = en ∙ sym (same-number c tabs measured x last other (length l) (known .long) (known .finite)) ∙ sym ek ∙ z
 
   narrow : c .dim ≤ 8
   narrow = dim-most binary64 c tabs (accepted binary64 c tabs (known .configured))
@@ -171,7 +163,7 @@ module _ (c : FuseConfig) (tabs : Tables) (measured : Bool) (x : Checked (List F
     as-long = ap length out-is ∙ length-over _ l (c .dim);
   }
 
--- ---- what the mode that has the last command answers where the Rust's accepts: its last command decides
+-- ---- what the mode that has the last command answers beside the Rust's: its last command decides
 
 module _ (c : FuseConfig) (tabs : Tables) (measured : Bool) (x : Checked (List Float)) (masks : WallMasks) (last other : List Float) (room : ℕ) {k n : ℕ}
     (ek : k ≡ numberIn c tabs measured x LastCommand last room) (en : n ≡ numberIn c tabs measured x ToZero other room) where
@@ -187,13 +179,9 @@ module _ (c : FuseConfig) (tabs : Tables) (measured : Bool) (x : Checked (List F
       let w = there-passed m done in
       ek ∙ by-tests (tests c tabs) (ltb room (c .dim) || ltb (length last) (c .dim)) (measured || someNotFinite last) (x .sound) (w .0) ∙ rw (w .1, w .2, w .3, few, unfit)
 
-  same-number : c .dim ≤ length last → someNotFinite last ≡ false → k ≡ n
-  unfolding lastShort lastUnfit
-  same-number long finite = ek ∙ rw (le-ltb (length last) (c .dim) long, finite) (sym en)
-
   last-judged : LastJudged c last (sentAt n masks) (sentAt k masks)
   last-judged = record {
-    where-fit = λ long finite. ap (λ (i : ℕ). sentAt i masks) (same-number long finite);
+    where-fit = λ long finite. ap (λ (i : ℕ). sentAt i masks) (ek ∙ same-number c tabs measured x last other room long finite ∙ sym en);
     where-short = λ m done few. rw (by-last m done true (someNotFinite last) (lt-ltb (length last) (c .dim) few) refl);
     where-not-finite = λ m done long unfit. rw (by-last m done false true (le-ltb (length last) (c .dim) long) unfit);
     enough-long = λ m done. passed c tabs measured x last room (sym ek ∙ sent-zero k masks m done) .long;
