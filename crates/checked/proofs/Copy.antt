@@ -1,12 +1,12 @@
 -- One turn of a loop that copies a list over another, from a place on; a copy of what both lists have; a row of eight.
 use Prim.Native.Nat.{ℕ, zero, suc, _+_, _<_, _≤_, min}
 use mathlib.Core.Path.{_≡_, sym, ap, _∙_}
-use mathlib.Core.List.{List}
+use mathlib.Core.List.{List, _++_}
 use native.Mathlib.Nat.{zero-add, le-refl}
 use native.Mathlib.Numerals.{add-one}
 use native.Mathlib.Omega.{arith}
 use lib.Ieee.{Float, nan}
-use lib.ListN.{length, getD, set, replicate}
+use lib.ListN.{length, getD, take, drop, set, replicate}
 use lib.Seq.{paste, paste-zero, paste-suc}
 use Rattle.checked.specs.Each.{at, over}
 use Rattle.checked.specs.Finite.{+0}
@@ -31,6 +31,10 @@ put-pasted l r (suc n) hl hr =
     ap (λ (x : List Float). set x n (at r n)) (put-pasted l r n (omega arith) (omega arith))
     ∙ ap (λ (k : ℕ). set (paste l 0 r n) k (at r n)) (sym (zero-add n))
     ∙ paste-suc l 0 r n nan (rw zero-add hl) hr
+
+-- the first n numbers of r, and then what l has past them
+pub put-front : (l r : List Float) (n : ℕ) → n ≤ length l → n ≤ length r → over (at r) l n ≡ take n r ++ drop n l
+put-front l r n hl hr = put-pasted l r n hl hr ∙ rw zero-add
 
 pub all-pasted : (l₀ r : List Float) {l : List Float} → length r ≤ length l₀ → l ≡ over (at r) l₀ (min (length r) (min (length r) (length l₀))) → l ≡ paste l₀ 0 r (length r)
 all-pasted l₀ r h e = all-put l₀ r (le-refl (length r)) h e ∙ put-pasted l₀ r (length r) h (le-refl (length r))

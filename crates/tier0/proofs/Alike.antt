@@ -1,8 +1,9 @@
 -- Two calls that read alike answer alike: they may differ in whether CONTACT is armed, in the zones past their count, in the choice for an absent camera, in the position
--- past the shared axes and in the camera's message, where the slow zones come out the same.
+-- past the shared axes and in the camera's message, where the slow zones come out the same. Where ACCEL or JERK is armed in one alone, an action is answered alike still, and of a chunk
+-- all but those two.
 use Prim.Native.Nat.{ℕ, zero, suc, _<_}
-use mathlib.Core.Path.{_≡_, refl}
-use mathlib.Core.Bool.{Bool, true, _||_}
+use mathlib.Core.Path.{_≡_, refl, sym, _∙_}
+use mathlib.Core.Bool.{Bool, true, false, _||_}
 use mathlib.Core.List.{List}
 use lib.Dec.{eqb, ltb}
 use lib.ListN.{length, replicate}
@@ -10,12 +11,15 @@ use lib.Ieee.{Float, Format}
 use Rattle.checked.specs.Each.{at}
 use Rattle.checked.specs.Finite.{+0}
 use Rattle.checked.specs.Row.{padded}
+use Rattle.checked.specs.Checked.{pure}
+use Rattle.bits.specs.Choice.{if_then_else_}
 use Rattle.checked.proofs.Each.{over-same}
 use Rattle.fmath.specs.Answer.{someNotFinite, some-from, someLentNotFinite}
 use Rattle.fmath.proofs.Lengths.{dist-same}
 use Rattle.pull.proofs.Steps.{pulled-same}
 use Rattle.chunk.specs.declared.Header.{Header}
 use Rattle.conformal.specs.Rule.{Tables}
+use Rattle.envelope.specs.Slots.{counted, zoneAt}
 use Rattle.envelope.specs.Promises.{altered, SameZones}
 use Rattle.envelope.specs.Refusals.{sizesOk, zonesOk, numbersFrom, stepsOk, zonesFit}
 use Rattle.envelope.specs.declared.Zones.{Zones}
@@ -27,22 +31,52 @@ use Rattle.envelope.specs.declared.FuseConfig.{FuseConfig}
 use Rattle.tier0.specs.declared.Checks.{Checks}
 use Rattle.tier0.specs.declared.Difference.{Difference}
 use Rattle.tier0.specs.declared.Difference.the-variants.{Accel, Jerk}
-use Rattle.tier0.specs.Rule.{WORKSPACE, SPEED, ACCEL, JERK, REACH, arms, boxDims, Slow, slowZone, outOfWorkspace, outOfReach, movedInside, leashed, reached, moves, project, projection, movesInside, rowMasks, checkAction}
+use Rattle.tier0.specs.Rule.{WORKSPACE, SPEED, ACCEL, JERK, REACH, CONTACT, arms, boxDims, Slow, clear, zoneIn, slowest, slowZone, outOfWorkspace, outOfReach, movedInside, leashed, reached, moves, project, projection, movesInside, rowMasks, Judgement, checkAction}
 use Rattle.tier0.specs.Chunk.{rawRow, startRow, someOutOfWorkspace, someOf, largeAt, tooLarge, nextRow, runRows, projectedRows, rowsMasks, checkChunk}
 use Rattle.tier0.specs.Refusals.{tooShort, chunkTooShort}
 use Rattle.tier0.specs.Of.{checksOf, actionRuling, actionRefusal, actionAnswer, actionOut, chunkRuling, chunkRefusal, chunkAnswer, chunkOut}
 use Rattle.tier0.specs.Promises.{raised, SameChecks}
+use Rattle.tier0.specs.Calm.{ButDifferences}
+use Rattle.tier0.proofs.Slowest.{slowest-alike}
+use Rattle.tier0.proofs.Promises.{chunk-raised}
 
--- every check but CONTACT is armed alike
-pub record ArmedAlike (armed bits : ℕ) : Type 0 where
+-- the checks that can move a row are armed alike, but for CONTACT
+pub record MovesAlike (armed bits : ℕ) : Type 0 where
   pub workspace : raised WORKSPACE bits ≡ raised WORKSPACE armed
   pub speed : raised SPEED bits ≡ raised SPEED armed
-  pub accel : raised ACCEL bits ≡ raised ACCEL armed
-  pub jerk : raised JERK bits ≡ raised JERK armed
   pub reach : raised REACH bits ≡ raised REACH armed
 
-pub armed-as-it-is : (armed : ℕ) → ArmedAlike armed armed
-armed-as-it-is armed = record { workspace = refl; speed = refl; accel = refl; jerk = refl; reach = refl }
+-- and so are those of the differences
+pub record DifferencesAlike (armed bits : ℕ) : Type 0 where
+  pub accel : raised ACCEL bits ≡ raised ACCEL armed
+  pub jerk : raised JERK bits ≡ raised JERK armed
+
+pub moves-as-they-are : (armed : ℕ) → MovesAlike armed armed
+moves-as-they-are armed = record { workspace = refl; speed = refl; reach = refl }
+
+pub differences-as-they-are : (armed : ℕ) → DifferencesAlike armed armed
+differences-as-they-are armed = record { accel = refl; jerk = refl }
+
+pub zones-as-they-are : (z : Zones) → SameZones z z
+zones-as-they-are z = record { same-count = refl; same-places = λ k l. refl }
+
+-- two judgements of a chunk that differ at most in whether ACCEL and JERK are raised
+pub record JudgedAlike (x y : Judgement) : Type 0 where
+  pub judged-after : x .after ≡ y .after
+  pub judged-peak : x .peak ≡ y .peak
+  pub judged-walls : x .walls ≡ y .walls
+  pub judged-trips : ButDifferences (y .trips) (x .trips)
+
+-- two calls of which each zone that counts says the same
+pub zones-same : (f : Format) (s d : Checks) (p aux q cam : List Float) → arms d CONTACT ≡ arms s CONTACT → counted (d .zones) ≡ counted (s .zones)
+    → (arms s CONTACT ≡ true → (k : ℕ) → k < counted (s .zones) → zoneIn f (d .dt) (d .«absent_camera») (zoneAt (d .zones) k) q cam ≡ zoneIn f (s .dt) (s .«absent_camera») (zoneAt (s .zones) k) p aux)
+    → slowZone f d q cam ≡ slowZone f s p aux
+unfolding slowZone
+zones-same f s d p aux q cam armed count each = rw (armed, count) (go (arms s CONTACT) refl)
+  where
+    go : (b : Bool) → arms s CONTACT ≡ b → (if b then slowest f (d .dt) (d .«absent_camera») (zoneAt (d .zones)) q cam (counted (s .zones)) else pure clear) ≡ (if b then slowest f (s .dt) (s .«absent_camera») (zoneAt (s .zones)) p aux (counted (s .zones)) else pure clear)
+    go true e = slowest-alike f (s .dt) (d .dt) (s .«absent_camera») (d .«absent_camera») (zoneAt (s .zones)) (zoneAt (d .zones)) p aux q cam (counted (s .zones)) (each e)
+    go false e = refl
 
 -- the checks with other bits armed, other zones and another choice
 abbrev rearmed : Checks → ℕ → Zones → AbsentCamera → Checks
@@ -67,7 +101,7 @@ rearmed s bits w choice = record {
 
 -- ---- the rules
 
-module _ (f : Format) (s : Checks) (bits : ℕ) (w : Zones) (choice : AbsentCamera) (alike : ArmedAlike (s .armed) bits) where
+module _ (f : Format) (s : Checks) (bits : ℕ) (w : Zones) (choice : AbsentCamera) (alike : MovesAlike (s .armed) bits) where
   abbrev other : Checks
   other = rearmed s bits w choice
 
@@ -79,13 +113,13 @@ module _ (f : Format) (s : Checks) (bits : ℕ) (w : Zones) (choice : AbsentCame
   unfolding arms
   speed-alike = alike .speed
 
-  accel-alike : arms other ACCEL ≡ arms s ACCEL
+  accel-alike : DifferencesAlike (s .armed) bits → arms other ACCEL ≡ arms s ACCEL
   unfolding arms
-  accel-alike = alike .accel
+  accel-alike so = so .accel
 
-  jerk-alike : arms other JERK ≡ arms s JERK
+  jerk-alike : DifferencesAlike (s .armed) bits → arms other JERK ≡ arms s JERK
   unfolding arms
-  jerk-alike = alike .jerk
+  jerk-alike so = so .jerk
 
   reach-alike : arms other REACH ≡ arms s REACH
   unfolding arms
@@ -99,10 +133,10 @@ module _ (f : Format) (s : Checks) (bits : ℕ) (w : Zones) (choice : AbsentCame
   unfolding someOutOfWorkspace
   same-outside-rows rows h = λ i. someOf (λ (k : ℕ). same-outside (rawRow rows (s .dim) k) i) h
 
-  same-large : (d : Difference) (q rows : List Float) (h : ℕ) → tooLarge f other d q rows h ≡ tooLarge f s d q rows h
+  same-large : DifferencesAlike (s .armed) bits → (d : Difference) (q rows : List Float) (h : ℕ) → tooLarge f other d q rows h ≡ tooLarge f s d q rows h
   unfolding tooLarge largeAt
-  same-large Accel q rows h = rw accel-alike
-  same-large Jerk q rows h = rw jerk-alike
+  same-large so Accel q rows h = rw (accel-alike so)
+  same-large so Jerk q rows h = rw (jerk-alike so)
 
   same-mode : (m : ClampMode) → movesInside other m ≡ movesInside s m
   unfolding movesInside
@@ -173,21 +207,38 @@ module _ (f : Format) (s : Checks) (bits : ℕ) (w : Zones) (choice : AbsentCame
             same-row-masks a,
           )
 
-      same-chunk : (rows l : List Float) (h : ℕ) → checkChunk f other q cam rows l h ≡ checkChunk f s p aux rows l h
+      same-chunk : DifferencesAlike (s .armed) bits → (rows l : List Float) (h : ℕ) → checkChunk f other q cam rows l h ≡ checkChunk f s p aux rows l h
       unfolding checkChunk
-      same-chunk rows l h =
+      same-chunk so rows l h =
           let start = startRow s p rows in
           rw (
             same-start rows,
             zone,
             speed-alike,
             same-outside-rows rows h,
-            same-large Accel start rows h,
-            same-large Jerk start rows h,
+            same-large so Accel start rows h,
+            same-large so Jerk start rows h,
             same-reach (rawRow rows (s .dim) 0),
             same-projected (slowZone f s p aux .value) (s .clamp) rows start l h,
             same-rows-masks rows h,
           )
+
+      -- of a chunk, all but its differences
+      same-judged : (rows l : List Float) (h : ℕ) → JudgedAlike (checkChunk f other q cam rows l h .value) (checkChunk f s p aux rows l h .value)
+      unfolding checkChunk
+      same-judged rows l h =
+          let start = startRow s p rows in
+          record {
+            judged-after = rw (same-start rows, zone, same-projected (slowZone f s p aux .value) (s .clamp) rows start l h);
+            judged-peak = rw (same-start rows);
+            judged-walls = same-rows-masks rows h;
+            judged-trips = record {
+              same-workspace-bit = chunk-raised f other q cam rows l h .workspace ∙ rw (same-outside-rows rows h) (sym (chunk-raised f s p aux rows l h .workspace));
+              same-speed-bit = chunk-raised f other q cam rows l h .speed ∙ rw (speed-alike, same-start rows) (sym (chunk-raised f s p aux rows l h .speed));
+              same-reach-bit = chunk-raised f other q cam rows l h .reach ∙ rw (same-reach (rawRow rows (s .dim) 0)) (sym (chunk-raised f s p aux rows l h .reach));
+              same-contact-bit = chunk-raised f other q cam rows l h .contact ∙ rw (zone, same-start rows) (sym (chunk-raised f s p aux rows l h .contact));
+            };
+          }
 
 -- ---- the entries
 
@@ -200,12 +251,12 @@ module _ (f : Format) (t : Tables) (c : FuseConfig) (bits : ℕ) (w : Zones) (ch
   unfolding checksOf
   checks-rearmed = refl
 
-  module _ (alike : ArmedAlike (c .armed) bits) (same : SameZones (c .zones) w) (p aux q cam : List Float) (near : (j : ℕ) → j < boxDims (checksOf f c) → at q j ≡ at p j)
+  module _ (alike : MovesAlike (c .armed) bits) (same : SameZones (c .zones) w) (p aux q cam : List Float) (near : (j : ℕ) → j < boxDims (checksOf f c) → at q j ≡ at p j)
       (short : ltb (length q) (c .«pos_dim») ≡ ltb (length p) (c .«pos_dim»)) (finite : (someNotFinite q || someNotFinite cam) ≡ (someNotFinite p || someNotFinite aux))
       (zone : slowZone f (checksOf f changed) q cam ≡ slowZone f (checksOf f c) p aux) where
-    armed-alike : ArmedAlike (checksOf f c .armed) bits
+    moves-alike : MovesAlike (checksOf f c .armed) bits
     unfolding checksOf
-    armed-alike = alike
+    moves-alike = alike
 
     zone-alike : slowZone f (rearmed (checksOf f c) bits w choice) q cam ≡ slowZone f (checksOf f c) p aux
     zone-alike = rw checks-rearmed at zone
@@ -213,27 +264,44 @@ module _ (f : Format) (t : Tables) (c : FuseConfig) (bits : ℕ) (w : Zones) (ch
     zones-alike : (zonesOk w ≡ zonesOk (c .zones)) × (zonesFit w (c .«aux_count») ≡ zonesFit (c .zones) (c .«aux_count»))
     zones-alike = same-told (c .zones) (c .«aux_count») w same
 
-    chunk-ruled : (rows : List Float) (k : Header) → chunkRuling f changed q cam rows (k .horizon) ≡ chunkRuling f c p aux rows (k .horizon)
-    unfolding chunkRuling
-    chunk-ruled rows k = rw checks-rearmed (same-chunk f (checksOf f c) bits w choice armed-alike p q near aux cam zone-alike rows (replicate 512 +0) (k .horizon))
-
-    chunk-refused : (rows : List Float) (k : Header) (room : ℕ) → chunkRefusal f changed t q cam rows k room ≡ chunkRefusal f c t p aux rows k room
-    unfolding chunkRefusal sizesOk numbersFrom stepsOk chunkTooShort someLentNotFinite some-from
-    chunk-refused rows k room = rw (chunk-ruled rows k, zones-alike .0, zones-alike .1, same .same-count, short, finite)
-
     action-ruled : (prev a : List Float) → actionRuling f changed q cam prev a ≡ actionRuling f c p aux prev a
     unfolding actionRuling
-    action-ruled prev a = rw checks-rearmed (same-action f (checksOf f c) bits w choice armed-alike p q near aux cam zone-alike prev a)
+    action-ruled prev a = rw checks-rearmed (same-action f (checksOf f c) bits w choice moves-alike p q near aux cam zone-alike prev a)
 
     action-refused : (prev a : List Float) (room : ℕ) → actionRefusal f changed t q cam prev a room ≡ actionRefusal f c t p aux prev a room
     unfolding actionRefusal sizesOk numbersFrom stepsOk tooShort someLentNotFinite some-from
     action-refused prev a room = rw (action-ruled prev a, zones-alike .0, zones-alike .1, same .same-count, short, finite)
 
-    pub same-checks : SameChecks f t changed q cam c p aux
-    unfolding chunkAnswer chunkOut actionAnswer actionOut
-    same-checks = record {
-      same-chunk-answer = λ rows k room. rw (chunk-refused rows k room, chunk-ruled rows k);
-      same-chunk-rows = λ rows k l. rw (chunk-refused rows k (length l), chunk-ruled rows k);
-      same-action-answer = λ prev a room. rw (action-refused prev a room, action-ruled prev a);
-      same-action-row = λ prev a l. rw (action-refused prev a (length l), action-ruled prev a);
-    }
+    pub same-action-answer : (prev a : List Float) (room : ℕ) → actionAnswer f changed t q cam prev a room ≡ actionAnswer f c t p aux prev a room
+    unfolding actionAnswer
+    same-action-answer prev a room = rw (action-refused prev a room, action-ruled prev a)
+
+    pub same-action-row : (prev a l : List Float) → actionOut f changed t q cam prev a l ≡ actionOut f c t p aux prev a l
+    unfolding actionOut
+    same-action-row prev a l = rw (action-refused prev a (length l), action-ruled prev a)
+
+    pub chunk-judged : (rows : List Float) (h : ℕ) → JudgedAlike (chunkRuling f changed q cam rows h .value) (chunkRuling f c p aux rows h .value)
+    unfolding chunkRuling
+    chunk-judged rows h = rw checks-rearmed (same-judged f (checksOf f c) bits w choice moves-alike p q near aux cam zone-alike rows (replicate 512 +0) h)
+
+    module _ (so : DifferencesAlike (c .armed) bits) where
+      differences-alike : DifferencesAlike (checksOf f c .armed) bits
+      unfolding checksOf
+      differences-alike = so
+
+      chunk-ruled : (rows : List Float) (k : Header) → chunkRuling f changed q cam rows (k .horizon) ≡ chunkRuling f c p aux rows (k .horizon)
+      unfolding chunkRuling
+      chunk-ruled rows k = rw checks-rearmed (same-chunk f (checksOf f c) bits w choice moves-alike p q near aux cam zone-alike differences-alike rows (replicate 512 +0) (k .horizon))
+
+      chunk-refused : (rows : List Float) (k : Header) (room : ℕ) → chunkRefusal f changed t q cam rows k room ≡ chunkRefusal f c t p aux rows k room
+      unfolding chunkRefusal sizesOk numbersFrom stepsOk chunkTooShort someLentNotFinite some-from
+      chunk-refused rows k room = rw (chunk-ruled rows k, zones-alike .0, zones-alike .1, same .same-count, short, finite)
+
+      pub same-checks : SameChecks f t changed q cam c p aux
+      unfolding chunkAnswer chunkOut
+      same-checks = record {
+        same-chunk-answer = λ rows k room. rw (chunk-refused rows k room, chunk-ruled rows k);
+        same-chunk-rows = λ rows k l. rw (chunk-refused rows k (length l), chunk-ruled rows k);
+        same-action-answer = same-action-answer;
+        same-action-row = same-action-row;
+      }

@@ -43,6 +43,7 @@ pub record Sized (c : FuseConfig) (p rows : List Float) (h room : ℕ) : Type 0 
   pub pos : c .«pos_dim» ≤ length p
   pub some : 0 < h
   pub few : h ≤ 64
+  pub whole : length rows ≡ h * c .dim
   pub there : h * c .dim ≤ length rows
   pub small : h * c .dim ≤ 512
   pub out : h * c .dim ≤ room
@@ -92,6 +93,7 @@ module _ (f : Format) (c : FuseConfig) (t : Tables) (p aux rows : List Float) (k
         pos = ltb-false _ _ (neither (ltb (length p) (c .«pos_dim»)) (ltb room (h * k .dim)) g .0);
         some = w .some-rows;
         few = w .not-long;
+        whole = all-of;
         there = omega arith;
         small = omega arith;
         out = room-for;

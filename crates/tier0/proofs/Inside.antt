@@ -16,7 +16,7 @@ use Rattle.checked.specs.Each.{at, some, over}
 use Rattle.checked.specs.Finite.{+0, finite}
 use Rattle.checked.specs.Row.{padded}
 use Rattle.checked.specs.Checked.{Checked, pure}
-use Rattle.checked.proofs.Each.{and-left, and-right, all-at, some-none, over-keeps}
+use Rattle.checked.proofs.Each.{and-left, and-right, all-at, some-none, some-same, over-keeps}
 use Rattle.fmath.specs.Clamp.{clamped}
 use Rattle.fmath.specs.Clamp as walls
 use Rattle.fmath.specs.Norm.{dist}
@@ -48,13 +48,13 @@ use Rattle.tier0.proofs.Walled.{from-rule, moved-inside-inward, chunk-m
 -- ---- trips
 
 -- an armed check trips where its test holds, of one row and of some
-if-armed : (b : Bool) (x : Checked Bool) → (if b then x else pure false) .value ≡ (b && x .value)
+pub if-armed : (b : Bool) (x : Checked Bool) → (if b then x else pure false) .value ≡ (b && x .value)
 if-armed true x = refl
 if-armed false x = refl
 
-some-armed : (b : Bool) (x : ℕ → Checked Bool) (h : ℕ) → some (λ (i : ℕ). (if b then x i else pure false) .value) h ≡ (b && some (λ (i : ℕ). x i .value) h)
-some-armed true x h = refl
-some-armed false x h = some-none (λ (i : ℕ). false) h (λ i l. refl)
+pub some-armed : (b : Bool) (q : ℕ → Bool) (h : ℕ) → some (λ (i : ℕ). b && q i) h ≡ (b && some q h)
+some-armed true q h = refl
+some-armed false q h = some-none (λ (i : ℕ). false) h (λ i l. refl)
 
 module _ (f : Format) (s : Checks) where
   row-out : (a : List Float) → outOfWorkspace f s a .value ≡ (arms s WORKSPACE && rowOutside f s a)
@@ -63,7 +63,10 @@ module _ (f : Format) (s : Checks) where
 
   rows-out : (rows : List Float) (h : ℕ) → someOutOfWorkspace f s rows h .value ≡ (arms s WORKSPACE && some (λ (i : ℕ). rowOutside f s (rawRow rows (s .dim) i)) h)
   unfolding someOutOfWorkspace someOf outOfWorkspace outside
-  rows-out rows h = some-armed (arms s WORKSPACE) (λ (i : ℕ). outside f (wallsIn (s .shape) (s .walls)) (rawRow rows (s .dim) i) (boxDims s)) h
+  rows-out rows h =
+      let beyond-at : ℕ → Checked Bool = λ i. outside f (wallsIn (s .shape) (s .walls)) (rawRow rows (s .dim) i) (boxDims s) in
+      some-same (λ (i : ℕ). (if arms s WORKSPACE then beyond-at i else pure false) .value) (λ (i : ℕ). arms s WORKSPACE && beyond-at i .value) h (λ i l. if-armed (arms s WORKSPACE) (beyond-at i))
+      ∙ some-armed (arms s WORKSPACE) (λ (i : ℕ). beyond-at i .value) h
 
   -- what is computed of a row, where it is armed, is the distance from the centre
   distance-computed : (a : List Float) (x y radius : Float) → arms s WORKSPACE ≡ true → s .shape ≡ Disc x y radius → outOfWorkspace f s a .sound ≡ fromCentre f x y a .sound

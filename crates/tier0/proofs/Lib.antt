@@ -12,4 +12,7 @@ pub mod Leash
 pub mod Within
 pub mod Inside
 pub mod Alike
+pub mod Raised
+pub mod Differences
+pub mod Calm
 pub mod Zones

@@ -1,19 +1,17 @@
--- What follows from tier 0's rules: when each bit is raised, that a wall which is touched is not exceeded, when there is no slow zone, that
--- unarmed checks move nothing.
+-- What follows from tier 0's rules: when each bit is raised, that a wall which is touched is not exceeded, when there is no slow zone; and where the rows of a chunk
+-- stand in its list.
 use Prim.Native.Nat.{ℕ, zero, suc, _+_, _*_, _≤_, _<_}
 use mathlib.Core.Path.{_≡_, refl, sym, ap, _∙_}
 use mathlib.Core.Bool.{Bool, true, false, not, _&&_, _||_, false≢true, and-true, and-false, or-false}
 use mathlib.Core.List.{List, [], _∷_}
 use native.Mathlib.Omega.{arith}
 use borrow.Author.Tests.{eq-eqb}
-use lib.Dec.{eqb}
 use lib.ListN.{drop, getD}
 use lib.Seq.{getD-drop}
 use lib.Ieee.{Float, Format, nan, inf, fin, mul, lt, le, ne, eq, up, down}
 use Rattle.bits.specs.Choice.{if_then_else_}
 use Rattle.checked.specs.Each.{at, all, over}
 use Rattle.checked.specs.Finite.{finite}
-use Rattle.checked.specs.Row.{padded}
 use Rattle.checked.specs.Checked.{Checked, pure}
 use Rattle.fmath.specs.Norm.{dist}
 use Rattle.checked.proofs.Copy.{padded-at}
@@ -22,18 +20,16 @@ use Rattle.workspace.specs.Shape.{boxed}
 use Rattle.workspace.specs.Rule.{Walls}
 use Rattle.bits.specs.Bits.{bit, bitsWhere}
 use Rattle.bits.proofs.Bits.{bit-where, bits-none}
-use Rattle.envelope.specs.declared.ClampMode.{ClampMode}
-use Rattle.envelope.specs.declared.ClampMode.the-variants.{Off, Project}
 use Rattle.envelope.specs.declared.Contact.{Contact}
 use Rattle.envelope.specs.declared.Contact.the-variants.{None, Zone}
 use Rattle.envelope.specs.declared.AbsentCamera.{AbsentCamera}
 use Rattle.envelope.specs.Slots.{counted, zoneAt}
 use Rattle.chunk.proofs.Rows.{row-fits}
 use Rattle.tier0.specs.declared.Checks.{Checks}
-use Rattle.tier0.specs.Rule.{WORKSPACE, SPEED, ACCEL, JERK, REACH, CONTACT, arms, Slow, clear, seen, insideSeen, insideZone, insideUnseen, zoneStep, zoneIn, slowest, slowZone, tripBits, leash, movedInside, leashed, reached, moves, movedDims, project, projection, checkAction}
-use Rattle.tier0.specs.Promises.{raised, chunkTrips, actionTrips, ChunkRaised, ActionRaised, WallsTouched, NoZones, NoContact, SeenOutside, OutsideRadius, OneZone, zoneFinite, ZoneTold, EachAsked, NoZoneNoLeash, UnarmedAction, UnarmedChunk}
+use Rattle.tier0.specs.Rule.{WORKSPACE, SPEED, ACCEL, JERK, REACH, CONTACT, arms, Slow, clear, seen, insideSeen, insideZone, insideUnseen, zoneStep, zoneIn, slowest, slowZone, tripBits, leash, movedDims, checkAction}
+use Rattle.tier0.specs.Promises.{raised, chunkTrips, actionTrips, ChunkRaised, ActionRaised, WallsTouched, NoZones, NoContact, SeenOutside, OutsideRadius, OneZone, zoneFinite, ZoneTold, EachAsked, NoZoneNoLeash}
 use Rattle.tier0.proofs.Slowest.{slowest-clear, slowest-outside, each-sound}
-use Rattle.tier0.specs.Chunk.{startRow, someLonger, rawRow, putRow, nextRow, runRows, projectedRows, checkChunk}
+use Rattle.tier0.specs.Chunk.{startRow, someLonger, rawRow, putRow, checkChunk}
 
 -- ---- the bits
 
@@ -223,23 +219,20 @@ no-zone-no-leash f s p aux none =
       the-longest-step = λ speed. ap (leash (arms s SPEED) (s .«step_max»)) nothing ∙ rw speed;
     }
 
--- ---- with everything unarmed nothing is moved
+-- ---- with everything unarmed
 
-none-armed : (s : Checks) → s .armed ≡ 0 → (arms s WORKSPACE ≡ false) × ((arms s SPEED ≡ false) × ((arms s REACH ≡ false) × (arms s CONTACT ≡ false)))
+pub none-armed : (s : Checks) → s .armed ≡ 0 → (arms s WORKSPACE ≡ false) × ((arms s SPEED ≡ false) × ((arms s REACH ≡ false) × (arms s CONTACT ≡ false)))
 unfolding arms
 none-armed s e = rw e (refl, (refl, (refl, refl)))
 
--- a row comes out as it went in
-pub unarmed-stays : (f : Format) (s : Checks) (p prev a : List Float) (isFirst : Bool) → s .armed ≡ 0 → moves f s clear p isFirst prev a ≡ pure a
-unfolding moves movedInside leashed reached
-unarmed-stays f s p prev a true e = let w = none-armed s e in rw (w .0, w .1 .0, w .1 .1 .0)
-unarmed-stays f s p prev a false e = let w = none-armed s e in rw (w .0, w .1 .0)
-
--- with nothing armed there is no slow zone
+-- there is no slow zone then
 pub unarmed-no-zone : (f : Format) (s : Checks) (p aux : List Float) → s .armed ≡ 0 → slowZone f s p aux ≡ pure clear
 unfolding slowZone
 unarmed-no-zone f s p aux e = rw (none-armed s e .1 .1 .1)
 
+-- ---- a row that stays
+
+-- a finite number equals itself
 equal-itself : (x : Float) → finite x ≡ true → ne x x ≡ false
 unfolding finite ne eq
 equal-itself nan e = sym e
@@ -247,11 +240,11 @@ equal-itself (inf s) e = absurd (false≢true e)
 equal-itself (fin true m e) h = rw (eq-eqb (m * up e * down e) (m * up e * down e) refl)
 equal-itself (fin false m e) h = rw (eq-eqb (m * up e * down e) (m * up e * down e) refl)
 
--- of a row that stays no bit is set in clamped_dims
-pub unmoved : (a : List Float) (n : ℕ) → ((j : ℕ) → j < n → finite (at a j) ≡ true) → movedDims a a n ≡ 0
-unmoved a n e = bits-none (λ (j : ℕ). ne (at a j) (at a j)) n (λ j l. equal-itself (at a j) (e j l))
+-- so it sets no bit in clamped_dims
+pub no-bit-set : (a : List Float) (n : ℕ) → ((j : ℕ) → j < n → finite (at a j) ≡ true) → movedDims a a n ≡ 0
+no-bit-set a n e = bits-none (λ (j : ℕ). ne (at a j) (at a j)) n (λ j l. equal-itself (at a j) (e j l))
 
--- ---- with everything unarmed, said of the whole checks
+-- ---- rows in a list
 
 -- entry j of a row is that entry of the chunk
 pub row-at : (rows : List Float) (n i : ℕ) → n ≤ 8 → (j : ℕ) → j < n → at (rawRow rows n i) j ≡ at rows (i * n + j)
@@ -261,61 +254,9 @@ pub below-rows : (i h j n : ℕ) → i < h → j < n → i * n + j < h * n
 below-rows i h j n a b = omega (arith, row-fits i h n (h * n) a (omega arith))
 
 -- what is put over the first k numbers from k on is put over the first k + n
-put-over : (g : ℕ → Float) (l r : List Float) (k n : ℕ) → ((j : ℕ) → j < n → at r j ≡ g (k + j)) → putRow r (over g l k) k n ≡ over g l (k + n)
+pub put-over : (g : ℕ → Float) (l r : List Float) (k n : ℕ) → ((j : ℕ) → j < n → at r j ≡ g (k + j)) → putRow r (over g l k) k n ≡ over g l (k + n)
 unfolding putRow over
 put-over g l r k zero e = let z : k + 0 ≡ k = omega arith in rw z
 put-over g l r k (suc n) e =
     let z : k + suc n ≡ suc (k + n) = omega arith in
     rw (z, put-over g l r k n (λ j w. e j (omega arith)), e n (omega arith))
-
-module _ (f : Format) (s : Checks) (e : s .armed ≡ 0) (p : List Float) where
-  after-unarmed : (m : ClampMode) (x : Checked Slow) (prev b : List Float) → x ≡ pure clear → ((j : ℕ) → j < s .dim → finite (at b j) ≡ true) → projection f s m (x .value) p prev b .value ≡ record { rows = b; mask = 0 }
-  unfolding projection project
-  after-unarmed Off x prev b ex real = refl
-  after-unarmed Project x prev b ex real = rw (ex, unarmed-stays f s p prev b true e, unmoved b (s .dim) real)
-
-  module _ (rows q l : List Float) where
-    -- each row of a chunk is written as it came
-    unarmed-row : (i : ℕ) → runRows f s clear p rows q l (suc i) .value .out ≡ putRow (rawRow rows (s .dim) i) (runRows f s clear p rows q l i .value .out) (i * s .dim) (s .dim)
-    unfolding runRows nextRow
-    unarmed-row i = rw (unarmed-stays f s p (runRows f s clear p rows q l i .value .last) (rawRow rows (s .dim) i) (eqb i 0) e)
-
-    none-run : runRows f s clear p rows q l 0 .value .out ≡ over (at rows) l (0 * s .dim)
-    unfolding runRows over
-    none-run = let z : 0 * s .dim ≡ 0 = omega arith in rw z
-
-    -- with nothing armed all rows come out as they came
-    unarmed-rows : s .dim ≤ 8 → (h : ℕ) → runRows f s clear p rows q l h .value .out ≡ over (at rows) l (h * s .dim)
-    unarmed-rows w zero = none-run
-    unarmed-rows w (suc i) =
-        let more : suc i * s .dim ≡ i * s .dim + s .dim = omega arith in
-        unarmed-row i
-        ∙ ap (λ (x : List Float). putRow (rawRow rows (s .dim) i) x (i * s .dim) (s .dim)) (unarmed-rows w i)
-        ∙ put-over (at rows) l (rawRow rows (s .dim) i) (i * s .dim) (s .dim) (row-at rows (s .dim) i w)
-        ∙ ap (over (at rows) l) (sym more)
-
-    -- with nothing armed no bit is set in clamped_dims
-    unarmed-mask : (h : ℕ) → ((i j : ℕ) → i < h → j < s .dim → finite (at (rawRow rows (s .dim) i) j) ≡ true) → runRows f s clear p rows q l h .value .mask ≡ 0
-    unfolding runRows nextRow
-    unarmed-mask zero real = refl
-    unarmed-mask (suc i) real =
-        rw (
-          unarmed-stays f s p (runRows f s clear p rows q l i .value .last) (rawRow rows (s .dim) i) (eqb i 0) e,
-          unmoved (rawRow rows (s .dim) i) (s .dim) (λ j k. real i j (omega arith) k),
-          unarmed-mask i (λ a j k w. real a j (omega arith) w),
-        )
-
-  rows-unarmed : (m : ClampMode) (x : Checked Slow) (rows q l : List Float) (h : ℕ) → x ≡ pure clear → s .dim ≤ 8 → ((k : ℕ) → k < h * s .dim → finite (at rows k) ≡ true) → projectedRows f s m (x .value) p rows q l h .value ≡ record { rows = over (at rows) l (h * s .dim); mask = 0 }
-  unfolding projectedRows
-  rows-unarmed Off x rows q l h ex w real = refl
-  rows-unarmed Project x rows q l h ex w real =
-      let each-real : (i j : ℕ) → i < h → j < s .dim → finite (at (rawRow rows (s .dim) i) j) ≡ true = λ i j a b. ap finite (row-at rows (s .dim) i w j b) ∙ real (i * s .dim + j) (below-rows i h j (s .dim) a b) in
-      rw (ex, unarmed-rows rows q l w h, unarmed-mask rows q l h each-real)
-
-pub unarmed-action : UnarmedAction
-unfolding checkAction
-unarmed-action f s e p aux prev a real = after-unarmed f s e p (s .clamp) (slowZone f s p aux) prev (padded a (s .dim)) (unarmed-no-zone f s p aux e) real
-
-pub unarmed-chunk : UnarmedChunk
-unfolding checkChunk
-unarmed-chunk f s e p aux rows l h w real = rows-unarmed f s e p (s .clamp) (slowZone f s p aux) rows (startRow s p rows) l h (unarmed-no-zone f s p aux e) w real

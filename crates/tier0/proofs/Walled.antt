@@ -58,19 +58,24 @@ abbrev dimsIn : Tier0Out → ℕ
 dimsIn (Passed trips dims speed walls) = dims
 dimsIn (Refused r) = 0
 
+abbrev speedIn : Tier0Out → Float
+speedIn (Passed trips dims speed walls) = speed
+speedIn (Refused r) = +0
+
 abbrev masksIn : Tier0Out → WallMasks
 masksIn (Passed trips dims speed walls) = walls
 masksIn (Refused r) = unmoved
 
--- its number is 0, and its bits and masks are those that were judged
-pub record FromRule (n : ℕ) (j : Judgement) (trips dims : ℕ) (walls : WallMasks) : Type 0 where
+-- its number is 0, and its bits, speed and masks are those that were judged
+pub record FromRule (n : ℕ) (j : Judgement) (trips dims : ℕ) (speed : Float) (walls : WallMasks) : Type 0 where
   pub accepted : n ≡ 0
   pub same-trips : trips ≡ j .trips
   pub same-dims : dims ≡ j .after .mask
+  pub same-speed : speed ≡ j .peak
   pub same-walls : walls ≡ j .walls
 
-pub from-rule : (n : ℕ) (j : Judgement) (trips dims : ℕ) (speed : Float) (walls : WallMasks) → answerAt n j ≡ Passed trips dims speed walls → FromRule n j trips dims walls
-from-rule zero j trips dims speed walls e = record { accepted = refl; same-trips = sym (ap tripsIn e); same-dims = sym (ap dimsIn e); same-walls = sym (ap masksIn e) }
+pub from-rule : (n : ℕ) (j : Judgement) (trips dims : ℕ) (speed : Float) (walls : WallMasks) → answerAt n j ≡ Passed trips dims speed walls → FromRule n j trips dims speed walls
+from-rule zero j trips dims speed walls e = record { accepted = refl; same-trips = sym (ap tripsIn e); same-dims = sym (ap dimsIn e); same-speed = sym (ap speedIn e); same-walls = sym (ap masksIn e) }
 from-rule (suc n) j trips dims speed walls e = absurd (false≢true (ap accepts e))
 
 -- ---- where rows are moved inside the workspace
@@ -215,19 +220,19 @@ module _ (f : Format) (c : FuseConfig) (t : Tables) (p aux rows : List Float) (k
   abbrev w : ℕ
   w = boxDims s
 
-  chunk-ruled : FromRule (chunkRefusal f c t p aux rows k (length l)) (chunkRuling f c p aux rows (k .horizon) .value) trips dims walls
+  pub chunk-ruled : FromRule (chunkRefusal f c t p aux rows k (length l)) (chunkRuling f c p aux rows (k .horizon) .value) trips dims speed walls
   unfolding chunkAnswer
   chunk-ruled = from-rule (chunkRefusal f c t p aux rows k (length l)) _ trips dims speed walls e
 
-  chunk-masks : walls ≡ rowsMasks s rows (k .horizon)
+  pub chunk-masks : walls ≡ rowsMasks s rows (k .horizon)
   unfolding chunkRuling checkChunk
   chunk-masks = chunk-ruled .same-walls
 
-  chunk-sized : chunk.Sized c p rows (k .horizon) (length l)
+  pub chunk-sized : chunk.Sized c p rows (k .horizon) (length l)
   unfolding chunkRefusal
   chunk-sized = chunk.accepted-sizes f c t p aux rows k (length l) (both-pass (configJudged f c t ++ (chunkReasons k (length rows) ++ lentToChunk c p aux rows k (length l) [])) ((computed when not (chunkRuling f c p aux rows (k .horizon) .sound)) ∷ []) (chunk-ruled .accepted) .0)
 
-  chunk-narrow : s .dim ≤ 8
+  pub chunk-narrow : s .dim ≤ 8
   unfolding checksOf
   chunk-narrow = chunk-sized .narrow
 
@@ -235,7 +240,7 @@ module _ (f : Format) (c : FuseConfig) (t : Tables) (p aux rows : List Float) (k
   unfolding chunkRuling checkChunk checksOf
   chunk-rows m = rows-of-rows f s (zoneNow f c p aux rows) p rows (beforeFirst f c p aux rows) (replicate 512 +0) (c .clamp) m (k .horizon)
 
-  chunk-out : chunkOut f c t p aux rows k l ≡ over (at (chunkRuling f c p aux rows (k .horizon) .value .after .rows)) l (k .horizon * s .dim)
+  pub chunk-out : chunkOut f c t p aux rows k l ≡ over (at (chunkRuling f c p aux rows (k .horizon) .value .after .rows)) l (k .horizon * s .dim)
   unfolding chunkOut checksOf
   chunk-out = rw (chunk-ruled .accepted)
 
@@ -313,11 +318,11 @@ module _ (f : Format) (c : FuseConfig) (t : Tables) (p aux prev a l : List Float
   abbrev row : List Float
   row = padded a (s′ .dim)
 
-  action-ruled : FromRule (actionRefusal f c t p aux prev a (length l)) (actionRuling f c p aux prev a .value) trips dims walls
+  pub action-ruled : FromRule (actionRefusal f c t p aux prev a (length l)) (actionRuling f c p aux prev a .value) trips dims speed walls
   unfolding actionAnswer
   action-ruled = from-rule (actionRefusal f c t p aux prev a (length l)) _ trips dims speed walls e
 
-  action-masks : walls ≡ rowMasks s′ a
+  pub action-masks : walls ≡ rowMasks s′ a
   unfolding actionRuling checkAction
   action-masks = action-ruled .same-walls
 
@@ -325,7 +330,7 @@ module _ (f : Format) (c : FuseConfig) (t : Tables) (p aux prev a l : List Float
   unfolding actionRefusal
   action-sized = action.accepted-sizes f c t p aux prev a (length l) (both-pass (configJudged f c t ++ lentToAction c p aux prev a (length l) []) ((computed when not (actionRuling f c p aux prev a .sound)) ∷ []) (action-ruled .accepted) .0)
 
-  action-narrow : s′ .dim ≤ 8
+  pub action-narrow : s′ .dim ≤ 8
   unfolding checksOf
   action-narrow = action-sized .narrow
 
@@ -333,7 +338,7 @@ module _ (f : Format) (c : FuseConfig) (t : Tables) (p aux prev a l : List Float
   unfolding actionRuling checkAction checksOf
   action-row m = row-of-row f s′ (zoneHere f c p aux prev a) p prev row (c .clamp) m
 
-  action-out : actionOut f c t p aux prev a l ≡ over (at (actionRuling f c p aux prev a .value .after .rows)) l (s′ .dim)
+  pub action-out : actionOut f c t p aux prev a l ≡ over (at (actionRuling f c p aux prev a .value .after .rows)) l (s′ .dim)
   unfolding actionOut checksOf
   action-out = rw (action-ruled .accepted)
 

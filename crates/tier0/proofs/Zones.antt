@@ -25,16 +25,16 @@ use Rattle.envelope.specs.declared.AbsentCamera.the-variants as absent
 use Rattle.envelope.specs.declared.Contact.{Contact}
 use Rattle.envelope.specs.declared.Contact.the-variants.{None, Zone}
 use Rattle.envelope.specs.declared.FuseConfig.{FuseConfig}
-use Rattle.tier0.specs.declared.Checks.{Checks}
-use Rattle.tier0.specs.Rule.{WORKSPACE, SPEED, ACCEL, JERK, REACH, CONTACT, arms, weight, boxDims, Slow, clear, seen, insideSeen, insideZone, zoneStep, zoneIn, slowest, slowZone}
+use Rattle.tier0.specs.Rule.{WORKSPACE, SPEED, ACCEL, JERK, REACH, CONTACT, arms, weight, boxDims, Slow, clear, seen, insideSeen, insideZone, zoneStep, zoneIn, slowZone}
 use Rattle.tier0.specs.Of.{checksOf}
 use Rattle.tier0.specs.Promises.{raised, withoutContact, contactUnarmed, NoZones, zoneIfSeen, NoZoneAsRust, UnseenIsInside, UnseenAsEmpty, SeenExactly, SameChecks, AsUnarmed, ZonesSeen, ZonesUnseen, SeenInside, SeenAlike, Stands, ZonesStand, StandsAlike, Promised}
 use Rattle.tier0.proofs.Slowest.{slowest-alike}
-use Rattle.tier0.proofs.Promises.{chunk-raised, action-raised, walls-touched, by-place, empty-place, none-clear, no-contact, outside-radius, one-zone, zone-told, each-asked, no-zone-no-leash, unarmed-action, unarmed-chunk}
+use Rattle.tier0.proofs.Promises.{chunk-raised, action-raised, walls-touched, by-place, empty-place, none-clear, no-contact, outside-radius, one-zone, zone-told, each-asked, no-zone-no-leash}
 use Rattle.tier0.proofs.Walled.{chunk-walls, action-walls, chunk-moved, action-moved}
 use Rattle.tier0.proofs.Within.{edge-inside, chunk-workspace-touched, chunk-edge-touched, chunk-speed-touched, chunk-contact-touched, chunk-accel-touched, chunk-jerk-touched, chunk-reach-touched, chunk-touched, action-workspace-touched, action-edge-touched, action-speed-touched, action-contact-touched, action-reach-touched, action-touched}
-use Rattle.tier0.proofs.Alike.{ArmedAlike, armed-as-it-is, same-checks}
+use Rattle.tier0.proofs.Alike.{MovesAlike, DifferencesAlike, moves-as-they-are, differences-as-they-are, zones-as-they-are, zones-same, same-checks}
 use Rattle.tier0.proofs.Inside.{stays-inside, pulls-first, unarmed-nothing, at-box, margin-unread, chunk-workspace, action-workspace, chunk-distances, action-distances, chunk-inside-stays, action-inside-stays}
+use Rattle.tier0.proofs.Calm.{unarmed-action, unarmed-chunk}
 use Rattle.tier0.proofs.Leash.{chunk-contact, action-contact, chunk-leash, action-leash, more-at-the-end, chunk-more-zones, action-more-zones}
 
 -- ---- a zone that is seen
@@ -109,17 +109,6 @@ unseen-is-inside f s k p aux radius speed i j new at-zone =
 
 -- ---- all zones
 
--- two calls of which each zone that counts says the same
-pub zones-same : (f : Format) (s d : Checks) (p aux q cam : List Float) → arms d CONTACT ≡ arms s CONTACT → counted (d .zones) ≡ counted (s .zones)
-    → (arms s CONTACT ≡ true → (k : ℕ) → k < counted (s .zones) → zoneIn f (d .dt) (d .«absent_camera») (zoneAt (d .zones) k) q cam ≡ zoneIn f (s .dt) (s .«absent_camera») (zoneAt (s .zones) k) p aux)
-    → slowZone f d q cam ≡ slowZone f s p aux
-unfolding slowZone
-zones-same f s d p aux q cam armed count each = rw (armed, count) (go (arms s CONTACT) refl)
-  where
-    go : (b : Bool) → arms s CONTACT ≡ b → (if b then slowest f (d .dt) (d .«absent_camera») (zoneAt (d .zones)) q cam (counted (s .zones)) else pure clear) ≡ (if b then slowest f (s .dt) (s .«absent_camera») (zoneAt (s .zones)) p aux (counted (s .zones)) else pure clear)
-    go true e = slowest-alike f (s .dt) (d .dt) (s .«absent_camera») (d .«absent_camera») (zoneAt (s .zones)) (zoneAt (d .zones)) p aux q cam (counted (s .zones)) (each e)
-    go false e = refl
-
 unseen-as-empty : UnseenAsEmpty
 unseen-as-empty f dt p aux z w each =
     slowest-alike f dt dt absent.NoZone absent.NoZone (zoneAt z) (zoneAt w) p aux p aux (counted z)
@@ -137,14 +126,11 @@ keeps a w h = go (raised CONTACT a) refl
     go true e = ap (λ (n : ℕ). eqb n 1) (h (eqb-true (a / 32 % 2) 1 e))
     go false e = ap (raised w) (let z : a - 0 ≡ a = omega arith in z)
 
-but-contact : (a : ℕ) → ArmedAlike a (withoutContact a)
-but-contact a = record {
-  workspace = keeps a WORKSPACE (λ e. omega arith);
-  speed = keeps a SPEED (λ e. omega arith);
-  accel = keeps a ACCEL (λ e. omega arith);
-  jerk = keeps a JERK (λ e. omega arith);
-  reach = keeps a REACH (λ e. omega arith);
-}
+but-contact : (a : ℕ) → MovesAlike a (withoutContact a)
+but-contact a = record { workspace = keeps a WORKSPACE (λ e. omega arith); speed = keeps a SPEED (λ e. omega arith); reach = keeps a REACH (λ e. omega arith) }
+
+differences-stay : (a : ℕ) → DifferencesAlike a (withoutContact a)
+differences-stay a = record { accel = keeps a ACCEL (λ e. omega arith); jerk = keeps a JERK (λ e. omega arith) }
 
 no-contact-bit : (a : ℕ) → raised CONTACT (withoutContact a) ≡ false
 no-contact-bit a = go (raised CONTACT a) refl
@@ -153,10 +139,6 @@ no-contact-bit a = go (raised CONTACT a) refl
     go true e = let is = eqb-true (a / 32 % 2) 1 e in let none : (a - 32) / 32 % 2 ≡ 0 = omega arith in rw none
     go false e = let z : a - 0 ≡ a = omega arith in rw z e
 
--- the zones as they are
-as-they-are : (z : Zones) → SameZones z z
-as-they-are z = record { same-count = refl; same-places = λ k l. refl }
-
 module _ (f : Format) (t : Tables) (c : FuseConfig) (p aux : List Float) where
   unarmed-is-none : slowZone f (checksOf f (contactUnarmed c)) p aux ≡ pure clear
   unfolding slowZone checksOf arms
@@ -164,7 +146,7 @@ module _ (f : Format) (t : Tables) (c : FuseConfig) (p aux : List Float) where
 
   as-unarmed : slowZone f (checksOf f c) p aux ≡ pure clear → AsUnarmed f t c p aux
   as-unarmed none =
-      same-checks f t c (withoutContact (c .armed)) (c .zones) (c .«absent_camera») (but-contact (c .armed)) (as-they-are (c .zones)) p aux p aux (λ j l. refl) refl refl (unarmed-is-none ∙ sym none)
+      same-checks f t c (withoutContact (c .armed)) (c .zones) (c .«absent_camera») (but-contact (c .armed)) (zones-as-they-are (c .zones)) p aux p aux (λ j l. refl) refl refl (unarmed-is-none ∙ sym none) (differences-stay (c .armed))
 
 pub no-contact-as-unarmed : (f : Format) (t : Tables) (c : FuseConfig) (choice : AbsentCamera) (p aux : List Float) → NoZones (c .zones) → AsUnarmed f t (absentBy c choice) p aux
 unfolding checksOf
@@ -202,7 +184,7 @@ module _ (f : Format) (t : Tables) (c : FuseConfig) (p aux q cam : List Float) (
 
   pub unseen-as-inside : SameChecks f t c q cam c p aux
   unseen-as-inside =
-      same-checks f t c (c .armed) (c .zones) (c .«absent_camera») (armed-as-it-is (c .armed)) (as-they-are (c .zones)) p aux q cam near neither-short (stands .finite-alike) inside-alike
+      same-checks f t c (c .armed) (c .zones) (c .«absent_camera») (moves-as-they-are (c .armed)) (zones-as-they-are (c .zones)) p aux q cam near neither-short (stands .finite-alike) inside-alike (differences-as-they-are (c .armed))
 
 -- ---- where all are seen
 
@@ -216,7 +198,7 @@ module _ (f : Format) (t : Tables) (c : FuseConfig) (choice : AbsentCamera) (p a
       (λ radius speed i j e. seen-either f (c .limits .dt) (c .«absent_camera») (Zone i j radius speed) radius speed i j refl p aux choice (shown armed k l radius speed i j e)))
 
   pub choice-only-where-unseen : SameChecks f t (absentBy c choice) p aux c p aux
-  choice-only-where-unseen = same-checks f t c (c .armed) (c .zones) choice (armed-as-it-is (c .armed)) (as-they-are (c .zones)) p aux p aux (λ j l. refl) refl refl either-choice
+  choice-only-where-unseen = same-checks f t c (c .armed) (c .zones) choice (moves-as-they-are (c .armed)) (zones-as-they-are (c .zones)) p aux p aux (λ j l. refl) refl refl either-choice (differences-as-they-are (c .armed))
 
 -- ---- past the count
 
@@ -229,7 +211,7 @@ module _ (f : Format) (t : Tables) (c : FuseConfig) (w : Zones) (p aux : List Fl
   either-list = zones-same f (checksOf f c) (checksOf f (zonedBy c w)) p aux p aux refl same-counted (λ armed k l. ap (λ (z : Contact). zoneIn f (c .limits .dt) (c .«absent_camera») z p aux) (same .same-places k l))
 
   unread-zones : SameChecks f t (zonedBy c w) p aux c p aux
-  unread-zones = same-checks f t c (c .armed) w (c .«absent_camera») (armed-as-it-is (c .armed)) same p aux p aux (λ j l. refl) refl refl either-list
+  unread-zones = same-checks f t c (c .armed) w (c .«absent_camera») (moves-as-they-are (c .armed)) same p aux p aux (λ j l. refl) refl refl either-list (differences-as-they-are (c .armed))
 
 -- ---- all that is promised of the two entries
 

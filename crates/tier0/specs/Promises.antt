@@ -1,5 +1,5 @@
--- What is promised of the answers of `check_chunk` and `check_action`, and what follows from the rules that they cite. `proofs/Zones.promised` is all of it. A
--- projected row that passes its check again is not promised.
+-- What is promised of the answers of `check_chunk` and `check_action`, and what follows from the rules that they cite. `proofs/Zones.promised` is all of it; a chunk that is
+-- not touched has a file of its own, `Calm`. A projected row that passes its check again is not promised.
 use Prim.Native.Nat.{ℕ, _+_, _-_, _*_, _/_, _%_, _≤_, _<_, min}
 use mathlib.Core.Path.{_≡_}
 use mathlib.Core.Bool.{Bool, true, false, not, _&&_, _||_}
@@ -108,13 +108,13 @@ module _ (f : Format) (c : FuseConfig) (p aux rows : List Float) where
   zoneNow = slowZone f checked p aux .value
 
   -- the step to row i, its second and its third difference
-  abbrev stepAt : ℕ → Float
+  abbrev pub stepAt : ℕ → Float
   stepAt i = stepTo f beforeFirst rows (checked .dim) i .value
 
-  abbrev bendAt : ℕ → Float
+  abbrev pub bendAt : ℕ → Float
   bendAt i = sizeOf f (bends f (rawRow rows (checked .dim) (i + 1)) (rawRow rows (checked .dim) i) (rowBefore beforeFirst rows (checked .dim) i)) (checked .dim) (checked .«inv_dt2»)
 
-  abbrev joltAt : ℕ → Float
+  abbrev pub joltAt : ℕ → Float
   joltAt i = sizeOf f (jolts f (rawRow rows (checked .dim) (i + 2)) (rawRow rows (checked .dim) (i + 1)) (rawRow rows (checked .dim) i) (rowBefore beforeFirst rows (checked .dim) i)) (checked .dim) (checked .«inv_dt3»)
 
   abbrev pub ChunkInside : ℕ → Type 0

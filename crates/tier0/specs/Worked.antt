@@ -1,4 +1,4 @@
--- What is not promised of projection, which walls moved rows, what a round table does, what a zone counts as that is not seen, and what several zones say, by computation.
+-- What is not promised of projection, which walls moved rows, what a round table does, a chunk that is not touched and rows that are not calm once moved, what a zone counts as that is not seen, and what several zones say, by computation.
 use Prim.Native.Nat.{ℕ, zero, suc, _+_, _<_}
 use mathlib.Core.Path.{_≡_, refl}
 use native.Mathlib.Omega.{arith}
@@ -7,15 +7,15 @@ use mathlib.Core.Logic.{inl, inr}
 use mathlib.Core.List.{List, [], _∷_}
 use lib.IntN.{pos, negsuc}
 use lib.ListN.{replicate}
-use lib.Ieee.{Float, binary64, fin, add, sub, mul, div, lt, le, ne}
+use lib.Ieee.{Float, binary64, fin, add, sub, mul, div, lt, le, eq, ne}
 use Rattle.root.specs.Root.{rootOf, number, rootExponent, half, nearRoot, floorRoot, scaled}
 use Rattle.checked.specs.Constants.{1!, 2! }
 use Rattle.checked.specs.Each.{at, over, all, some}
 use Rattle.checked.specs.Finite.{finite, allFinite, +0}
-use Rattle.checked.specs.Least.{lesser}
+use Rattle.checked.specs.Least.{lesser, greater, greatest}
 use Rattle.checked.specs.Row.{padded}
 use Rattle.checked.specs.Checked.{Checked, pure, sumFrom, each}
-use Rattle.fmath.specs.Norm.{squaredGap, dist}
+use Rattle.fmath.specs.Norm.{squareAt, squaredGap, norm, dist}
 use Rattle.bits.specs.Bits.{bitsWhere}
 use Rattle.fmath.specs.Clamp.{clamped, side}
 use Rattle.workspace.specs.declared.Workspace.{Workspace}
@@ -32,8 +32,9 @@ use Rattle.envelope.specs.declared.Contact.the-variants.{None, Zone}
 use Rattle.pull.specs.Rule.{toward, shortened, pulled}
 use Rattle.envelope.specs.declared.FuseConfig.{FuseConfig}
 use Rattle.tier0.specs.declared.Checks.{Checks}
-use Rattle.tier0.specs.Rule.{WORKSPACE, SPEED, CONTACT, arms, Slow, clear, insideSeen, insideZone, zoneStep, zoneIn, slowest, slowZone, outOfWorkspace, outOfReach, tripBits, movedInside, leashed, reached, moves, project, projection, movesInside, rowMasks, Judgement, checkAction}
-use Rattle.tier0.specs.Chunk.{someOf, someOutOfWorkspace, rowsMasks}
+use Rattle.tier0.specs.Rule.{WORKSPACE, SPEED, ACCEL, JERK, CONTACT, arms, Slow, clear, insideSeen, insideZone, zoneStep, zoneIn, slowest, slowZone, outOfWorkspace, outOfReach, tripBits, movedInside, leashed, reached, moves, project, projection, movesInside, rowMasks, Judgement, checkAction}
+use Rattle.tier0.specs.Chunk.{startRow, rowBefore, stepTo, peakStep, someLonger, someOf, someOutOfWorkspace, bend, jolt, exceeds, largeAt, tooLarge, putRow, nextRow, runRows, projectedRows, rowsMasks, checkChunk}
+use Rattle.tier0.specs.Calm.{Calm, ButDifferences}
 use Rattle.tier0.specs.Promises.{leashNow, SeenInside, Stands, ZonesStand, StandsAlike}
 
 -- so many zones of two places; the further places hold none
@@ -213,6 +214,87 @@ each-row-measured = refl
 pub not-measured-unarmed : someOutOfWorkspace binary64 (round 2 Off SPEED) (2! ∷ +0 ∷ fin false 1 (pos 600) ∷ +0 ∷ []) 2 ≡ pure false
 unfolding someOutOfWorkspace someOf all some outOfWorkspace arms
 not-measured-unarmed = refl
+
+-- ---- a calm chunk
+
+-- every check armed, a box of 0..1, and 1 for each limit
+abbrev all-armed : Checks
+all-armed = checking 1 Project 63 1! (record { shape = Box; lo = +0 ∷ []; hi = 1! ∷ [] })
+
+-- rows 1, 0, 1 from the position 0: each step touches SPEED's limit, each row a wall, the first the reach. The second difference -2 and the third 4 are too large
+abbrev swing : Checked Judgement
+swing = checkChunk binary64 all-armed (+0 ∷ []) [] (1! ∷ +0 ∷ 1! ∷ []) (5! ∷ 5! ∷ 5! ∷ 5! ∷ []) 3
+
+pub raises-both : swing .value .trips ≡ ACCEL + JERK
+unfolding checkChunk tripBits slowZone slowest peakStep someLonger someOutOfWorkspace someOf all some tooLarge largeAt exceeds bend jolt startRow rowBefore stepTo norm squareAt dist sumFrom squaredGap add sub mul rootOf number rootExponent half nearRoot floorRoot scaled arms outOfWorkspace outside pastEdge outOfReach projectedRows runRows nextRow moves movedInside inward ontoDisc clamped leashed reached pulled padded over each bitsWhere lt ne finite
+raises-both = refl
+
+-- they come out as they went in, and the number past them stays
+pub swings-on : swing .value .after ≡ record { rows = 1! ∷ +0 ∷ 1! ∷ 5! ∷ []; mask = 0 }
+unfolding checkChunk slowZone slowest startRow rowBefore projectedRows putRow runRows nextRow moves movedInside inward ontoDisc clamped leashed reached pulled padded over each dist sumFrom squaredGap add sub mul rootOf number rootExponent half nearRoot floorRoot scaled arms bitsWhere lt ne eq finite
+swings-on = refl
+
+-- no wall moved them, and every number on the way was finite, so that the call is accepted
+pub no-wall-moved-them : swing .value .walls ≡ unmoved
+unfolding checkChunk rowsMasks movesInside arms anyMasks bitsWhere some padded over side lt
+no-wall-moved-them = refl
+
+pub nothing-overflowed : swing .sound ≡ true
+unfolding checkChunk tripBits slowZone slowest peakStep someLonger someOutOfWorkspace someOf all some tooLarge largeAt exceeds bend jolt startRow rowBefore stepTo norm squareAt dist sumFrom squaredGap add sub mul rootOf number rootExponent half nearRoot floorRoot scaled arms outOfWorkspace outside pastEdge outOfReach projectedRows runRows nextRow moves movedInside inward ontoDisc clamped leashed reached pulled padded over each bitsWhere lt ne finite greatest greater putRow
+nothing-overflowed = refl
+
+-- so a chunk that raises the two is calm
+pub both-are-calm : Calm (ACCEL + JERK)
+both-are-calm = record { workspace-calm = refl; speed-calm = refl; contact-calm = refl; reach-calm = refl }
+
+-- two configurations that differ in ACCEL and JERK: all armed, and all but these
+pub all-but-differences : ButDifferences 63 51
+all-but-differences = record { same-workspace-bit = refl; same-speed-bit = refl; same-reach-bit = refl; same-contact-bit = refl }
+
+abbrev -3! : Float
+-3! = fin true 3 (pos 0)
+
+-- -2 - 2^-36
+abbrev pulled-out : Float
+pulled-out = fin true 137438953473 (negsuc 35)
+
+-- a row that was moved need not be calm. The arm stands at -3, outside the box; a row at 0 is inside, and three steps away. The leash pulls it to about -2
+abbrev from-outside : Float → Checked Judgement
+from-outside x = checkAction binary64 (checking 1 Project (WORKSPACE + SPEED) 1! (record { shape = Box; lo = +0 ∷ []; hi = 1! ∷ [] })) (-3! ∷ []) [] (-3! ∷ []) (x ∷ [])
+
+pub speed-alone : from-outside +0 .value .trips ≡ SPEED
+unfolding checkAction tripBits mul projection slowZone outOfWorkspace dist project moves arms lt rootOf reached bitsWhere sumFrom add leashed ne squaredGap sub outOfReach pulled padded over finite movedInside shortened each toward div number rootExponent half nearRoot floorRoot scaled inward ontoDisc clamped outside pastEdge some
+speed-alone = refl
+
+pub out-of-the-box : from-outside +0 .value .after .rows ≡ pulled-out ∷ replicate 7 +0
+unfolding checkAction tripBits mul projection slowZone outOfWorkspace dist project moves arms lt rootOf reached bitsWhere sumFrom add leashed ne squaredGap sub outOfReach pulled padded over finite movedInside shortened each toward div number rootExponent half nearRoot floorRoot scaled inward ontoDisc clamped outside pastEdge some
+out-of-the-box = refl
+
+-- handed in again it is slow enough, and outside
+pub then-outside : from-outside pulled-out .value .trips ≡ WORKSPACE
+unfolding checkAction tripBits mul projection slowZone outOfWorkspace dist project moves arms lt rootOf reached bitsWhere sumFrom add leashed ne squaredGap sub outOfReach pulled padded over finite movedInside shortened each toward div number rootExponent half nearRoot floorRoot scaled inward ontoDisc clamped outside pastEdge some
+then-outside = refl
+
+-- the box raises it to 0, the low wall, and the leash brings it back to where it was: no coordinate is another number
+pub brought-back : from-outside pulled-out .value .after ≡ record { rows = pulled-out ∷ replicate 7 +0; mask = 0 }
+unfolding checkAction tripBits mul projection slowZone outOfWorkspace dist project moves arms lt rootOf reached bitsWhere sumFrom add leashed ne squaredGap sub outOfReach pulled padded over finite movedInside shortened each toward div number rootExponent half nearRoot floorRoot scaled inward ontoDisc clamped outside pastEdge some
+brought-back = refl
+
+pub at-the-low-wall : from-outside pulled-out .value .walls ≡ record { low = 1; high = 0 }
+unfolding checkAction rowMasks movesInside arms wallMasks bitsWhere side lt
+at-the-low-wall = refl
+
+-- nor need one that was pulled onto a disc: of radius 1.5 round (2^53, 0), 2^53 + 4 goes to 2^53 + 2, which is past the edge
+abbrev far-disc : Float → Checked Judgement
+far-disc x = checkAction binary64 (checkingOn 2 (list 0 None None) absent.Slow 1! 2 Project WORKSPACE 1! (record { shape = Disc (fin false 1 (pos 53)) +0 (fin false 3 (negsuc 0)); lo = []; hi = [] })) (x ∷ +0 ∷ []) [] (x ∷ +0 ∷ []) (x ∷ +0 ∷ [])
+
+pub pulled-past-the-edge : far-disc 2^53+4 .value .after .rows ≡ flat 2^53+2 +0
+unfolding checkAction tripBits mul projection slowZone outOfWorkspace dist project moves arms lt rootOf reached bitsWhere sumFrom add leashed ne squaredGap sub outOfReach pulled padded over finite movedInside shortened each toward div number rootExponent half nearRoot floorRoot scaled inward ontoDisc clamped outside pastEdge some
+pulled-past-the-edge = refl
+
+pub past-the-edge-again : far-disc 2^53+2 .value .trips ≡ WORKSPACE
+unfolding checkAction tripBits mul projection slowZone outOfWorkspace dist project moves arms lt rootOf reached bitsWhere sumFrom add leashed ne squaredGap sub outOfReach pulled padded over finite movedInside shortened each toward div number rootExponent half nearRoot floorRoot scaled inward ontoDisc clamped outside pastEdge some
+past-the-edge-again = refl
 
 -- ---- a zone that is not seen
 
