@@ -405,7 +405,9 @@ struct lictor_check_marks {
    lend what the camera sent in this tick, and nothing where it sent nothing: an older message, or zeros in its place, is a camera that sees.
    Where LICTOR_TRIP_CONTACT is armed, the distance of every counted zone that is seen is computed, and the step of every one that the arm
    is inside: LICTOR_COMPUTED comes from any of them. Where LICTOR_TRIP_WORKSPACE is armed, so does it from every row's distance to the centre
-   of a round table, under either clamp code. Writes the first horizon x dim numbers of out, the marks, and the greatest speed.
+   of a round table, under either clamp code. Writes the first horizon x dim numbers of out, the marks, and the greatest speed. Where none of
+   LICTOR_TRIP_SPEED, LICTOR_TRIP_CONTACT, LICTOR_TRIP_WORKSPACE and LICTOR_TRIP_REACH is raised, these numbers are the rows bit for bit as they
+   came, and of the marks only trips may have a bit: LICTOR_TRIP_ACCEL and LICTOR_TRIP_JERK move no row.
    LICTOR_MISFIT, LICTOR_SIZE to LICTOR_COMPUTED. */
 LICTOR_MUST_USE LICTOR_NOT_NULL
 uint64_t lictor_check_chunk(const struct lictor_numbers *numbers, const struct lictor_counts *counts,
@@ -415,8 +417,8 @@ uint64_t lictor_check_chunk(const struct lictor_numbers *numbers, const struct l
                             size_t out_count, struct lictor_check_marks *marks, double *peak_speed);
 
 /* Checks one action against the one before it, without LICTOR_TRIP_ACCEL and LICTOR_TRIP_JERK; aux and the position are read as by
-   lictor_check_chunk. Writes the first dim numbers of out, the marks, and the speed. LICTOR_MISFIT, LICTOR_SIZE to LICTOR_WITHDRAWN,
-   LICTOR_SHORT to LICTOR_COMPUTED. */
+   lictor_check_chunk. Writes the first dim numbers of out, the marks, and the speed. Where nothing is raised, these numbers are the action bit
+   for bit as it came, and the other marks are 0. LICTOR_MISFIT, LICTOR_SIZE to LICTOR_WITHDRAWN, LICTOR_SHORT to LICTOR_COMPUTED. */
 LICTOR_MUST_USE LICTOR_NOT_NULL
 uint64_t lictor_check_action(const struct lictor_numbers *numbers, const struct lictor_counts *counts,
                              const double center[192], const double scale[192], const double *position,

@@ -3,7 +3,8 @@
 //! refused with 13 keeps the entries before its place.
 //!
 //! A control box makes a [`Config`](config::Config) once and lends it to every call. `docs/INTEGRATION.md` has the order of the calls in
-//! a tick and what to do at each [`Refusal`]; `examples/tick.rs` is a whole tick. The shortest question:
+//! a tick and what to do at each [`Refusal`]; `examples/tick.rs` is a whole tick, and `examples/calm.rs` shows which rows the checks leave as
+//! they came. The shortest question:
 //!
 //! ```
 //! use lictor::{brake, chunk::ChunkView, config::{BrakeKind, BrakeModel, Config}};

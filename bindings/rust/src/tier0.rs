@@ -33,11 +33,14 @@ impl Tier0Out {
     }
 }
 
-/// Checks a chunk from a position. The projected rows are written over the first horizon x dim numbers of `out`. An arm without a
-/// camera lends `&[]`: where it has no slow zone it is slow nowhere, and where it has some, with `CONTACT` armed, it is slow everywhere, unless
-/// it says [`AbsentCamera::NoZone`](crate::config::AbsentCamera). So it is by each zone of whose two channels `aux` lacks one, and by all
-/// where `pos` has one coordinate; the distance of such a zone is not computed. Lend what the camera sent in this tick, and nothing where it
-/// sent nothing: an older message, or zeros in its place, is a camera that sees. Where `CONTACT` is armed,
+/// Checks a chunk from a position. The projected rows are written over the first horizon x dim numbers of `out`. Where none of `SPEED`,
+/// `CONTACT`, `WORKSPACE` and `REACH` is raised, they are the rows bit for bit as they came, and of the masks only `trips` may have a bit:
+/// `ACCEL` and `JERK` move no row.
+///
+/// An arm without a camera lends `&[]`: where it has no slow zone it is slow nowhere, and where it has some, with `CONTACT` armed, it is slow
+/// everywhere, unless it says [`AbsentCamera::NoZone`](crate::config::AbsentCamera). So it is by each zone of whose two channels `aux` lacks
+/// one, and by all where `pos` has one coordinate; the distance of such a zone is not computed. Lend what the camera sent in this tick, and
+/// nothing where it sent nothing: an older message, or zeros in its place, is a camera that sees. Where `CONTACT` is armed,
 /// [`Computed`](crate::Refusal::Computed) comes from the distance of any counted zone that is seen, and from the step of any that the arm is
 /// inside. Where `WORKSPACE` is armed, so does it from every row's distance to the centre of a round table, under either clamp mode.
 ///
@@ -129,7 +132,7 @@ pub fn check_chunk(c: &Config, pos: &[f64], aux: &[f64], ch: ChunkView<'_>, out:
 }
 
 /// Checks one action against the one before it, without ACCEL and JERK. The projected action is written over the first dim
-/// numbers of `out`. `aux` and `pos` are read as by [`check_chunk`].
+/// numbers of `out`; where nothing is raised it is the action bit for bit as it came. `aux` and `pos` are read as by [`check_chunk`].
 ///
 /// ```
 /// # use lictor::config::{BrakeKind, BrakeModel, Config};
