@@ -678,6 +678,58 @@ static void walls(void) {
 #undef ACTION
 }
 
+/* Calm rows come out bit for bit as they went in, with what is lent past them kept: two axes, everything armed, and a chunk that touches a step, a
+   zone's step and a reach of 1, walls at 0 and 1 or a round table of radius 1; and one axis that swings, which raises ACCEL and JERK. */
+static void calm(void) {
+    struct lictor_numbers n = {0};
+    struct lictor_counts c = {0};
+    struct lictor_check_marks m;
+    /* the first touches all, the second the low walls as zeros of either sign, the third stays there with both signs turned */
+    const double origin[2] = {0.0, 0.0}, rows[6] = {1.0, -0.0, -0.0, 0.0, 0.0, -0.0}, swings[3] = {1.0, 0.0, 1.0}, mark = NAN;
+    double out[8], speed;
+    n.dt = n.v_max = n.reach_max = n.brake_k_v = n.brake_dt = n.contact_radius = n.contact_v_max = n.disc_radius = 1.0;
+    for (int i = 0; i < 2; i++) n.norm_scale[i] = n.box_hi[i] = 1.0;
+    c.substeps = 1, c.clamp = LICTOR_CLAMP_PROJECT, c.contact = 1, c.contact_a1 = 1, c.aux_count = 2;
+#define CHUNK(given, count, high, wide) \
+    lictor_check_chunk(&n, &c, center, scale, origin, 2, origin, 2, given, count, high, wide, 1, out, 8, &m, &speed)
+#define ACTION(given, count) lictor_check_action(&n, &c, center, scale, origin, 2, origin, 2, origin, 2, given, count, out, 8, &m, &speed)
+/* a call, the numbers that it must write, how many they are, and what it must raise */
+#define CALM(call, given, count, raised)                                                                                                 \
+    do {                                                                                                                                 \
+        const struct lictor_check_marks due = {raised, 0, 0, 0};                                                                         \
+        for (int i = 0; i < 8; i++) out[i] = mark;                                                                                       \
+        memset(&m, 7, sizeof m);                                                                                                         \
+        EXPECT((call) == LICTOR_ACCEPTED && memcmp(&m, &due, sizeof m) == 0);                                                            \
+        EXPECT(memcmp(out, given, (count) * sizeof *out) == 0);                                                                          \
+        for (int i = (count); i < 8; i++) EXPECT(memcmp(&out[i], &mark, sizeof mark) == 0);                                              \
+    } while (0)
+    for (c.shape = LICTOR_BOX; c.shape <= LICTOR_DISC; c.shape++) {
+        c.dim = c.pos_dim = 2, c.armed = LICTOR_TRIP_ALL, n.a_max = n.j_max = 9.0;
+        CALM(CHUNK(rows, 6, 3, 2), rows, 6, 0);
+        CALM(ACTION(rows, 2), rows, 2, 0);
+        /* a step of the format less of any limit, and the first row is moved */
+        double *const limits[4] = {&n.v_max, &n.contact_v_max, &n.reach_max, c.shape == LICTOR_DISC ? &n.disc_radius : &n.box_hi[0]};
+        const uint64_t trips[4] = {LICTOR_TRIP_SPEED, LICTOR_TRIP_CONTACT, LICTOR_TRIP_REACH, LICTOR_TRIP_WORKSPACE};
+        for (int k = 0; k < 4; k++) {
+            *limits[k] = nextafter(1.0, 0.0);
+            EXPECT(CHUNK(rows, 6, 3, 2) == LICTOR_ACCEPTED && m.trips == trips[k] && m.clamped_dims == 1 && memcmp(out, rows, sizeof rows) != 0);
+            EXPECT(ACTION(rows, 2) == LICTOR_ACCEPTED && m.trips == trips[k] && m.clamped_dims == 1 && out[0] < 1.0);
+            *limits[k] = 1.0;
+        }
+    }
+    /* whatever of the two is armed, neither moves a row */
+    c.shape = LICTOR_BOX, c.dim = c.pos_dim = 1, n.a_max = n.j_max = 1.0;
+    for (uint64_t k = 0; k < 4; k++) {
+        const uint64_t told = (k & 1 ? LICTOR_TRIP_ACCEL : 0) | (k & 2 ? LICTOR_TRIP_JERK : 0);
+        c.armed = (LICTOR_TRIP_ALL - LICTOR_TRIP_ACCEL - LICTOR_TRIP_JERK) | told;
+        CALM(CHUNK(swings, 3, 3, 1), swings, 3, told);
+        CALM(ACTION(swings, 1), swings, 1, 0);
+    }
+#undef CHUNK
+#undef ACTION
+#undef CALM
+}
+
 /* a zone of radius 1 in which a step of 1 is allowed, and a step of 3: all zeros means slow where the camera does not show the zone */
 static void cameras(void) {
     struct lictor_numbers n = {0};
@@ -1037,6 +1089,7 @@ int main(void) {
     held_widths();
     checks();
     walls();
+    calm();
     cameras();
     several_zones();
     turntable();

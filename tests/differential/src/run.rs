@@ -15,7 +15,8 @@ use crate::{part::Part, rng::Rng};
 pub struct Shown {
     pub numbers: Vec<f64>,
     pub counts: Vec<u64>,
-    /// What a request added and the Rust has not, sides, their masks and the sign of a kept command: the port's are compared with the model's.
+    /// What is compared between port and model alone. Of an answer: sides and their masks, which the Rust has not, the bits of what clamp gives
+    /// and the signs of a kept command. Of the buffers: the signs of what a calm check leaves.
     pub added: Vec<i64>,
 }
 
@@ -229,8 +230,8 @@ fn same_number(a: f64, b: f64) -> bool {
 
 /// What the Rust has of an outcome.
 fn in_the_rust(o: &Outcome) -> Outcome {
-    let answer = o.answer.clone().map(|shown| Shown { added: vec![], ..shown });
-    Outcome { answer, buffers: o.buffers.clone() }
+    let plain = |shown: Shown| Shown { added: vec![], ..shown };
+    Outcome { answer: o.answer.clone().map(plain), buffers: plain(o.buffers.clone()) }
 }
 
 fn same_shown(a: &Shown, b: &Shown) -> bool {

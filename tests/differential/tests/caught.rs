@@ -13,8 +13,8 @@ use model::{
     fmath::{self, min},
     refusal::{SHAPE, WITHDRAWN},
     AbsentCamera, ActionKind, BrakeKind, BrakeOut, Calibration, ChunkView, ClampMode, ContactLimit, Derived,
-    FuseConfig, Gripper, Refusal, Scores, Shape, Tier0Out, Tier1Rt, Trail, WallMarks, Zones, CONTACT, MAX_D, NAMED,
-    REACH, SPEED, STALL, WORKSPACE,
+    FuseConfig, Gripper, Refusal, Scores, Shape, Tier0Out, Tier1Rt, Trail, WallMarks, Zones, ACCEL, CONTACT, JERK,
+    MAX_D, NAMED, REACH, SPEED, STALL, WORKSPACE,
 };
 
 /// What the run of one entry says with this port.
@@ -131,7 +131,7 @@ fn the_leash_to_the_raw_row() {
         Ok(r)
     };
     let text = failure(Port { check_chunk: Some(raw), ..Port::default() }, "check_chunk");
-    assert!(text.contains("horizon: 2"), "a small input");
+    assert!(text.contains("horizon: 2,"), "a small input");
 }
 
 /// A check whose trips come from limits nudged by one step: a limit that is touched trips, or no longer does.
@@ -305,7 +305,7 @@ fn masks_of_a_check_that_are_others() {
 fn a_side_of_the_last_row_alone() {
     let last = masked!(|s| s.moved(&s.came[s.came.len() - 1..], shared(s.cfg), fmath::side));
     let text = sides_found(last, "check_chunk at walls", "[0, 0], not [");
-    assert!(text.contains("horizon: 2"), "a small input");
+    assert!(text.contains("horizon: 2,"), "a small input");
 }
 
 /// What a check is told of the world: the configuration, the position and the camera's message.
@@ -568,8 +568,15 @@ enum Takes {
     Trips,
     /// The other's rows and what is said of them.
     Rows,
+    /// The same, where the right one raises no check that moves a row.
+    CalmRows,
     /// Where the right one is this refusal, the other.
     Refused(u8),
+}
+
+/// None of the checks that move a row is raised.
+fn calm(found: &Tier0Out) -> bool {
+    found.trips & (WORKSPACE | SPEED | REACH | CONTACT) == 0
 }
 
 /// An answer with the rows that go out.
@@ -580,6 +587,7 @@ fn taken(takes: Takes, (right, rows): Row, (other, moved): Row) -> Row {
         (Takes::Accepted, Ok(_), Ok(_)) => (other, moved),
         (Takes::Trips, Ok(r), Ok(o)) => (Ok(Tier0Out { trips: o.trips, ..r }), rows),
         (Takes::Rows, Ok(r), Ok(o)) => (Ok(Tier0Out { trips: r.trips, ..o }), moved),
+        (Takes::CalmRows, Ok(r), Ok(o)) if calm(&r) => (Ok(Tier0Out { trips: r.trips, ..o }), moved),
         (Takes::Refused(number), Err(r), _) if r.number == number => (other, moved),
         _ => (right, rows),
     }
@@ -1348,7 +1356,7 @@ fn a_distance_that_is_not_evaluated() {
     };
     let text = on_table(later, "check_chunk");
     assert!(text.contains("the port accepts; the model says Refusal { number: 13, place: 0 }"));
-    assert!(text.contains("horizon: 2") && text.contains("disc: true"), "two rows");
+    assert!(text.contains("horizon: 2,") && text.contains("disc: true"), "two rows");
     // not where a further axis is outside already
     let axis = Port {
         check_action: Some(|cfg, pos, aux, prev, a, out| {
@@ -1851,6 +1859,185 @@ fn a_refusal_that_writes_the_last_command() {
     };
     let text = failure(writes, "hold_action with a gripper");
     assert!(text.contains("the port refuses and yet changes a buffer") && text.contains(KEPT));
+}
+
+// ---- calm rows
+
+/// The model's checks, with something done to what an accepted call answers and writes: of the configuration and the rows as they came.
+macro_rules! spoilt {
+    ($spoil:expr) => {{
+        const SPOIL: fn(&FuseConfig, &[f64], &mut Tier0Out, &mut [f64]) = $spoil;
+        let check_chunk: CheckChunk = |cfg, pos, aux, ch, out| {
+            let mut found = model::tier0::check_chunk(cfg, pos, aux, ch, out)?;
+            SPOIL(cfg, ch.data, &mut found, out);
+            Ok(found)
+        };
+        let check_action: CheckAction = |cfg, pos, aux, prev, a, out| {
+            let mut found = model::tier0::check_action(cfg, pos, aux, prev, a, out)?;
+            SPOIL(cfg, &a[..cfg.dim], &mut found, out);
+            Ok(found)
+        };
+        Port { check_chunk: Some(check_chunk), check_action: Some(check_action), ..Port::default() }
+    }};
+}
+
+/// Moves each row between two others to their mean, where rows are projected and none is moved for another cause.
+fn smooth(cfg: &FuseConfig, rows: &[f64], found: &mut Tier0Out, out: &mut [f64]) {
+    if cfg.clamp == ClampMode::Off || !calm(found) {
+        return;
+    }
+    let (d, went) = (cfg.dim, out[..rows.len()].to_vec());
+    for k in d..rows.len() - d {
+        out[k] = (went[k - d] + went[k + d]) / 2.0;
+        found.clamped_dims |= ((out[k] != rows[k]) as u32) << (k % d);
+    }
+}
+
+#[test]
+fn rows_that_are_smoothed() {
+    let jerk = spoilt!(|cfg, rows, found, out| if found.trips & JERK != 0 {
+        smooth(cfg, rows, found, out);
+    });
+    let accel = spoilt!(|cfg, rows, found, out| if found.trips & ACCEL != 0 {
+        smooth(cfg, rows, found, out);
+    });
+    for port in [jerk, accel] {
+        let text = failure(port, "check_chunk");
+        assert!(text.contains("counts [") && text.contains(", 0]\n") && text.contains("horizon: 3,"), "three rows");
+    }
+}
+
+/// The texts of both checks' runs with a port that moves calm rows, or says so: under Project, where clamped_dims is 0.
+fn calm_found(port: Port) -> [String; 2] {
+    CHECKS.map(|entry| {
+        let text = failure(port, entry);
+        assert!(text.contains("the port answers otherwise than the model: counts [") && text.contains(", 0]\n"));
+        assert!(text.contains("clamp: Project"));
+        text
+    })
+}
+
+#[test]
+fn a_leash_that_accel_or_jerk_arms() {
+    let jerk = mistaken!(Takes::CalmRows, |w| if w.cfg.armed & JERK != 0 {
+        w.cfg.armed |= SPEED;
+    });
+    let accel = mistaken!(Takes::CalmRows, |w| if w.cfg.armed & ACCEL != 0 {
+        w.cfg.armed |= SPEED;
+    });
+    for [chunk, _] in [jerk, accel].map(calm_found) {
+        assert!(chunk.contains("horizon: 1,"), "one row");
+    }
+}
+
+/// Projection by a limit that is not armed, each in turn.
+#[test]
+fn a_limit_that_is_applied_and_not_armed() {
+    let workspace = mistaken!(Takes::CalmRows, |w| w.cfg.armed |= WORKSPACE);
+    let speed = mistaken!(Takes::CalmRows, |w| w.cfg.armed |= SPEED);
+    let reach = mistaken!(Takes::CalmRows, |w| w.cfg.armed |= REACH);
+    let contact = mistaken!(Takes::CalmRows, |w| w.cfg.armed |= CONTACT);
+    for text in [workspace, speed, reach, contact].into_iter().flat_map(calm_found) {
+        assert!(!text.contains("armed:"), "nothing is armed");
+    }
+}
+
+/// The model's checks, of which a part is answered with a limit that is a step of the format less: SPEED's, REACH's, CONTACT's, and a low and a
+/// high wall.
+macro_rules! lowered {
+    ($takes:expr) => {
+        [
+            mistaken!($takes, |w| w.cfg.v_max = w.cfg.v_max.next_down()),
+            mistaken!($takes, |w| w.cfg.reach_max = w.cfg.reach_max.next_down()),
+            mistaken!($takes, |w| nudge_zone(&mut w.cfg, |z| z.v_max = z.v_max.next_down())),
+            mistaken!($takes, |w| w.cfg.box_lo = w.cfg.box_lo.map(f64::next_up)),
+            mistaken!($takes, |w| w.cfg.box_hi = w.cfg.box_hi.map(f64::next_down)),
+        ]
+    };
+}
+
+/// What is armed in the smallest input of a text, which does not show a 0.
+fn armed(text: &str) -> u32 {
+    let number = text.split_once("armed: ").and_then(|(_, rest)| rest.split_once(','));
+    number.map_or(0, |(armed, _)| armed.parse().expect("a number"))
+}
+
+#[test]
+fn a_row_that_is_moved_where_it_touches() {
+    let limits = [
+        (SPEED, "v_max: "),
+        (REACH, "reach_max: "),
+        (CONTACT, "zones: "),
+        (WORKSPACE, "box_lo: "),
+        (WORKSPACE, "box_hi: "),
+    ];
+    for (port, (bit, limit)) in lowered!(Takes::CalmRows).into_iter().zip(limits) {
+        for text in calm_found(port) {
+            assert!(armed(&text) & bit != 0 && text.contains(limit), "{limit}is armed and touched");
+        }
+    }
+}
+
+#[test]
+fn an_action_that_trips_when_touched() {
+    for (port, bit) in lowered!(Takes::Trips).into_iter().zip([SPEED, REACH, CONTACT, WORKSPACE, WORKSPACE]) {
+        let text = failure(port, "check_action");
+        assert!(text.contains(&format!("counts [{bit}, 0], not [0, 0]")), "a limit that is touched");
+    }
+}
+
+#[test]
+fn a_calm_chunk_with_a_mark() {
+    let every = spoilt!(|cfg, _, found, _| if calm(found) && cfg.clamp == ClampMode::Project {
+        found.clamped_dims |= 1;
+    });
+    let on_a_wall = spoilt!(|cfg, rows, found, _| {
+        if calm(found) && cfg.clamp == ClampMode::Project && cfg.armed & WORKSPACE != 0 {
+            let on_it = |k: &usize| k % cfg.dim < cfg.pos_dim && rows[*k] == cfg.box_hi[k % cfg.dim] - cfg.margin;
+            found.clamped_dims |= (0..rows.len()).filter(on_it).fold(0, |m, k| m | 1 << (k % cfg.dim));
+        }
+    });
+    for text in [every, on_a_wall].into_iter().flat_map(calm_found) {
+        assert!(text.contains("counts [0, 1], not [0, 0]"), "a small input");
+    }
+    let told = spoilt!(|_, _, found, _| if found.trips & (ACCEL | JERK) != 0 {
+        found.clamped_dims |= 1;
+    });
+    let text = failure(told, "check_chunk");
+    assert!(text.contains("counts [4, 1], not [4, 0]") && text.contains("horizon: 2,"), "two rows");
+}
+
+#[test]
+fn a_number_past_the_rows_that_is_written() {
+    let past = spoilt!(|_, rows, _, out| out[rows.len()..].fill(0.0));
+    for entry in CHECKS {
+        let text = failure(past, entry);
+        assert!(text.contains("leaves other buffers than the model: number 1 is 0.0, not 1.0"), "a small input");
+    }
+}
+
+/// Every zero without its sign; and the zero of a high wall in its place, as the Rust's clamp gives it.
+#[test]
+fn a_calm_zero_that_loses_its_sign() {
+    let unsigned = spoilt!(|_, rows, _, out| out[..rows.len()].iter_mut().for_each(|x| *x += 0.0));
+    let as_the_rust = spoilt!(|cfg, rows, found, out| {
+        if calm(found) && cfg.clamp == ClampMode::Project && cfg.armed & WORKSPACE != 0 {
+            let derived = model::envelope::derive(cfg).expect("an accepted configuration");
+            for row in out[..rows.len()].chunks_mut(cfg.dim) {
+                for (c, x) in row.iter_mut().enumerate().take(cfg.pos_dim) {
+                    *x = oracle::rust::fmath::clamp(*x, derived.box_lo[c], derived.box_hi[c]);
+                }
+            }
+        }
+    });
+    for name in ["check_chunk at walls", "check_action at walls"] {
+        for (port, due) in [(unsigned, 0), (as_the_rust, WORKSPACE)] {
+            let text = failure(port, name);
+            assert!(text.contains("the port leaves other buffers than the model: added [0"), "a sign");
+            assert!(text.contains("1]\n") && text.contains("-0.0]"), "of a -0.0 that ends the row");
+            assert_eq!(armed(&text), due, "a small input");
+        }
+    }
 }
 
 /// 17 of another configuration than the one that is given; all else of the given one.

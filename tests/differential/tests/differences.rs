@@ -466,6 +466,32 @@ fn a_zero_on_a_zero_limit() {
     assert_eq!(signs(fmath::clamp), [false, true, false, true], "the sign that came");
 }
 
+/// A row of -0.0 in a box of 0..0, which raises nothing: the Rust sends the high wall's 0.0 and says that nothing was moved, by chunk and by
+/// action. The port sends the row as it came. So it is with 0.0 on a high wall at -0.0.
+#[test]
+fn a_calm_row_on_a_zero_wall() {
+    let port = differential::linked::port();
+    let (armed, clamp, absent_camera) = (WORKSPACE, ClampMode::Project, AbsentCamera::NoZone);
+    let cfg = FuseConfig { armed, clamp, absent_camera, ..FuseConfig::PLAIN };
+    for (came, wall) in [(-0.0f64, 0.0f64), (0.0, -0.0)] {
+        let cfg = FuseConfig { box_hi: [wall; 8], ..cfg };
+        let (mut chunk, mut action) = ([7.0], [7.0]);
+        let of_chunk = oracle::check_chunk(&cfg, &[0.0], &[], rows(1, &[came]), &mut chunk);
+        let of_action = oracle::check_action(&cfg, &[0.0], &[], &[0.0], &[came], &mut action);
+        for (rust, went) in [(of_chunk, chunk[0]), (of_action, action[0])] {
+            assert_eq!((rust.trips, rust.clamped_dims, went.to_bits()), (0, 0, wall.to_bits()));
+        }
+        for check in [tier0::check_chunk, port.check_chunk.expect("an entry")] {
+            let found = check(&cfg, &[0.0], &[], rows(1, &[came]), &mut chunk).expect("a chunk that is accepted");
+            assert_eq!((found.trips, found.clamped_dims, chunk[0].to_bits()), (0, 0, came.to_bits()));
+        }
+        for check in [tier0::check_action, port.check_action.expect("an entry")] {
+            let found = check(&cfg, &[0.0], &[], &[0.0], &[came], &mut action).expect("an action that is accepted");
+            assert_eq!((found.trips, found.clamped_dims, action[0].to_bits()), (0, 0, came.to_bits()));
+        }
+    }
+}
+
 // ---- numbers, sizes and shapes ----
 
 #[test]

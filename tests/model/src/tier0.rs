@@ -101,7 +101,7 @@ fn inside(cfg: &FuseConfig, zone: &ContactLimit, pos: &[f64], aux: &[f64]) -> Re
 }
 
 /// Where CONTACT is armed, the speed times dt of each counted zone that the arm is inside. No zone is passed over because of another.
-fn contact_steps(cfg: &FuseConfig, pos: &[f64], aux: &[f64]) -> Result<Vec<f64>, NotFinite> {
+pub fn contact_steps(cfg: &FuseConfig, pos: &[f64], aux: &[f64]) -> Result<Vec<f64>, NotFinite> {
     let mut steps = Vec::new();
     if cfg.armed & CONTACT != 0 {
         for zone in cfg.zones.counted() {

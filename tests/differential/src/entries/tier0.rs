@@ -27,8 +27,19 @@ fn shown(r: Tier0Out) -> Shown {
     }
 }
 
+/// What is left where no check is raised that moves a row, which is compared bit for bit: as numbers, and here by its signs.
+fn calm_signs(answer: &Result<Tier0Out, Refusal>, out: &[f64]) -> Vec<i64> {
+    match answer {
+        Ok(found) if found.trips & (WORKSPACE | SPEED | REACH | CONTACT) == 0 => {
+            out.iter().map(|x| x.is_sign_negative() as i64).collect()
+        }
+        _ => Vec::new(),
+    }
+}
+
 fn outcome(answer: Result<Tier0Out, Refusal>, out: Vec<f64>) -> Outcome {
-    Outcome { answer: answer.map(shown), buffers: numbers(&out) }
+    let buffers = Shown { added: calm_signs(&answer, &out), ..numbers(&out) };
+    Outcome { answer: answer.map(shown), buffers }
 }
 
 /// What the published code answers, which has no masks of sides.
