@@ -57,6 +57,10 @@ BELIEFS = {
     'limit': Belief('Touching a limit trips it.', {},
                     'the step is as long as v_max allows and ends on the wall, and nothing trips',
                     ['row=1.001,0', 'p=-0.5,0 row=0.75,0', 'v_max=0.999', 'disc=0,0,1', 'disc=0,0,1 row=0.75,0.75 v_max=2']),
+    'smooth': Belief('The guard smooths my rows.', {'zone': 'yes', 'zone_speed': '1', 'reach_max': '1'},
+                     'everything is armed, and the row touches what speed, zone, wall and reach allow and comes out as it went in; what moves a row is a limit that it exceeds',
+                     ['row=0.6,0.7', 'disc=0,0,1', 'zone_speed=0.5', 'row=1.001,0',
+                      'armed=workspace,speed lo=0,0 hi=1,1 p=-3,0 row=0,0', 'armed=workspace,speed lo=0,0 hi=1,1 p=-3,0 row=-2.000000000014552,0']),
 }
 
 
