@@ -51,6 +51,7 @@ use Rattle.tier0.proofs.ChunkRefused as chunk
 use Rattle.tier0.proofs.Refused as action
 use Rattle.tier0.proofs.Accepted.{chunk-passes, action-finite}
 use Rattle.tier0.proofs.Walled as walled
+use Rattle.tier0.proofs.Inside.{action-spans}
 use Rattle.tier0.proofs.Rows.{before-first, before-later}
 use Rattle.tier0.proofs.Promises.{chunk-raised, action-raised, none-armed, unarmed-no-zone, no-bit-set, row-at, below-rows, put-over}
 use Rattle.tier0.proofs.Raised.{far-exactly, trips-of-chunk, trips-of-action}
@@ -323,13 +324,11 @@ module _ (f : Format) (c : FuseConfig) (t : Tables) (p aux prev a l : List Float
   abbrev row-sizes : action.Sized c a (length l)
   row-sizes = walled.action-sized f c t p aux prev a l trips dims speed walls e
 
-  row-narrow : row-checks .dim ≤ 8
-  unfolding checksOf
-  row-narrow = row-sizes .narrow
+  abbrev row-narrow : row-checks .dim ≤ 8
+  row-narrow = walled.action-narrow f c t p aux prev a l trips dims speed walls e
 
-  row-spanned : spans (row-checks .shape) (row-checks .dim) (row-checks .«pos_dim») ≡ true
-  unfolding checksOf
-  row-spanned = row-sizes .spanned
+  abbrev row-spanned : spans (row-checks .shape) (row-checks .dim) (row-checks .«pos_dim») ≡ true
+  row-spanned = action-spans f c t p aux prev a l trips dims speed walls e
 
   -- its numbers are finite, as all that is lent is
   row-real : (j : ℕ) → j < c .dim → finite (at a j) ≡ true

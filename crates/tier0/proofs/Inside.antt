@@ -43,7 +43,7 @@ use Rattle.tier0.specs.Promises.{accepts, raised, rowOutside, beforeFirs
 use Rattle.tier0.proofs.Stays.{kept, padded-alike}
 use Rattle.tier0.proofs.Accepted.{chunk-passes, action-passes}
 use Rattle.tier0.proofs.Promises.{chunk-raised, action-raised}
-use Rattle.tier0.proofs.Walled.{from-rule, moved-inside-inward, chunk-moved, action-moved, action-sized}
+use Rattle.tier0.proofs.Walled.{from-rule, moved-inside-inward, chunk-moved, action-moved, action-narrow}
 
 -- ---- trips
 
@@ -232,16 +232,12 @@ module _ (f : Format) (c : FuseConfig) (t : Tables) (p aux prev a l : List Float
   abbrev s′ : Checks
   s′ = checksOf f c
 
-  action-spans : spans (s′ .shape) (s′ .dim) (s′ .«pos_dim») ≡ true
+  pub action-spans : spans (s′ .shape) (s′ .dim) (s′ .«pos_dim») ≡ true
   unfolding checksOf
   action-spans = action-passes f c t p aux prev a (length l) (ap accepts e) .fit .spanned
-
-  action-narrow : s′ .dim ≤ 8
-  unfolding checksOf
-  action-narrow = action-sized f c t p aux prev a l trips dims speed walls e .narrow
 
   pub action-inside-stays : c .clamp ≡ Project → (j : ℕ) → j < s′ .dim → outOfWorkspace f s′ a .value ≡ false → at (actionOut f c t p aux prev a l) j ≡ at (leashedRow f s′ p aux true prev (padded a (s′ .dim)) .value) j
   action-inside-stays m j b inside =
       let row = padded a (s′ .dim) in
       action-moved f c t p aux prev a l trips dims speed walls e m j b
-      ∙ ap (λ (r : List Float). at (leashedRow f s′ p aux true prev r .value) j) (stays-inside f s′ row (ap (λ (x : Checked Bool). x .value) (padded-alike f s′ a action-narrow action-spans) ∙ inside))
+      ∙ ap (λ (r : List Float). at (leashedRow f s′ p aux true prev r .value) j) (stays-inside f s′ row (ap (λ (x : Checked Bool). x .value) (padded-alike f s′ a (action-narrow f c t p aux prev a l trips dims speed walls e) action-spans) ∙ inside))

@@ -19,7 +19,7 @@ use Rattle.checked.proofs.Ordered.{lt-irrefl}
 use Rattle.workspace.specs.Shape.{boxed}
 use Rattle.workspace.specs.Rule.{Walls}
 use Rattle.bits.specs.Bits.{bit, bitsWhere}
-use Rattle.bits.proofs.Bits.{bit-where, bits-none}
+use Rattle.bits.proofs.Bits.{bit-where, bits-below, bits-none}
 use Rattle.envelope.specs.declared.Contact.{Contact}
 use Rattle.envelope.specs.declared.Contact.the-variants.{None, Zone}
 use Rattle.envelope.specs.declared.AbsentCamera.{AbsentCamera}
@@ -49,6 +49,10 @@ module _ (a b c d e g : Bool) where
       says : (j : ℕ) → j < 6 → bit (bitsWhere tests 6) j ≡ tests j
       says = bit-where tests 6
 
+  -- and there are six
+  six-bits : tripBits a b c d e g < 64
+  six-bits = rw as-word (bits-below tests 6)
+
 -- ---- each check is raised exactly when it is armed and strictly exceeded
 
 pub chunk-raised : (f : Format) (s : Checks) (p aux rows l : List Float) (h : ℕ) → ChunkRaised f s p aux rows l h
@@ -72,6 +76,15 @@ action-raised f s p aux prev a = record {
   reach = bits _ _ _ _ _ _ .4;
   contact = bits _ _ _ _ _ _ .5;
 }
+
+-- no other bit is set
+pub chunk-trips-small : (f : Format) (s : Checks) (p aux rows l : List Float) (h : ℕ) → chunkTrips f s p aux rows l h < 64
+unfolding checkChunk
+chunk-trips-small f s p aux rows l h = six-bits _ _ _ _ _ _
+
+pub action-trips-small : (f : Format) (s : Checks) (p aux prev a : List Float) → actionTrips f s p aux prev a < 64
+unfolding checkAction
+action-trips-small f s p aux prev a = six-bits _ _ _ _ _ _
 
 -- ---- touched
 

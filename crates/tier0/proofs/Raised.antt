@@ -29,7 +29,7 @@ use Rattle.tier0.specs.Calm.{chunkFound, actionFound, countsInside, allo
 use Rattle.tier0.proofs.Walled as walled
 use Rattle.tier0.proofs.Inside.{if-armed, some-armed, chunk-workspace, action-workspace}
 use Rattle.tier0.proofs.Leash.{chunk-contact, action-contact}
-use Rattle.tier0.proofs.Promises.{chunk-raised, action-raised, zone-told}
+use Rattle.tier0.proofs.Promises.{chunk-raised, action-raised, chunk-trips-small, action-trips-small, zone-told}
 
 -- a test of a number that matters only inside
 where-inside : (b x : Bool) (longer : Float → Bool) (u v : Float) → (x ≡ true → u ≡ v) → ((b && x) && longer u) ≡ (b && (x && longer v))
@@ -97,6 +97,7 @@ module _ (f : Format) (c : FuseConfig) (t : Tables) (p aux rows : List Float) (k
         accel-exactly = ap (raised ACCEL) chunk-by-rule ∙ by .accel ∙ large-exactly f s Accel start rows (k .horizon);
         jerk-exactly = ap (raised JERK) chunk-by-rule ∙ by .jerk ∙ large-exactly f s Jerk start rows (k .horizon);
         reach-exactly = ap (raised REACH) chunk-by-rule ∙ by .reach ∙ far-exactly f s p (rawRow rows (c .dim) 0);
+        no-further-trip = rw chunk-by-rule (chunk-trips-small f s p aux rows (replicate 512 +0) (k .horizon));
       }
 
 module _ (f : Format) (c : FuseConfig) (t : Tables) (p aux prev a : List Float) (room trips dims : ℕ) (speed : Float) (walls : WallMasks) (e : actionAnswer f c t p aux prev a room ≡ Passed trips dims speed walls) where
@@ -116,4 +117,5 @@ module _ (f : Format) (c : FuseConfig) (t : Tables) (p aux prev a : List Float) 
         accel-exactly = ap (raised ACCEL) action-by-rule ∙ by .accel ∙ sym (and-false (arms s ACCEL));
         jerk-exactly = ap (raised JERK) action-by-rule ∙ by .jerk ∙ sym (and-false (arms s JERK));
         reach-exactly = ap (raised REACH) action-by-rule ∙ by .reach ∙ far-exactly f s p a;
+        no-further-trip = rw action-by-rule (action-trips-small f s p aux prev a);
       }

@@ -1,6 +1,6 @@
 -- A calm chunk is not touched: what is promised of an accepted call that raises no check which can move a row, when each check is raised, and that ACCEL and JERK move none.
 -- `proofs/Calm.calm` is all of it. It is said of every configuration: of a box and a disc, of none to four zones, and under either choice for an absent camera.
-use Prim.Native.Nat.{ℕ, _-_, _*_}
+use Prim.Native.Nat.{ℕ, _-_, _*_, _<_}
 use mathlib.Core.Path.{_≡_}
 use mathlib.Core.Bool.{Bool, true, false, _&&_}
 use mathlib.Core.List.{List, [], _∷_, _++_}
@@ -80,6 +80,8 @@ pub record TripsExactly (f : Format) (s : Checks) (p aux : List Float) (found : 
   pub accel-exactly : raised ACCEL trips ≡ (arms s ACCEL && found .some-bend)
   pub jerk-exactly : raised JERK trips ≡ (arms s JERK && found .some-jolt)
   pub reach-exactly : raised REACH trips ≡ (arms s REACH && found .first-far)
+  -- and there is no other bit
+  pub no-further-trip : trips < 64
 
 -- ---- calm
 
