@@ -2,6 +2,7 @@ pub mod ByKind
 pub mod Outcome
 pub mod Judged
 pub mod Room
+pub mod Towards
 pub mod Told
 pub mod Sending
 pub mod Gripped
@@ -12,3 +13,4 @@ pub mod Modes
 pub mod AtBox
 pub mod Margin
 pub mod Promises
+pub mod Halves

@@ -14,6 +14,7 @@ use Rattle.workspace.specs.declared.Shape.the-variants.{Disc}
 use Rattle.workspace.specs.Rule.{Walls}
 use Rattle.brake.specs.Rule.{live, wallsAt, forecastBy, brakeRow, holdRow, sentMasks}
 use Rattle.brake.specs.Answer.{masksSent, sending, brakeSent, holdSent}
+use Rattle.brake.specs.Towards.{running}
 use Rattle.brake.specs.Promises.{MarginUnread}
 
 module _ (c : FuseConfig) (x y radius m : Float) (disc : c .shape ≡ Disc x y radius) (few : c .«pos_dim» ≤ 2) where
@@ -41,5 +42,8 @@ module _ (c : FuseConfig) (x y radius m : Float) (disc : c .shape ≡ Disc x y r
   unfolding masksSent
   masks p = ap (λ (w : Walls). sentMasks (c .kind) w p (live c)) same-walls
 
+  runs : (a p v : List Float) (n : ℕ) → running binary64 (marginedBy c m) a p v n ≡ running binary64 c a p v n
+  runs a p v n = rw same-walls
+
   pub margin-unread : MarginUnread c m
-  margin-unread = record { same-forecast = λ p v rows k from. by-kind p v rows k from (c .brake .kind); same-brake = brakes; same-hold = holds; same-masks = masks }
+  margin-unread = record { same-forecast = λ p v rows k from. by-kind p v rows k from (c .brake .kind); same-run = runs; same-brake = brakes; same-hold = holds; same-masks = masks }

@@ -4,8 +4,8 @@ use mathlib.Core.Path.{_≡_, refl, sym, ap, _∙_}
 use mathlib.Core.Bool.{Bool, true, false, not, _||_, false≢true}
 use mathlib.Core.List.{List, [], _∷_, _++_}
 use native.Mathlib.Omega.{arith}
-use lib.ListN.{length, replicate, getD-replicate}
-use lib.Ieee.{Float, nan, binary64}
+use lib.ListN.{length}
+use lib.Ieee.{Float, binary64}
 use Rattle.bits.specs.Bits.{bit}
 use Rattle.bits.proofs.Bits.{no-bits}
 use Rattle.refusal.specs.Order.{computed, _when_}
@@ -13,9 +13,9 @@ use Rattle.refusal.specs.Chain.{both-pass}
 use Rattle.fmath.specs.Answer.{someNotFinite}
 use Rattle.checked.specs.Each.{at, over}
 use Rattle.checked.specs.Finite.{+0}
-use Rattle.checked.specs.Row.{padded, eight}
-use Rattle.checked.proofs.Copy.{length-eight}
-use Rattle.checked.proofs.Each.{and-left, over-at, over-keeps}
+use Rattle.checked.specs.Row.{eight}
+use Rattle.checked.proofs.Copy.{padded-at, padded-rest, length-eight}
+use Rattle.checked.proofs.Each.{and-left}
 use Rattle.conformal.specs.Rule.{Tables}
 use Rattle.envelope.specs.Refusals.{configJudged}
 use Rattle.envelope.specs.declared.ActionKind.{ActionKind}
@@ -74,12 +74,12 @@ masks-of k x m e = sym (ap masksIn (sym (ap (λ (n : ℕ). sentAt n x) (sent-zer
 -- ---- the position, with zeros up to eight
 
 has : (p : List Float) (j : ℕ) → j < length p → j < 8 → at (eight p 8) j ≡ at p j
-unfolding eight padded
-has p j h b = over-at (at p) (replicate 8 +0) (min 8 (length p)) j (omega arith) b
+unfolding eight
+has p j h b = padded-at p (min 8 (length p)) j (omega arith) (omega arith)
 
 lacks : (p : List Float) (j : ℕ) → length p ≤ j → j < 8 → at (eight p 8) j ≡ +0
-unfolding eight padded
-lacks p j h b = over-keeps (at p) (replicate 8 +0) (min 8 (length p)) j (omega arith) ∙ getD-replicate 8 j +0 nan b
+unfolding eight
+lacks p j h b = padded-rest p (min 8 (length p)) j (omega arith) b
 
 -- ---- what is written
 

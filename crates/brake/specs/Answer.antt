@@ -5,6 +5,7 @@ use mathlib.Core.List.{List, [], _∷_, _++_}
 use lib.Dec.{ltb, eqb}
 use lib.ListN.{length}
 use lib.Ieee.{Float, Format}
+use Rattle.refusal.specs.declared.Refusal.{Refusal}
 use Rattle.refusal.specs.Order.{Judged, width, short, notFinite, computed, numberOf, _when_, refusal, refusedFor, answerBy, leftBy}
 use Rattle.bits.specs.Choice.{if_then_else_}
 use Rattle.fmath.specs.Answer.{someNotFinite, someLentNotFinite}
@@ -30,15 +31,20 @@ use Rattle.brake.specs.Rule.{live, wallsAt, forecastOf, brakeRow, holdRo
 unfoldable pub tooShort : ℕ → ℕ → ℕ → ℕ → ℕ → Bool
 tooShort pos-dim p v count room = ltb p pos-dim || ltb v pos-dim || ltb room count
 
--- what a forecast comes to: its numbers or, with its place, the first that isn't finite
-unfoldable pub outcome : Forecast → BrakeOut
-outcome t =
-    if eqb (placeOf t) 0 then out.Accepted (t .count) (marginOf t) (feasibleOf t) (t .stop .value)
-    else out.Refused (record { number = numberOf computed; place = placeOf t })
+-- an answer or, with its place, the first number that isn't finite
+abbrev pub placedOr : {A : Type 0} → (Refusal → A) → A → Forecast → A
+placedOr refused answer t = if eqb (placeOf t) 0 then answer else refused (record { number = numberOf computed; place = placeOf t })
 
--- by the number of the refusal, 0 where there is none
+-- what a forecast comes to
+unfoldable pub outcome : Forecast → BrakeOut
+outcome t = placedOr out.Refused (out.Accepted (t .count) (marginOf t) (feasibleOf t) (t .stop .value)) t
+
+-- that, by the number of the refusal, 0 where there is none
+abbrev pub decidedAt : {A : Type 0} → (Refusal → A) → A → ℕ → A
+decidedAt refused comesTo k = if eqb k 0 || eqb k (numberOf computed) then comesTo else refused (refusedFor k)
+
 abbrev pub answerAt : ℕ → Forecast → BrakeOut
-answerAt k t = if eqb k 0 || eqb k (numberOf computed) then outcome t else out.Refused (refusedFor k)
+answerAt k t = decidedAt out.Refused (outcome t) k
 
 -- the entries before the failing place are written, and none under another refusal
 abbrev pub slacksAt : ℕ → Forecast → List Float → List Float

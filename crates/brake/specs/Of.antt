@@ -27,7 +27,9 @@ use Rattle.checked.specs.Each.{all}
 use Rattle.checked.specs.Least.{least}
 use Rattle.checked.specs.Of.{reckonedFrom}
 use Rattle.checked.specs.Row.{eight}
+use Rattle.rollout.specs.Of.{legRun}
 use Rattle.brake.specs.Rule.{live, sentRow}
+use Rattle.brake.specs.Towards.{legAt}
 
 abbrev pub workspaceFrom : Shape → Derived → Workspace
 workspaceFrom s d = record { shape = s; lo = d .«box_lo»; hi = d .«box_hi» }
@@ -80,3 +82,16 @@ pub record Planned (c : FuseConfig) (len : ℕ) (k : Header) (from room : ℕ) :
   pub parted : 1 ≤ c .brake .substeps .0
   pub few : countFor (c .brake) (c .brake .kind) from ≤ 4096
   pub space : countFor (c .brake) (c .brake .kind) from ≤ room
+
+-- n substeps towards a, from a position and a velocity, as a run
+abbrev pub runFor : Format → FuseConfig → List Float → List Float → List Float → ℕ → Run
+runFor f c a p v n = legRun f (legAt f c a) (startFor c p v) n
+
+-- what is known of its call where nothing is refused: eight axes at most and one or more that move, a setpoint, a position and a velocity that have them, and room for the entries
+pub record Lends (c : FuseConfig) (a p v n room : ℕ) : Type 0 where
+  pub narrow : c .dim ≤ 8
+  pub moves : 1 ≤ live c
+  pub aims : c .dim ≤ a
+  pub places : c .«pos_dim» ≤ p
+  pub rates : c .«pos_dim» ≤ v
+  pub space : n ≤ room

@@ -38,6 +38,7 @@ use Rattle.brake.specs.declared.Sent.the-variants as Sent
 use Rattle.brake.specs.declared.Sent.the-variants.{Done}
 use Rattle.brake.specs.Rule.{live, wallsAt, secondOrder, forecastOf, isPosition, takesLast}
 use Rattle.brake.specs.Answer.{forecastAnswer, forecastSlacks, masksSent, brakeSent, holdSent, brakeAnswer, brakeOutput, holdAnswer, holdOutput}
+use Rattle.brake.specs.Towards.{running}
 use Rattle.brake.specs.NoMode as noMode
 
 -- ---- a call
@@ -302,10 +303,11 @@ pub record StaysInside (x : Call) (g : Gains) : Type 0 where
   pub in-its-box : (k : ℕ) → k < N x → (j : ℕ) → j < live (x .config) → boxed (x .config .shape) j ≡ true → InBox (x .config) j (at (plantAfter x g (suc k) .p) j)
   pub on-its-disc : (k : ℕ) → k < N x → (cx cy radius : Float) → x .config .shape ≡ Disc cx cy radius → T (fits binary64 radius) → le (distanceAfter x g cx cy (suc k)) radius ≡ true
 
--- ---- the margin of a round table without further axes: with another one the forecast, brake and hold compute what they did
+-- ---- the margin of a round table without further axes: with another one the forecast, a run under one setpoint, brake and hold compute what they did
 
 pub record MarginUnread (c : FuseConfig) (m : Float) : Type 0 where
   pub same-forecast : (p v rows : List Float) (k : Header) (from : ℕ) → forecastOf binary64 (marginedBy c m) p v rows k from ≡ forecastOf binary64 c p v rows k from
+  pub same-run : (a p v : List Float) (n : ℕ) → running binary64 (marginedBy c m) a p v n ≡ running binary64 c a p v n
   pub same-brake : (p v last : List Float) → brakeSent binary64 (marginedBy c m) p v last ≡ brakeSent binary64 c p v last
   pub same-hold : (p last : List Float) → holdSent binary64 (marginedBy c m) p last ≡ holdSent binary64 c p last
   pub same-masks : (p : List Float) → masksSent binary64 (marginedBy c m) p ≡ masksSent binary64 c p

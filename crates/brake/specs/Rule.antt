@@ -44,17 +44,17 @@ wallsAt f c = record { shape = c .shape; lo = derived f c .«box_lo»; hi = deri
 abbrev pub armOf : FuseConfig → Arm
 armOf c = record { kind = c .kind; brake = c .brake .kind; dt = c .limits .dt; «a_max» = c .limits .«a_max»; «j_max» = c .limits .«j_max» }
 
-module _ (f : Format) (c : FuseConfig) (p v rows : List Float) (k : Header) (from : ℕ) where
-  -- the given start on the axes that move
-  abbrev pub start : State
-  start = record { p = eight p (live c); v = eight v (live c) }
+-- the given start on the axes that move
+abbrev pub startAt : FuseConfig → List Float → List Float → State
+startAt c p v = record { p = eight p (live c); v = eight v (live c) }
 
+module _ (f : Format) (c : FuseConfig) (p v rows : List Float) (k : Header) (from : ℕ) where
   abbrev pub secondOrder : Gains → rollout.Task
   secondOrder g = record {
     gains = g;
     walls = wallsAt f c;
     n = live c;
-    start = start;
+    start = startAt c p v;
     rows = rows;
     horizon = k .horizon;
     dim = k .dim;
@@ -70,7 +70,7 @@ module _ (f : Format) (c : FuseConfig) (p v rows : List Float) (k : Header) (fro
     reactTicks = c .brake .«react_ticks»;
     walls = wallsAt f c;
     n = live c;
-    start = start;
+    start = startAt c p v;
     rows = rows;
     horizon = k .horizon;
     dim = k .dim;

@@ -1,5 +1,5 @@
 -- Worked rows, by computation: a position beyond its wall is sent to the wall, one that is missing to 0.0, and an arm that brakes harder than it moves stops; a gripper
--- that keeps the last command, and for what that is judged; the walls that moved a row; and the place of a setpoint that is not finite.
+-- that keeps the last command, and for what that is judged; the gains of a run, and when it is too short; the walls that moved a row; and the place of a setpoint that is not finite.
 use Prim.Native.Nat.{ℕ}
 use mathlib.Core.Path.{_≡_, refl}
 use mathlib.Core.Bool.{true, false}
@@ -17,6 +17,7 @@ use Rattle.checked.specs.Checked.{sumFrom, each, leastOf, pure}
 use Rattle.fmath.specs.Norm.{squareAt, norm, squaredGap, dist}
 use Rattle.pull.specs.Rule.{pulled}
 use Rattle.envelope.specs.declared.ActionKind.the-variants.{EePosition, EeDelta, JointVelocity}
+use Rattle.envelope.specs.declared.BrakeKind.the-variants.{PdSecondOrder, JerkLimited}
 use Rattle.envelope.specs.declared.Gripper.the-variants.{ToZero, LastCommand}
 use Rattle.bits.specs.Bits.{bitsWhere}
 use Rattle.workspace.specs.declared.Shape.{Shape}
@@ -28,7 +29,8 @@ use Rattle.rollout.specs.Plant.{axis, substep}
 use Rattle.rollout.specs.Rule.{Task, followed, setpoint, aimed, after, entry, stopDistance, stop, forecast}
 use Rattle.checked.specs.Row.{padded, eight}
 use Rattle.brake.specs.Rule.{ramp, scaledAt, slowed, slower, shorter, brakeRow, holdRow, sentCoordinate, sentRow, sentMasks}
-use Rattle.brake.specs.Answer.{lastShort, lastUnfit}
+use Rattle.brake.specs.Answer.{tooShort, lastShort, lastUnfit}
+use Rattle.brake.specs.Towards.{gainsIn, runShort}
 
 abbrev walls : Walls
 walls = record { shape = Box; lo = fin true 1 (pos 0) ∷ fin true 1 (pos 0) ∷ []; hi = 2! ∷ 2! ∷ [] }
@@ -84,6 +86,17 @@ short-command = (refl, refl, refl, refl)
 no-command : (lastShort ToZero 2 0 ≡ false) × (lastUnfit ToZero (nan ∷ []) ≡ false)
 unfolding lastShort lastUnfit
 no-command = (refl, refl)
+
+-- ---- a run under one setpoint
+
+-- it has the gains of whatever brake is configured, also of a closed kind
+own-gains : (gainsIn (JerkLimited 1! 2! five) ≡ record { kp = 1!; kv = 2!; dt = five }) × (gainsIn (PdSecondOrder 1! 2! five) ≡ gainsIn (JerkLimited 1! 2! five))
+own-gains = (refl, refl)
+
+-- dim 2 and pos_dim 1: a setpoint of one number is too short, and so are no position, no velocity and one entry for two substeps; none is where each has one number more
+short-for-a-run : (runShort 2 1 1 1 1 2 2 ≡ true) × (runShort 2 1 2 0 1 2 2 ≡ true) × (runShort 2 1 2 1 0 2 2 ≡ true) × (runShort 2 1 2 1 1 2 1 ≡ true) × (runShort 2 1 2 1 1 2 2 ≡ false)
+unfolding runShort tooShort
+short-for-a-run = (refl, refl, refl, refl, refl)
 
 -- ---- the walls
 

@@ -1,4 +1,4 @@
-// The brake's entries: the stopping forecast, and the rows that brake and hold.
+// The brake's entries: the stopping forecast, a run under one setpoint, and the rows that brake and hold.
 ghost use mathlib.Core.Path.{_≡_};
 ghost use mathlib.Core.Bool.{true};
 ghost use mathlib.Core.List.{_++_};
@@ -20,7 +20,9 @@ ghost use Rattle.stopping.specs.Rule as stopping-rule;
 ghost use Rattle.stopping.specs.Of as stopped;
 ghost use Rattle.brake.specs.Rule.{live, armOf, forecastOf, ramp, scaledAt, slowed, slower, shorter, brakeRow, holdRow, isPosition, takesLast, sentMasks};
 ghost use Rattle.brake.specs.Answer.{tooShort, outcome, lentJudged, forecastAnswer, forecastSlacks, lastUnfit, rowLent, brakeAnswer, brakeOutput, holdAnswer, holdOutput};
-ghost use Rattle.brake.specs.Of.{workspaceFrom, workspaceFor, courseFor, startFor, countFor, rowSentFor, Settles, Planned};
+ghost use Rattle.brake.specs.Towards.{gainsIn, running, runLent, runAnswer, runSlacks, runPosition, runVelocity};
+ghost use Rattle.brake.specs.Of.{workspaceFrom, workspaceFor, courseFor, startFor, countFor, rowSentFor, Settles, Planned, runFor, Lends};
+ghost use Rattle.checked.specs.Each.{at, over};
 ghost use Rattle.checked.specs.Of.{rowFrom, reckonedFrom};
 use checked::Reckoned;
 use checked::Row;
@@ -49,6 +51,12 @@ pub enum BrakeOut {
         feasible: bool,
         stop_dist: f64,
     },
+    Refused(Refusal),
+}
+
+// A run under one setpoint: its slack entries and the least of them; or why there is none.
+pub enum Ran {
+    Accepted { count: usize, margin: f64 },
     Refused(Refusal),
 }
 
@@ -284,6 +292,113 @@ pub fn brake_feasible(
     let shape = c.shape;
     let w = workspace_of(shape, compiled.derived);
     forecast(c, w, pos, vel, rows, header, from, slack)
+}
+
+// ---- a run under one setpoint
+
+// The gains of whatever brake is configured.
+fn law_of(kind: BrakeKind) -> Law
+    ensures { λ r. ⌜ rolled.gainsOf r ≡ gainsIn kind ⌝ }
+{
+    match kind {
+        BrakeKind::PdSecondOrder { k_p, k_v, dt } => Law { k_p, k_v, dt },
+        BrakeKind::FirstOrderDecay { k_p, k_v, dt } => Law { k_p, k_v, dt },
+        BrakeKind::BoundedAccel { k_p, k_v, dt } => Law { k_p, k_v, dt },
+        BrakeKind::JerkLimited { k_p, k_v, dt } => Law { k_p, k_v, dt },
+        BrakeKind::ZeroVelocityHold { k_p, k_v, dt } => Law { k_p, k_v, dt },
+    }
+}
+
+// The number before anything is computed: the configuration's own, then 11, then 12; 0 where there is none.
+fn run_refusal(
+    c: FuseConfig,
+    number: u8,
+    setpoint: &[f64],
+    pos: &[f64],
+    vel: &[f64],
+    n: usize,
+    room: usize,
+) -> u8
+    ensures { λ r. ⌜ ((t : Tables) → number ≡ refusal (configJudged binary64 c t) → r ≡ refusal (configJudged binary64 c t ++ runLent binary64 c (now (setpoint .entry)) (now (pos .entry)) (now (vel .entry)) n room)) ⌝ }
+{
+    let brief = too_short(c.pos_dim, pos.len(), vel.len(), n, room);
+    let short = (setpoint.len() < c.dim) | brief;
+    let unfit = fmath::some_not_finite(setpoint, pos, vel);
+    let numbers = Refusal::when(Refusal::NOT_FINITE, unfit, 0);
+    let lent = Refusal::when(Refusal::SHORT, short, numbers);
+    Refusal::or_later(number, lent)
+}
+
+// The run itself, where nothing that is lent is refused.
+fn run_of(
+    c: FuseConfig,
+    w: Workspace,
+    setpoint: &[f64],
+    pos: &[f64],
+    vel: &[f64],
+    n: usize,
+    slack: &mut [f64],
+) -> Run
+    requires { ⌜ Lends c (length (now setpoint)) (length (now pos)) (length (now vel)) n (length (now slack)) × (w ≡ workspaceFor binary64 c) ⌝ }
+    ensures { λ r. ⌜ (r ≡ runFor binary64 c (now (setpoint .entry)) (now (pos .entry)) (now (vel .entry)) n) × (now (slack .exit) ≡ writtenOf (running binary64 c (now (setpoint .entry)) (now (pos .entry)) (now (vel .entry)) n) (now (slack .entry))) ⌝ }
+{
+    let start = start_of(c, pos, vel);
+    let model = c.brake;
+    let kind = model.kind;
+    let law = law_of(kind);
+    let live = fmath::fewer(c.dim, c.pos_dim);
+    rollout::towards(law, w, live, setpoint, n, start, slack)
+}
+
+// The first n numbers of a plant, written over those of a position and a velocity.
+fn put_plant(end: Plant, n: usize, pos: &mut [f64], vel: &mut [f64])
+    requires { ⌜ (n ≤ 8) × (n ≤ length (now pos)) × (n ≤ length (now vel)) ⌝ }
+    ensures { λ _. ⌜ (now (pos .exit) ≡ over (at (end .p)) (now (pos .entry)) n) × (now (vel .exit) ≡ over (at (end .v)) (now (vel .entry)) n) ⌝ }
+{
+    let p = end.p;
+    let v = end.v;
+    fmath::put(&p, n, pos);
+    fmath::put(&v, n, vel);
+}
+
+// n substeps towards one setpoint from the given plant, with the gains of whatever brake is configured: the run that the second-order
+// brake's forecast makes towards each row and then towards its own setpoint. The slack entries are filled in order and the rest stays; the first
+// min(dim, pos_dim) numbers of position and velocity become the plant's. A computed number that isn't finite is refused with its place,
+// the entries before it being written; any other refusal, by the first number of the order that applies, writes nothing.
+pub fn run_towards(
+    c: FuseConfig,
+    center: &[f64; 192],
+    scale: &[f64; 192],
+    setpoint: &[f64],
+    pos: &mut [f64],
+    vel: &mut [f64],
+    n: usize,
+    slack: &mut [f64],
+) -> Ran
+    ensures { λ r. ⌜ (r ≡ runAnswer binary64 c (tables (now (center .entry)) (now (scale .entry))) (now (setpoint .entry)) (now (pos .entry)) (now (vel .entry)) n (length (now (slack .entry)))) × (now (slack .exit) ≡ runSlacks binary64 c (tables (now (center .entry)) (now (scale .entry))) (now (setpoint .entry)) (now (pos .entry)) (now (vel .entry)) n (now (slack .entry))) × (now (pos .exit) ≡ runPosition binary64 c (tables (now (center .entry)) (now (scale .entry))) (now (setpoint .entry)) (now (pos .entry)) (now (vel .entry)) n (length (now (slack .entry)))) × (now (vel .exit) ≡ runVelocity binary64 c (tables (now (center .entry)) (now (scale .entry))) (now (setpoint .entry)) (now (pos .entry)) (now (vel .entry)) n (length (now (slack .entry)))) ⌝ }
+{
+    let compiled = envelope::compile(c, center, scale);
+    let room = slack.len();
+    let number = run_refusal(c, compiled.number, setpoint, pos, vel, n, room);
+    if number != 0 {
+        return Ran::Refused(Refusal::of(number));
+    }
+    let shape = c.shape;
+    let w = workspace_of(shape, compiled.derived);
+    let run = run_of(c, w, setpoint, pos, vel, n, slack);
+    let written = run.done;
+    if !run.sound {
+        return Ran::Refused(Refusal {
+            number: Refusal::COMPUTED,
+            place: written + 1,
+        });
+    }
+    let live = fmath::fewer(c.dim, c.pos_dim);
+    put_plant(run.plant, live, pos, vel);
+    Ran::Accepted {
+        count: written,
+        margin: run.margin,
+    }
 }
 
 // ---- brake and hold

@@ -6,12 +6,12 @@ use native.Mathlib.Nat.{zero-add, le-refl}
 use native.Mathlib.Numerals.{add-one}
 use native.Mathlib.Omega.{arith}
 use lib.Ieee.{Float, nan}
-use lib.ListN.{length, getD, take, drop, set, replicate}
+use lib.ListN.{length, getD, take, drop, set, replicate, getD-replicate}
 use lib.Seq.{paste, paste-zero, paste-suc}
 use Rattle.checked.specs.Each.{at, over}
 use Rattle.checked.specs.Finite.{+0}
 use Rattle.checked.specs.Row.{padded, eight}
-use Rattle.checked.proofs.Each.{over-at, length-over}
+use Rattle.checked.proofs.Each.{over-at, over-keeps, length-over}
 
 pub copy-more : (l₀ l r : List Float) (at j : ℕ) → at + j < length l₀ → j < length r → l ≡ paste l₀ at r j → set l (at + j) (getD r j nan) ≡ paste l₀ at r (j + 1)
 copy-more l₀ l r at j hl hr e = ap (λ (x : List Float). set x (at + j) (getD r j nan)) e ∙ paste-suc l₀ at r j nan hl hr ∙ ap (paste l₀ at r) (sym (add-one j))
@@ -47,6 +47,11 @@ all-padded a hn ha = all-put (replicate 8 +0) a ha hn
 pub padded-at : (a : List Float) (n j : ℕ) → n ≤ 8 → j < n → at (padded a n) j ≡ at a j
 unfolding padded
 padded-at a n j hn hj = over-at (at a) (replicate 8 +0) n j hj (omega arith)
+
+-- past them it has zeros
+pub padded-rest : (a : List Float) (n j : ℕ) → n ≤ j → j < 8 → at (padded a n) j ≡ +0
+unfolding padded
+padded-rest a n j h b = over-keeps (at a) (replicate 8 +0) n j h ∙ getD-replicate 8 j +0 nan b
 
 pub length-padded : (a : List Float) (n : ℕ) → length (padded a n) ≡ 8
 unfolding padded

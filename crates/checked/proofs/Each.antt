@@ -1,15 +1,15 @@
 -- Laws of `all`, `some`, `every`, `table` and `over`: one turn of a loop that computes each, its end, and what it says of one index.
 use Prim.Native.Nat.{ℕ, zero, suc, _+_, _≤_, _<_, min}
 use mathlib.Core.Path.{_≡_, refl, ap, sym, _∙_}
-use mathlib.Core.Bool.{Bool, true, false, _&&_, _||_, false≢true, or-false}
-use mathlib.Core.List.{List, [], _∷_}
-use native.Mathlib.Nat.{le-refl, lt-of-not-le}
+use mathlib.Core.Bool.{Bool, true, false, _&&_, _||_, false≢true, and-true, or-false}
+use mathlib.Core.List.{List, [], _∷_, _++_, append-assoc, append-nil}
+use native.Mathlib.Nat.{le-refl, lt-of-not-le, add-zero, add-suc}
 use native.Mathlib.Decide.{decLe}
 use native.Mathlib.Numerals.{add-one}
 use native.Mathlib.Omega.{arith}
 use borrow.Author.Count.{below-more}
-use lib.ListN.{length, getD, take, set, length-append, length-set, List·getD-append, List·getD-eq-default}
-use lib.Seq.{take-suc-set, take-all, set-out, set-getD, getD-append-seam, getD-set-same, getD-set-other}
+use lib.ListN.{length, getD, take, drop, set, length-append, length-set, List·getD-append, List·getD-eq-default}
+use lib.Seq.{take-suc-set, take-all, drop-cons, set-at, ext-getD, set-out, set-getD, getD-append-seam, getD-set-same, getD-set-other}
 use lib.Ieee.{Float, nan}
 use Rattle.checked.specs.Each.{at, all, some, every, every-from, table, over}
 
@@ -27,6 +27,10 @@ and-left false b e = e
 pub and-right : (a b : Bool) → a && b ≡ true → b ≡ true
 and-right true b e = e
 and-right false b e = absurd (false≢true e)
+
+and-assoc : (a b c : Bool) → (a && b) && c ≡ a && (b && c)
+and-assoc true b c = refl
+and-assoc false b c = refl
 
 pub or-left : (a b : Bool) → a ≡ true → (a || b) ≡ true
 or-left a b e = rw e
@@ -89,6 +93,12 @@ all-fails-at p (suc n) h = go (all p n) (p n) refl refl h (all-fails-at p n)
 -- an entry that is not there fails a test that a NaN fails
 pub all-missing : (q : Float → Bool) (l : List Float) (n : ℕ) → q nan ≡ false → length l < n → all (λ (i : ℕ). q (at l i)) n ≡ false
 all-missing q l n e h = all-fails (λ (i : ℕ). q (at l i)) n (length l) h (ap q (List·getD-eq-default l nan (le-refl (length l))) ∙ e)
+
+-- the first m, and n more
+pub all-sum : (p : ℕ → Bool) (m n : ℕ) → all p (m + n) ≡ all p m && all (λ (j : ℕ). p (m + j)) n
+unfolding all
+all-sum p m zero = rw add-zero (sym (and-true (all p m)))
+all-sum p m (suc n) = rw (add-suc, all-sum p m n) (and-assoc (all p m) (all (λ (j : ℕ). p (m + j)) n) (p (m + n)))
 
 apart : (a b p q : Bool) → (a && b) && (p && q) ≡ (a && p) && (b && q)
 apart true true p q = refl
@@ -197,6 +207,12 @@ unfolding table
 table-same g h zero e = refl
 table-same g h (suc n) e = rw (table-same g h n (λ j b. e j (omega arith)), e n (omega arith))
 
+-- the first m, and n more
+pub table-sum : (g : ℕ → Float) (m n : ℕ) → table g (m + n) ≡ table g m ++ table (λ (j : ℕ). g (m + j)) n
+unfolding table
+table-sum g m zero = rw (add-zero, append-nil)
+table-sum g m (suc n) = rw (add-suc, table-sum g m n, append-assoc)
+
 -- entry j of a table
 pub table-at : (g : ℕ → Float) (n j : ℕ) → j < n → at (table g n) j ≡ g j
 unfolding table
@@ -255,3 +271,20 @@ pub over-keeps : (g : ℕ → Float) (l : List Float) (n j : ℕ) → n ≤ j �
 unfolding over
 over-keeps g l zero j h = refl
 over-keeps g l (suc n) j h = let e : j ≡ n → ⊥ = λ z. omega arith in getD-set-other (over g l n) n j (g n) nan e ∙ over-keeps g l n j (omega arith)
+
+-- the values that are put, and then what was there past them
+pub over-front : (g : ℕ → Float) (l : List Float) (n : ℕ) → n ≤ length l → over g l n ≡ table g n ++ drop n l
+unfolding over table
+over-front g l zero h = refl
+over-front g l (suc n) h =
+    rw (over-front g l n (omega arith), drop-cons l n nan (omega arith), set-at (table g n) (at l n) (drop (suc n) l) (g n) n (table-long g n), append-assoc)
+
+-- what is put over the same places twice
+pub over-twice : (g h : ℕ → Float) (l : List Float) (n : ℕ) → over g (over h l n) n ≡ over g l n
+over-twice g h l n =
+    ext-getD nan (over g (over h l n) n) (over g l n) (length-over g (over h l n) n ∙ length-over h l n ∙ sym (length-over g l n))
+    (λ i b. go i (rw (length-over g (over h l n) n) at b) (decLe n i))
+  where
+    go : (i : ℕ) → i < length (over h l n) → Dec (n ≤ i) → at (over g (over h l n) n) i ≡ at (over g l n) i
+    go i b (yes k) = over-keeps g (over h l n) n i k ∙ over-keeps h l n i k ∙ sym (over-keeps g l n i k)
+    go i b (no k) = over-at g (over h l n) n i (lt-of-not-le k) b ∙ sym (over-at g l n i (lt-of-not-le k) (rw (length-over h l n) at b))

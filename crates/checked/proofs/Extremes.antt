@@ -2,13 +2,14 @@
 use mathlib.Core.Path.{_≡_, refl, sym, _∙_}
 use mathlib.Core.Bool.{Bool, true, false, cond, _||_, false≢true}
 use Prim.Native.Nat.{ℕ, zero, suc, _+_, _≤_, _<_}
+use native.Mathlib.Nat.{add-zero, add-suc}
 use native.Mathlib.Numerals.{add-one}
 use native.Mathlib.Omega.{arith}
 use borrow.Author.Count.{below-more}
 use mathlib.Core.Logic.{_⊎_, inl, inr, ⊎-elim}
-use lib.Ieee.{Float, nan, inf, fin, lt, isNan}
+use lib.Ieee.{Float, nan, inf, fin, lt, eq, isNan}
 use Rattle.checked.specs.Least.{lesser, greater, least, greatest}
-use Rattle.checked.proofs.Ordered.{Real, lt-not-below, lt-asymmetric, lt-irrefl, lt-transitive, below-nan}
+use Rattle.checked.proofs.Ordered.{Real, lt-not-below, lt-asymmetric, lt-irrefl, lt-transitive, lt-total, below-nan}
 
 -- ---- of two
 
@@ -61,6 +62,38 @@ lesser-right a b = go (lt a b) refl
     go : (t : Bool) → lt a b ≡ t → lt b (cond t a b) ≡ false
     go true e = lt-asymmetric a b e
     go false e = lt-irrefl b
+
+-- nothing but infinity is not below it
+pub lesser-infinite : (x : Float) → Real x → lesser x (inf false) ≡ x
+unfolding lesser lt isNan
+lesser-infinite nan r = absurd r
+lesser-infinite (inf true) r = refl
+lesser-infinite (inf false) r = refl
+lesser-infinite (fin s m e) r = refl
+
+-- of three, in either grouping: the same one of them
+pub lesser-assoc : (a b c : Float) → Real b → lesser (lesser a b) c ≡ lesser a (lesser b c)
+unfolding lesser
+lesser-assoc a b c w = go (lt a b) (lt b c) (lt a c) refl refl refl
+  where
+    go : (t u v : Bool) → lt a b ≡ t → lt b c ≡ u → lt a c ≡ v → cond (lt (cond t a b) c) (cond t a b) c ≡ cond (lt a (cond u b c)) a (cond u b c)
+    go true true true e h g = rw (e, g)
+    go true true false e h g = absurd (false≢true (sym g ∙ lt-transitive a b c e h))
+    go true false v e h g = refl
+    go false true v e h g = rw (e, h)
+    go false false true e h g = absurd (false≢true (sym (lt-not-below a b c w e h) ∙ g))
+    go false false false e h g = rw (h, g)
+
+-- in either order they are equal as numbers
+pub lesser-either-way : (a b : Float) → Real a → Real b → eq (lesser b a) (lesser a b) ≡ true
+unfolding lesser
+lesser-either-way a b p q = go (lt a b) (lt b a) refl refl
+  where
+    go : (t u : Bool) → lt a b ≡ t → lt b a ≡ u → eq (cond u b a) (cond t a b) ≡ true
+    go true true e h = absurd (false≢true (sym (lt-asymmetric a b e) ∙ h))
+    go true false e h = lt-total a a p p (lt-irrefl a) (lt-irrefl a)
+    go false true e h = lt-total b b q q (lt-irrefl b) (lt-irrefl b)
+    go false false e h = lt-total a b p q e h
 
 pub greater-real : (a b : Float) → Real a → Real b → Real (greater a b)
 unfolding greater
@@ -140,6 +173,14 @@ module _ (g : ℕ → Float) where
       go : (t : Bool) → (j : ℕ) × (j < suc n) × (least g (suc n) ≡ g j) → (j : ℕ) × (j < suc (suc n)) × (cond t (least g (suc n)) (g (suc n)) ≡ g j)
       go true w = (w .0, omega (arith, w .1), w .2)
       go false w = (suc n, omega arith, refl)
+
+-- of the first m, and of n more
+pub least-sum : (g : ℕ → Float) (m n : ℕ) → ((j : ℕ) → j < m + n → Real (g j)) → least g (m + n) ≡ lesser (least g m) (least (λ (j : ℕ). g (m + j)) n)
+unfolding least
+least-sum g m zero w = rw add-zero (sym (lesser-infinite (least g m) (least-real g m (λ j h. w j (omega arith)))))
+least-sum g m (suc n) w =
+    rw (add-suc, least-sum g m n (λ j h. w j (omega arith)))
+    (lesser-assoc (least g m) (least (λ (j : ℕ). g (m + j)) n) (g (m + n)) (least-real (λ (j : ℕ). g (m + j)) n (λ j h. w (m + j) (omega arith))))
 
 module _ (z : Float) (g : ℕ → Float) where
   pub greatest-more : (i : ℕ) (m x : Float) → m ≡ greatest z g i → x ≡ g i → greater m x ≡ greatest z g (i + 1)

@@ -1,6 +1,7 @@
 -- What holds of the entries of any forecast: what is written, which place is named, and the margin.
 use mathlib.Core.Path.{_≡_, refl, sym, ap, _∙_}
 use mathlib.Core.Bool.{Bool, true, false, not}
+use mathlib.Core.Logic.{_⊎_, inl, inr}
 use mathlib.Core.List.{List}
 use Prim.Native.Nat.{ℕ, zero, suc, _+_, _-_, _≤_, _<_}
 use native.Mathlib.Nat.{lt-of-not-le}
@@ -16,7 +17,7 @@ use Rattle.checked.proofs.Each.{all-fails, over-at, over-keeps}
 use Rattle.checked.proofs.Ordered.{Real, le-not-above, lt-not-below}
 use Rattle.checked.proofs.Extremes.{least-real, least-bounds, least-attained}
 use Rattle.course.specs.Forecast.{Forecast, fine, slackAt, leading, leadingIn, placeOf, marginOf, feasibleOf, writtenOf}
-use Rattle.course.proofs.Leading.{leading-whole}
+use Rattle.course.proofs.Leading.{leading-whole, first-or-all}
 
 infinite-not-negative : lt (inf false) +0 ≡ false
 unfolding lt
@@ -59,6 +60,29 @@ module _ (t : Forecast) where
   pub failing-at-the-end : Whole → t .stop .sound ≡ false → placeOf t ≡ suc (t .count)
   unfolding placeOf
   failing-at-the-end h b = rw (h, b)
+
+  -- with a stop distance that is finite, or none: no place is named exactly where each entry is finite, and else the first that isn't
+  module _ (sound : t .stop .sound ≡ true) where
+    pub all-nowhere : Whole → placeOf t ≡ 0
+    unfolding placeOf
+    all-nowhere h = rw (h, sound)
+
+    pub nowhere-all : placeOf t ≡ 0 → Whole
+    nowhere-all e = go (first-or-all (fine t) (t .count))
+      where
+        go : ((k : ℕ) × (k < t .count) × (all (fine t) k ≡ true) × (fine t k ≡ false)) ⊎ Whole → Whole
+        go (inl w) = absurd (let h = first-failing-place (w .0) (w .1) (w .2) (w .3) .0 in omega (arith, h, e))
+        go (inr h) = h
+
+    pub named : (k : ℕ) → placeOf t ≡ suc k → (k < t .count) × (all (fine t) k ≡ true) × (fine t k ≡ false)
+    named k e = go (first-or-all (fine t) (t .count))
+      where
+        go : ((k : ℕ) × (k < t .count) × (all (fine t) k ≡ true) × (fine t k ≡ false)) ⊎ Whole → (k < t .count) × (all (fine t) k ≡ true) × (fine t k ≡ false)
+        go (inl w) =
+            let h = first-failing-place (w .0) (w .1) (w .2) (w .3) .0 in
+            let i : w .0 ≡ k = omega (arith, h, e) in
+            rw (← i) (w .1, w .2, w .3)
+        go (inr h) = absurd (let z = all-nowhere h in omega (arith, z, e))
 
   -- the margin of no entries is infinity; of some it is one of them, and none is below it
   pub empty-margin : t .count ≡ 0 → marginOf t ≡ inf false

@@ -33,8 +33,10 @@ use Rattle.tier1.specs.declared.Tier1Rt.{Tier1Rt}
 use Rattle.tier1.specs.declared.Cleared.{Cleared}
 use Rattle.tier1.specs.Of.{featuresOf, resetOf}
 use Rattle.brake.specs.declared.BrakeOut.{BrakeOut}
+use Rattle.brake.specs.declared.Ran.{Ran}
 use Rattle.brake.specs.declared.Sent.{Sent}
 use Rattle.brake.specs.Answer.{forecastAnswer, forecastSlacks, brakeAnswer, brakeOutput, holdAnswer, holdOutput}
+use Rattle.brake.specs.Towards.{runAnswer, runSlacks, runPosition, runVelocity}
 use Rattle.bits.specs.Choice.{if_then_else_}
 use Rattle.refusal.specs.Order.{refusal}
 use Rattle.chunk.specs.Refusals.{lentReasons}
@@ -42,7 +44,7 @@ use Rattle.chunk.specs.Of.{fillOf}
 use Rattle.chunk.proofs.Judged.{accepted-fits, lent-accepted}
 use Rattle.layout.specs.Chunk.{headerFrom}
 use Rattle.lictor.specs.Asked.{bare, rowsOver}
-use Rattle.lictor.specs.Answer.{fitting, NumberGiven, FilledGiven, MaskGiven, RecordedGiven, CountGiven, EmptinessGiven, DerivedGiven, CheckPut, CheckGiven, FeaturedGiven, StateLaid, ClearedGiven, ForecastPut, ForecastGiven, SentPut, SentGiven, ScoredGiven, VerdictGiven, BinGiven}
+use Rattle.lictor.specs.Answer.{fitting, NumberGiven, FilledGiven, MaskGiven, RecordedGiven, CountGiven, EmptinessGiven, DerivedGiven, CheckPut, CheckGiven, FeaturedGiven, StateLaid, ClearedGiven, ForecastPut, ForecastGiven, RanPut, RanGiven, SentPut, SentGiven, ScoredGiven, VerdictGiven, BinGiven}
 
 pub number-alike : {a b : Number} {r : ℕ} {old new : Float} → a ≡ b → NumberGiven a r old new → NumberGiven b r old new
 number-alike e g = rw e at g
@@ -116,6 +118,22 @@ forecast-misfit e q = let z = sym q ∙ e in record { number = rw z; marks = rw 
 pub forecast-fits : {f g : Bool} {a b : BrakeOut} {l : List Float} {r : ℕ} {m₀ m : List ℕ} {x₀ x : List Float} {p₀ p : ℕ} {s₀ s : List Float} → f ≡ true → f ≡ g → (a ≡ b) × (s ≡ l) → ForecastPut a r m₀ m x₀ x p₀ p → ForecastGiven g b l r m₀ m x₀ x p₀ p s₀ s
 forecast-fits e y q g = let z = sym y ∙ e in record { number = rw (z, ← q .0) (g .number); marks = rw (z, ← q .0) (g .marks); distances = rw (z, ← q .0) (g .distances); place = rw (z, ← q .0) (g .place); slacks = rw z (q .1) }
 
+-- a run whose counts do not fit leaves every place as it was; one whose counts fit is put where it belongs
+pub ran-misfit : {f g : Bool} {a : Ran} {l q w : List Float} {n : ℕ} {x : Float} {p : ℕ} {s q₀ w₀ : List Float} → f ≡ false → f ≡ g → RanGiven g a l q w 255 n n x x p p s s q₀ q₀ w₀ w₀
+ran-misfit e y = let z = sym y ∙ e in record { number = rw z; count = rw z; margin = rw z; place = rw z; slacks = rw z; position = rw z; velocity = rw z }
+
+pub ran-fits : {f g : Bool} {a b : Ran} {l q w : List Float} {r n₀ n : ℕ} {x₀ x : Float} {p₀ p : ℕ} {s₀ s q₀ q₁ w₀ w₁ : List Float} → f ≡ true → f ≡ g → (a ≡ b) × (s ≡ l) × (q₁ ≡ q) × (w₁ ≡ w) → RanPut a r n₀ n x₀ x p₀ p → RanGiven g b l q w r n₀ n x₀ x p₀ p s₀ s q₀ q₁ w₀ w₁
+ran-fits e y q g =
+    let z = sym y ∙ e in record {
+      number = rw (z, ← q .0) (g .number);
+      count = rw (z, ← q .0) (g .count);
+      margin = rw (z, ← q .0) (g .margin);
+      place = rw (z, ← q .0) (g .place);
+      slacks = rw z (q .1);
+      position = rw z (q .2);
+      velocity = rw z (q .3);
+    }
+
 -- a row whose counts do not fit is not written, and one whose counts fit is
 pub sent-misfit : {f g : Bool} {a : Sent} {l : List Float} {m : List ℕ} {o : List Float} → f ≡ false → f ≡ g → SentGiven g a l 255 m m o o
 sent-misfit e q = let z = sym q ∙ e in record { number = rw z; marks = rw z; output = rw z }
@@ -169,6 +187,11 @@ reset-alike e q = rw q at e
 
 pub forecast-alike : (t : Tables) (p v rows : List Float) (x : Header) (from : ℕ) (l : List Float) {a : BrakeOut} {m : List Float} {c k : FuseConfig} → (a ≡ forecastAnswer binary64 c t p v rows x from (length l)) × (m ≡ forecastSlacks binary64 c t p v rows x from l) → c ≡ k → (a ≡ forecastAnswer binary64 k t p v rows x from (length l)) × (m ≡ forecastSlacks binary64 k t p v rows x from l)
 forecast-alike t p v rows x from l q y = (rw y at (q .0), rw y at (q .1))
+
+pub run-alike : (t : Tables) (a p v : List Float) (n : ℕ) (l : List Float) {r : Ran} {m x y : List Float} {c k : FuseConfig}
+    → (r ≡ runAnswer binary64 c t a p v n (length l)) × (m ≡ runSlacks binary64 c t a p v n l) × (x ≡ runPosition binary64 c t a p v n (length l)) × (y ≡ runVelocity binary64 c t a p v n (length l)) → c ≡ k
+    → (r ≡ runAnswer binary64 k t a p v n (length l)) × (m ≡ runSlacks binary64 k t a p v n l) × (x ≡ runPosition binary64 k t a p v n (length l)) × (y ≡ runVelocity binary64 k t a p v n (length l))
+run-alike t a p v n l q e = (rw e at (q .0), rw e at (q .1), rw e at (q .2), rw e at (q .3))
 
 pub brake-alike : (t : Tables) (p v last l : List Float) {a : Sent} {m : List Float} {c k : FuseConfig} → (a ≡ brakeAnswer binary64 c t p v last (length l)) × (m ≡ brakeOutput binary64 c t p v last l) → c ≡ k → (a ≡ brakeAnswer binary64 k t p v last (length l)) × (m ≡ brakeOutput binary64 k t p v last l)
 brake-alike t p v last l q y = (rw y at (q .0), rw y at (q .1))

@@ -30,6 +30,8 @@ use Rattle.tier1.specs.declared.Featured.{Featured}
 use Rattle.tier1.specs.declared.Cleared.{Cleared}
 use Rattle.brake.specs.declared.BrakeOut.{BrakeOut}
 use Rattle.brake.specs.declared.BrakeOut.the-variants as F
+use Rattle.brake.specs.declared.Ran.{Ran}
+use Rattle.brake.specs.declared.Ran.the-variants as R
 use Rattle.brake.specs.declared.Sent.{Sent}
 use Rattle.brake.specs.declared.Sent.the-variants as S
 use Rattle.layout.specs.Chunk.{headerFlat, unheld}
@@ -209,6 +211,39 @@ pub record ForecastGiven (fits : Bool) (a : BrakeOut) (l : List Float) (r : ℕ)
   pub distances : x ≡ (if fits then forecastDistances a x₀ else x₀)
   pub place : p ≡ (if fits then forecastPlace a p₀ else p₀)
   pub slacks : s ≡ (if fits then l else s₀)
+
+-- a run under one setpoint: a count and a margin, and the place of a refusal
+unfoldable pub ranNumber : Ran → ℕ
+ranNumber (R.Accepted count margin) = 0
+ranNumber (R.Refused r) = r .number
+
+unfoldable pub ranCount : Ran → ℕ → ℕ
+ranCount (R.Accepted count margin) old = count
+ranCount (R.Refused r) old = old
+
+unfoldable pub ranMargin : Ran → Float → Float
+ranMargin (R.Accepted count margin) old = margin
+ranMargin (R.Refused r) old = old
+
+unfoldable pub ranPlace : Ran → ℕ → ℕ
+ranPlace (R.Accepted count margin) old = old
+ranPlace (R.Refused r) old = r .place
+
+pub record RanPut (a : Ran) (r n₀ n : ℕ) (x₀ x : Float) (p₀ p : ℕ) : Type 0 where
+  pub number : r ≡ ranNumber a
+  pub count : n ≡ ranCount a n₀
+  pub margin : x ≡ ranMargin a x₀
+  pub place : p ≡ ranPlace a p₀
+
+-- of a configuration whose counts may not fit; the entry leaves l in the slacks, q in the position and w in the velocity
+pub record RanGiven (fits : Bool) (a : Ran) (l q w : List Float) (r n₀ n : ℕ) (x₀ x : Float) (p₀ p : ℕ) (s₀ s q₀ q₁ w₀ w₁ : List Float) : Type 0 where
+  pub number : r ≡ fitting fits (ranNumber a)
+  pub count : n ≡ (if fits then ranCount a n₀ else n₀)
+  pub margin : x ≡ (if fits then ranMargin a x₀ else x₀)
+  pub place : p ≡ (if fits then ranPlace a p₀ else p₀)
+  pub slacks : s ≡ (if fits then l else s₀)
+  pub position : q₁ ≡ (if fits then q else q₀)
+  pub velocity : w₁ ≡ (if fits then w else w₀)
 
 -- a row that brakes or holds, and the masks of the walls in 2 counts
 unfoldable pub sentNumber : Sent → ℕ

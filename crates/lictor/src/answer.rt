@@ -1,11 +1,12 @@
-// Answers, put where C reads them: the number is returned, and a refusal leaves every place as it was, but for the place that a forecast names.
+// Answers, put where C reads them: the number is returned, and a refusal leaves every place as it was, but for the place that a forecast or a run names.
 ghost use mathlib.Core.Path.{_≡_};
 ghost use mathlib.Core.Bool.{true};
 ghost use Rattle.bits.specs.Choice.{if_then_else_};
 ghost use Rattle.layout.specs.Chunk.{headerFrom};
 ghost use Rattle.lictor.specs.Asked.{rowsOver};
-ghost use Rattle.lictor.specs.Answer.{fitting, NumberGiven, MaskGiven, RecordedGiven, CountGiven, EmptinessGiven, DerivedGiven, CheckPut, ClearedGiven, ForecastPut, SentPut, ScoredGiven, VerdictGiven, BinGiven};
+ghost use Rattle.lictor.specs.Answer.{fitting, NumberGiven, MaskGiven, RecordedGiven, CountGiven, EmptinessGiven, DerivedGiven, CheckPut, ClearedGiven, ForecastPut, RanPut, SentPut, ScoredGiven, VerdictGiven, BinGiven};
 use brake::BrakeOut;
+use brake::Ran;
 use brake::Sent;
 use chunk::Header;
 use conformal::Scored;
@@ -188,6 +189,25 @@ pub(crate) fn put_forecast(
             0
         }
         BrakeOut::Refused(r) => {
+            *place = r.place as u64;
+            r.number as u64
+        }
+    }
+}
+
+pub(crate) fn put_ran(a: Ran, count: &mut u64, margin: &mut f64, place: &mut u64) -> u64
+    ensures { λ r. ⌜ RanPut a r (now (count .entry)) (now (count .exit)) (now (margin .entry)) (now (margin .exit)) (now (place .entry)) (now (place .exit)) ⌝ }
+{
+    match a {
+        Ran::Accepted {
+            count: written,
+            margin: least,
+        } => {
+            *count = written as u64;
+            *margin = least;
+            0
+        }
+        Ran::Refused(r) => {
             *place = r.place as u64;
             r.number as u64
         }

@@ -1,10 +1,11 @@
-// Module 7 for C: the stopping forecast, and the rows that brake and hold.
+// Module 7 for C: the stopping forecast, a run under one setpoint, and the rows that brake and hold.
 ghost use lib.ListN.{length};
 ghost use lib.Ieee.{binary64};
 ghost use Rattle.conformal.specs.Of.{tables};
 ghost use Rattle.layout.specs.Config.{configOf, countsFit};
 ghost use Rattle.brake.specs.Answer.{forecastAnswer, forecastSlacks, brakeAnswer, brakeOutput, holdAnswer, holdOutput};
-ghost use Rattle.lictor.specs.Answer.{ForecastGiven, SentGiven};
+ghost use Rattle.brake.specs.Towards.{runAnswer, runSlacks, runPosition, runVelocity};
+ghost use Rattle.lictor.specs.Answer.{ForecastGiven, RanGiven, SentGiven};
 ghost use Rattle.lictor.specs.Asked.{sizesAsked};
 use chunk::Header;
 
@@ -42,6 +43,32 @@ pub extern "C" fn lictor_brake_feasible(
     };
     let a = brake::brake_feasible(c, center, scale, pos, vel, rows, k, from, slack);
     crate::answer::put_forecast(a, marks, distances, place)
+}
+
+#[no_mangle]
+pub extern "C" fn lictor_run_towards(
+    numbers: &[f64; 53],
+    counts: &[u64; 35],
+    center: &[f64; 192],
+    scale: &[f64; 192],
+    setpoint: &[f64],
+    pos: &mut [f64],
+    vel: &mut [f64],
+    n: usize,
+    slack: &mut [f64],
+    count: &mut u64,
+    margin: &mut f64,
+    place: &mut u64,
+) -> u64
+    ensures { λ r. ⌜ RanGiven (countsFit (now (counts .entry))) (runAnswer binary64 (configOf (now (numbers .entry)) (now (counts .entry))) (tables (now (center .entry)) (now (scale .entry))) (now (setpoint .entry)) (now (pos .entry)) (now (vel .entry)) n (length (now (slack .entry)))) (runSlacks binary64 (configOf (now (numbers .entry)) (now (counts .entry))) (tables (now (center .entry)) (now (scale .entry))) (now (setpoint .entry)) (now (pos .entry)) (now (vel .entry)) n (now (slack .entry))) (runPosition binary64 (configOf (now (numbers .entry)) (now (counts .entry))) (tables (now (center .entry)) (now (scale .entry))) (now (setpoint .entry)) (now (pos .entry)) (now (vel .entry)) n (length (now (slack .entry)))) (runVelocity binary64 (configOf (now (numbers .entry)) (now (counts .entry))) (tables (now (center .entry)) (now (scale .entry))) (now (setpoint .entry)) (now (pos .entry)) (now (vel .entry)) n (length (now (slack .entry)))) r (now (count .entry)) (now (count .exit)) (now (margin .entry)) (now (margin .exit)) (now (place .entry)) (now (place .exit)) (now (slack .entry)) (now (slack .exit)) (now (pos .entry)) (now (pos .exit)) (now (vel .entry)) (now (vel .exit)) ⌝ }
+{
+    let fits = layout::config::counts_fit(counts);
+    if !fits {
+        return 255;
+    }
+    let c = layout::config::config_of(numbers, counts);
+    let run = brake::run_towards(c, center, scale, setpoint, pos, vel, n, slack);
+    crate::answer::put_ran(run, count, margin, place)
 }
 
 #[no_mangle]

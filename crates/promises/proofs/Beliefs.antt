@@ -40,6 +40,8 @@ use Rattle.tier0.proofs.Leash.{chunk-contact, action-contact}
 use Rattle.tier0.proofs.Zones.{no-contact-as-unarmed, unseen-is-inside}
 use Rattle.course.specs.Forecast.{placeOf}
 use Rattle.brake.specs.declared.BrakeOut.the-variants as forecast
+use Rattle.brake.specs.declared.Ran.the-variants as run
+use Rattle.brake.specs.Towards.{ranAt, running, runLent, runRefusal, runAnswer}
 use Rattle.brake.specs.declared.Sent.the-variants as sent
 use Rattle.brake.specs.Answer.{answerAt as foreseen, plan, lentJudged, forecastRefusal, forecastAnswer, lastUnfit, rowLent, sentAt, masksSent, brakeSent, brakeRefusal, brakeAnswer, holdSent, holdRefusal, holdAnswer}
 use Rattle.brake.proofs.Promises.{feasible-exactly}
@@ -151,6 +153,12 @@ module _ (c : FuseConfig) (tabs : Tables) (four : refusal (configJudged binary64
       let t = plan binary64 c p v rows k from in
       ap (λ (n : ℕ). foreseen n t) (is-4 (chunkReasons k (length rows) ++ (lentJudged binary64 c p v rows k from room ++ ((computed when not (eqb (placeOf t) 0)) ∷ []))))
 
+  run-4 : (a p v : List Float) (n room : ℕ) → runAnswer binary64 c tabs a p v n room ≡ run.Refused (refusedFor 4)
+  unfolding runAnswer runRefusal
+  run-4 a p v n room =
+      let t = running binary64 c a p v n in
+      ap (λ (k : ℕ). ranAt k t) (is-4 (runLent binary64 c a p v n room ++ (computed when not (eqb (placeOf t) 0) ∷ [])))
+
   brake-4 : (p v last : List Float) (room : ℕ) → brakeAnswer binary64 c tabs p v last room ≡ sent.Refused (refusedFor 4)
   unfolding brakeAnswer brakeRefusal
   brake-4 p v last room =
@@ -163,7 +171,7 @@ module _ (c : FuseConfig) (tabs : Tables) (four : refusal (configJudged binary64
       ap (λ (n : ℕ). sentAt n (masksSent binary64 c p)) (is-4 (rowLent c (someNotFinite p || lastUnfit (c .gripper) last) room (length last) ++ (computed when not (holdSent binary64 c p last .sound) ∷ [])))
 
   all-4 : ChannelsAre4 c tabs
-  all-4 = record { configuration-is-4 = four; chunk-is-4 = chunk-4; action-is-4 = action-4; forecast-is-4 = forecast-4; brake-is-4 = brake-4; hold-is-4 = hold-4 }
+  all-4 = record { configuration-is-4 = four; chunk-is-4 = chunk-4; action-is-4 = action-4; forecast-is-4 = forecast-4; run-is-4 = run-4; brake-is-4 = brake-4; hold-is-4 = hold-4 }
 
 -- where the channels do not fit, and nothing before them is refused
 unfit-4 : (c : FuseConfig) (tabs : Tables) → channelsFit c ≡ false → sizesOk c ≡ true → numbersOk binary64 c tabs ≡ true → stepsOk c ≡ true → ChannelsAre4 c tabs

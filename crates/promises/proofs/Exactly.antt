@@ -9,6 +9,7 @@ use borrow.Author.Tests.{eqb-true, ne-eqb}
 use lib.Dec.{eqb, ltb}
 use lib.Ieee.{Float, Format, binary64}
 use lib.ListN.{length}
+use Rattle.refusal.specs.declared.Refusal.{Refusal}
 use Rattle.refusal.specs.Order.{Reason, Judged, size, steps, short, notFinite, computed, _when_, numberOf, order, among, given, refusal, refusedFor, _or_}
 use Rattle.bits.specs.Choice.{if_then_else_}
 use Rattle.refusal.specs.Exactly.{First, here, later, exactly-first, exactly-none}
@@ -42,8 +43,10 @@ use Rattle.tier1.specs.Of as tier1
 use Rattle.course.specs.Forecast.{Forecast, placeOf}
 use Rattle.brake.specs.declared.BrakeOut.the-variants as out
 use Rattle.workspace.specs.declared.WallMasks.{WallMasks}
-use Rattle.brake.specs.Answer.{plan, lentJudged, lastUnfit, rowLent, outcome, answerAt, sentAt, forecastRefusal, forecastAnswer, brakeSent, brakeRefusal, brakeAnswer, holdSent, holdRefusal, holdAnswer}
-use Rattle.lictor.specs.Answer.{numberOf as numberIn, maskNumber, countNumber, emptinessNumber, verdictNumber, binNumber, checkNumber, forecastNumber, sentNumber}
+use Rattle.brake.specs.Answer.{plan, lentJudged, lastUnfit, rowLent, placedOr, outcome, decidedAt, sentAt, forecastRefusal, forecastAnswer, brakeSent, brakeRefusal, brakeAnswer, holdSent, holdRefusal, holdAnswer}
+use Rattle.brake.specs.declared.Ran.the-variants as ran
+use Rattle.brake.specs.Towards.{ranTo, running, runLent, runRefusal, runAnswer}
+use Rattle.lictor.specs.Answer.{numberOf as numberIn, maskNumber, countNumber, emptinessNumber, verdictNumber, binNumber, checkNumber, forecastNumber, ranNumber, sentNumber}
 
 -- n is the number of a call to which these reasons apply
 abbrev pub Exactly : ℕ → (Reason → Bool) → Type 0
@@ -195,25 +198,41 @@ opposite : (b : Bool) {c : Bool} → not b ≡ c → b ≡ not c
 opposite true e = ap not e
 opposite false e = ap not e
 
-forecast-told : (t : Forecast) (n : ℕ) → (n ≡ 0 → not (eqb (placeOf t) 0) ≡ false) → (n ≡ 13 → not (eqb (placeOf t) 0) ≡ true) → forecastNumber (answerAt n t) ≡ n
-unfolding forecastNumber outcome
-forecast-told t n fine fails = go (eqb n 0) (eqb n 13) refl refl
-  where
-    go : (z f : Bool) → eqb n 0 ≡ z → eqb n 13 ≡ f → forecastNumber (if z || f then outcome t else out.Refused (refusedFor n)) ≡ n
-    go true f a b = let e = eqb-true n 0 a in rw (opposite (eqb (placeOf t) 0) (fine e)) (sym e)
-    go false true a b = let e = eqb-true n 13 b in rw (opposite (eqb (placeOf t) 0) (fails e)) (sym e)
-    go false false a b = refl
+-- an answer, or 13 with its place, has the number that it was chosen by
+module _ {A : Type 0} (number : A → ℕ) (refused : Refusal → A) (answer : A) (accepts : number answer ≡ 0) (refuses : (r : Refusal) → number (refused r) ≡ r .number) where
+  pub placed-told : (t : Forecast) (n : ℕ) → (n ≡ 0 → not (eqb (placeOf t) 0) ≡ false) → (n ≡ 13 → not (eqb (placeOf t) 0) ≡ true) → number (decidedAt refused (placedOr refused answer t) n) ≡ n
+  placed-told t n fine fails = go (eqb n 0) (eqb n 13) refl refl
+    where
+      go : (z f : Bool) → eqb n 0 ≡ z → eqb n 13 ≡ f → number (if z || f then placedOr refused answer t else refused (refusedFor n)) ≡ n
+      go true f a b = let e = eqb-true n 0 a in rw (opposite (eqb (placeOf t) 0) (fine e)) (accepts ∙ sym e)
+      go false true a b = let e = eqb-true n 13 b in rw (opposite (eqb (placeOf t) 0) (fails e)) (refuses _ ∙ sym e)
+      go false false a b = refuses _
 
 module _ (c : FuseConfig) (tabs : Tables) (p v rows : List Float) (k : Header) (from room : ℕ) where
   abbrev forecastJudged : List Judged
   forecastJudged = configJudged binary64 c tabs ++ (chunkReasons k (length rows) ++ (lentJudged binary64 c p v rows k from room ++ (computed when not (eqb (placeOf (plan binary64 c p v rows k from)) 0) ∷ [])))
 
   pub brake-feasible-exactly : Exactly (forecastNumber (forecastAnswer binary64 c tabs p v rows k from room)) (among forecastJudged)
-  unfolding forecastAnswer forecastRefusal
+  unfolding forecastAnswer forecastRefusal forecastNumber outcome
   brake-feasible-exactly =
       let none = exactly-none (among forecastJudged) .1 in
       let last = exactly-first (among forecastJudged) computed .1 in
-      exactly _ (forecast-told (plan binary64 c p v rows k from) (refusal forecastJudged) (λ z. none z computed) (λ z. applied _ _ _ (last z)))
+      exactly _ (placed-told forecastNumber out.Refused _ refl (λ r. refl) (plan binary64 c p v rows k from) (refusal forecastJudged) (λ z. none z computed) (λ z. applied _ _ _ (last z)))
+
+module _ (c : FuseConfig) (tabs : Tables) (a p v : List Float) (n room : ℕ) where
+  abbrev runJudged : List Judged
+  runJudged = configJudged binary64 c tabs ++ (runLent binary64 c a p v n room ++ (computed when not (eqb (placeOf (running binary64 c a p v n)) 0) ∷ []))
+
+  pub run-towards-number : ranNumber (runAnswer binary64 c tabs a p v n room) ≡ runRefusal binary64 c tabs a p v n room
+  unfolding runAnswer runRefusal ranNumber ranTo
+  run-towards-number =
+      let none = exactly-none (among runJudged) .1 in
+      let last = exactly-first (among runJudged) computed .1 in
+      placed-told ranNumber ran.Refused _ refl (λ r. refl) (running binary64 c a p v n) (refusal runJudged) (λ z. none z computed) (λ z. applied _ _ _ (last z))
+
+  pub run-towards-exactly : Exactly (ranNumber (runAnswer binary64 c tabs a p v n room)) (among runJudged)
+  unfolding runRefusal
+  run-towards-exactly = exactly _ run-towards-number
 
 sent-told : (n : ℕ) (m : WallMasks) → sentNumber (sentAt n m) ≡ n
 unfolding sentNumber

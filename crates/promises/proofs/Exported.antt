@@ -20,8 +20,9 @@ use Rattle.tier1.specs.declared.Tier1Rt.{Tier1Rt}
 use Rattle.tier1.specs.declared.Featured.{Featured}
 use Rattle.tier1.specs.declared.Cleared.{Cleared}
 use Rattle.brake.specs.declared.BrakeOut.{BrakeOut}
+use Rattle.brake.specs.declared.Ran.{Ran}
 use Rattle.brake.specs.declared.Sent.{Sent}
-use Rattle.lictor.specs.Answer.{NumberGiven, FilledGiven, MaskGiven, RecordedGiven, CountGiven, EmptinessGiven, DerivedGiven, CheckGiven, FeaturedGiven, StateLaid, ClearedGiven, ForecastGiven, SentGiven, ScoredGiven, VerdictGiven, BinGiven}
+use Rattle.lictor.specs.Answer.{NumberGiven, FilledGiven, MaskGiven, RecordedGiven, CountGiven, EmptinessGiven, DerivedGiven, CheckGiven, FeaturedGiven, StateLaid, ClearedGiven, ForecastGiven, RanGiven, SentGiven, ScoredGiven, VerdictGiven, BinGiven}
 use Rattle.lictor.proofs.lictor_environment.Reads as lictor-environment
 use Rattle.lictor.proofs.lictor_min.Reads as lictor-min
 use Rattle.lictor.proofs.lictor_max.Reads as lictor-max
@@ -50,13 +51,14 @@ use Rattle.lictor.proofs.scoring.lictor_features.Reads as lictor-features
 use Rattle.lictor.proofs.scoring.lictor_tier1_new.Reads as lictor-tier1-new
 use Rattle.lictor.proofs.scoring.lictor_tier1_reset.Reads as lictor-tier1-reset
 use Rattle.lictor.proofs.braking.lictor_brake_feasible.Reads as lictor-brake-feasible
+use Rattle.lictor.proofs.braking.lictor_run_towards.Reads as lictor-run-towards
 use Rattle.lictor.proofs.braking.lictor_brake_action.Reads as lictor-brake-action
 use Rattle.lictor.proofs.braking.lictor_hold_action.Reads as lictor-hold-action
 use Rattle.lictor.proofs.lictor_standardise.Reads as lictor-standardise
 use Rattle.lictor.proofs.lictor_aggregate.Reads as lictor-aggregate
 use Rattle.lictor.proofs.lictor_trip.Reads as lictor-trip
 use Rattle.lictor.proofs.lictor_time_bin.Reads as lictor-time-bin
-use Rattle.promises.proofs.OneAnswer.{unique, both, One, OneWithLent}
+use Rattle.promises.proofs.OneAnswer.{unique, both, One, OneWithLent, With3}
 
 -- ---- the records
 
@@ -96,6 +98,10 @@ cleared-given p q = (unique (p .number) (q .number), (unique (p .rows) (q .rows)
 forecast-given : {fits : Bool} {a : BrakeOut} {l : List Float} {r r′ : ℕ} {m₀ : List ℕ} {m m′ : List ℕ} {x₀ : List Float} {x x′ : List Float} {p₀ : ℕ} {p p′ : ℕ} {s₀ : List Float} {s s′ : List Float} → ForecastGiven fits a l r m₀ m x₀ x p₀ p s₀ s → ForecastGiven fits a l r′ m₀ m′ x₀ x′ p₀ p′ s₀ s′ → (r ≡ r′) × ((m ≡ m′) × ((x ≡ x′) × ((p ≡ p′) × (s ≡ s′))))
 forecast-given p q = (unique (p .number) (q .number), (unique (p .marks) (q .marks), (unique (p .distances) (q .distances), (unique (p .place) (q .place), unique (p .slacks) (q .slacks)))))
 
+ran-given : {fits : Bool} {a : Ran} {l q w : List Float} {r r′ n₀ n n′ : ℕ} {x₀ x x′ : Float} {p₀ p p′ : ℕ} {s₀ s s′ q₀ q₁ q₁′ w₀ w₁ w₁′ : List Float} → RanGiven fits a l q w r n₀ n x₀ x p₀ p s₀ s q₀ q₁ w₀ w₁ → RanGiven fits a l q w r′ n₀ n′ x₀ x′ p₀ p′ s₀ s′ q₀ q₁′ w₀ w₁′
+    → (r ≡ r′) × ((n ≡ n′) × ((x ≡ x′) × ((p ≡ p′) × ((s ≡ s′) × ((q₁ ≡ q₁′) × (w₁ ≡ w₁′))))))
+ran-given p q = (unique (p .number) (q .number), (unique (p .count) (q .count), (unique (p .margin) (q .margin), (unique (p .place) (q .place), (unique (p .slacks) (q .slacks), (unique (p .position) (q .position), unique (p .velocity) (q .velocity)))))))
+
 sent-given : {fits : Bool} {a : Sent} {l : List Float} {r r′ : ℕ} {m₀ : List ℕ} {m m′ : List ℕ} {o₀ : List Float} {o o′ : List Float} → SentGiven fits a l r m₀ m o₀ o → SentGiven fits a l r′ m₀ m′ o₀ o′ → (r ≡ r′) × ((m ≡ m′) × (o ≡ o′))
 sent-given p q = (unique (p .number) (q .number), (unique (p .marks) (q .marks), unique (p .output) (q .output)))
 
@@ -112,9 +118,6 @@ bin-given p q = (unique (p .number) (q .number), unique (p .bin) (q .bin))
 
 abbrev With2 : {L A R E B C : Type 0} → (L → A → R → E → Type 0) → (E → B) → (E → C) → Type 0
 With2 {L} {A} {R} {E} Post b c = (l : L) (a : A) (r s : R) (x y : E) → Post l a r x → Post l a s y → (r ≡ s) × ((b x ≡ b y) × (c x ≡ c y))
-
-abbrev With3 : {L A R E B C D : Type 0} → (L → A → R → E → Type 0) → (E → B) → (E → C) → (E → D) → Type 0
-With3 {L} {A} {R} {E} Post b c d = (l : L) (a : A) (r s : R) (x y : E) → Post l a r x → Post l a s y → (r ≡ s) × ((b x ≡ b y) × ((c x ≡ c y) × (d x ≡ d y)))
 
 abbrev With4 : {L A R E B C D F : Type 0} → (L → A → R → E → Type 0) → (E → B) → (E → C) → (E → D) → (E → F) → Type 0
 With4 {L} {A} {R} {E} Post b c d e = (l : L) (a : A) (r s : R) (x y : E) → Post l a r x → Post l a s y → (r ≡ s) × ((b x ≡ b y) × ((c x ≡ c y) × ((d x ≡ d y) × (e x ≡ e y))))
@@ -224,6 +227,9 @@ one-lictor-tier1-reset l a r s x y = cleared-given
 
 pub one-lictor-brake-feasible : With4 lictor-brake-feasible.Post (λ x. x .1 .1 .1 .1 .1 .1 .1 .1 .1 .1 .1 .1 .0 .now) (λ x. x .1 .1 .1 .1 .1 .1 .1 .1 .1 .1 .1 .1 .1 .0 .now) (λ x. x .1 .1 .1 .1 .1 .1 .1 .1 .1 .1 .1 .1 .1 .1 .0 .now) (λ x. x .1 .1 .1 .1 .1 .1 .1 .1 .1 .1 .1 .0 .now)
 one-lictor-brake-feasible l a r s x y = forecast-given
+
+pub one-lictor-run-towards : With6 lictor-run-towards.Post (λ x. x .1 .1 .1 .1 .1 .1 .1 .1 .1 .0 .now) (λ x. x .1 .1 .1 .1 .1 .1 .1 .1 .1 .1 .0 .now) (λ x. x .1 .1 .1 .1 .1 .1 .1 .1 .1 .1 .1 .0 .now) (λ x. x .1 .1 .1 .1 .1 .1 .1 .1 .0 .now) (λ x. x .1 .1 .1 .1 .1 .0 .now) (λ x. x .1 .1 .1 .1 .1 .1 .0 .now)
+one-lictor-run-towards l a r s x y = ran-given
 
 pub one-lictor-brake-action : With2 lictor-brake-action.Post (λ x. x .1 .1 .1 .1 .1 .1 .1 .1 .0 .now) (λ x. x .1 .1 .1 .1 .1 .1 .1 .0 .now)
 one-lictor-brake-action l a r s x y = sent-given

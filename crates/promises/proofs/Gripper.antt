@@ -3,6 +3,7 @@ use Prim.Native.Nat.{ℕ}
 use mathlib.Core.Path.{_≡_, refl}
 use mathlib.Core.Bool.{Bool}
 use mathlib.Core.List.{List}
+use lib.ListN.{length}
 use lib.Ieee.{Float, binary64}
 use Rattle.chunk.specs.declared.Header.{Header}
 use Rattle.conformal.specs.Rule.{Tables}
@@ -18,6 +19,7 @@ use Rattle.tier1.specs.declared.Tier1Rt.{Tier1Rt}
 use Rattle.tier1.specs.Of.{manifestOf, featuresOf, featuresRefusal, ticked}
 use Rattle.brake.specs.Rule.{forecastBy}
 use Rattle.brake.specs.Answer.{forecastRefusal, forecastAnswer, forecastSlacks}
+use Rattle.brake.specs.Towards.{runShort, runRefusal, runAnswer, runSlacks, runPosition, runVelocity}
 use Rattle.promises.specs.Gripper.{GripperUnseen}
 
 module _ (c : FuseConfig) (tabs : Tables) (g : Gripper) where
@@ -57,6 +59,17 @@ module _ (c : FuseConfig) (tabs : Tables) (g : Gripper) where
   unfolding forecastSlacks forecastRefusal sizesOk numbersFrom stepsOk
   forecast-left p v rows k from l = rw (planned p v rows k from (c .brake .kind))
 
+  run : (a p v : List Float) (n room : ℕ) → runAnswer binary64 (grippedBy c g) tabs a p v n room ≡ runAnswer binary64 c tabs a p v n room
+  unfolding runAnswer runRefusal runShort sizesOk numbersFrom stepsOk
+  run a p v n room = refl
+
+  run-left : (a p v : List Float) (n : ℕ) (l : List Float)
+      → (runSlacks binary64 (grippedBy c g) tabs a p v n l ≡ runSlacks binary64 c tabs a p v n l)
+      × (runPosition binary64 (grippedBy c g) tabs a p v n (length l) ≡ runPosition binary64 c tabs a p v n (length l))
+      × (runVelocity binary64 (grippedBy c g) tabs a p v n (length l) ≡ runVelocity binary64 c tabs a p v n (length l))
+  unfolding runSlacks runPosition runVelocity runRefusal runShort sizesOk numbersFrom stepsOk
+  run-left a p v n l = (refl, refl, refl)
+
 pub mode-unseen : GripperUnseen
 mode-unseen c tabs g = record {
   by-check-action = action c tabs g;
@@ -66,4 +79,6 @@ mode-unseen c tabs g = record {
   by-features = features c tabs g;
   by-brake-feasible = forecast c tabs g;
   left-by-brake-feasible = forecast-left c tabs g;
+  by-run-towards = run c tabs g;
+  left-by-run-towards = run-left c tabs g;
 }

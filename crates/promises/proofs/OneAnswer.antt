@@ -74,7 +74,9 @@ use Rattle.rollout.proofs.rollout.Reads as rollout
 use Rattle.rollout.proofs.stop_distance.Reads as rollout-stop-distance
 use Rattle.stopping.proofs.closed_form.Reads as closed-form
 use Rattle.stopping.proofs.stop_distance.Reads as stopping-stop-distance
+use Rattle.rollout.proofs.towards.Reads as towards
 use Rattle.brake.proofs.brake_feasible.Reads as brake-feasible
+use Rattle.brake.proofs.run_towards.Reads as run-towards
 use Rattle.brake.proofs.brake_action.Reads as brake-action
 use Rattle.brake.proofs.hold_action.Reads as hold-action
 use Rattle.conformal.proofs.sizes_ok.Reads as sizes-ok
@@ -128,6 +130,10 @@ unique p q = p ∙ sym q
 pub both : {A B : Type 0} {a b c : A} {d e f : B} → (a ≡ c) × (d ≡ f) → (b ≡ c) × (e ≡ f) → (a ≡ b) × (d ≡ e)
 both p q = (unique (p .0) (q .0), unique (p .1) (q .1))
 
+-- nor do four
+all-four : {A B C D : Type 0} {a b c : A} {d e f : B} {g h i : C} {j k m : D} → (a ≡ c) × (d ≡ f) × (g ≡ i) × (j ≡ m) → (b ≡ c) × (e ≡ f) × (h ≡ i) × (k ≡ m) → (a ≡ b) × ((d ≡ e) × ((g ≡ h) × (j ≡ k)))
+all-four p q = (unique (p .0) (q .0), (unique (p .1) (q .1), (unique (p .2) (q .2), unique (p .3) (q .3))))
+
 -- what is told of an answer r and of the arguments x as the function returns is the same for any two that meet the contract with arguments a
 abbrev pub One : {L A R E B : Type 0} → (L → A → R → E → Type 0) → (R → E → B) → Type 0
 One {L} {A} {R} {E} Post told = (l : L) (a : A) (r s : R) (x y : E) → Post l a r x → Post l a s y → told r x ≡ told s y
@@ -135,6 +141,10 @@ One {L} {A} {R} {E} Post told = (l : L) (a : A) (r s : R) (x y : E) → Post l a
 -- the answer is the same, and so is what was lent to be written
 abbrev pub OneWithLent : {L A R E B : Type 0} → (L → A → R → E → Type 0) → (E → B) → Type 0
 OneWithLent {L} {A} {R} {E} Post lent = (l : L) (a : A) (r s : R) (x y : E) → Post l a r x → Post l a s y → (r ≡ s) × (lent x ≡ lent y)
+
+-- the same of three buffers
+abbrev pub With3 : {L A R E B C D : Type 0} → (L → A → R → E → Type 0) → (E → B) → (E → C) → (E → D) → Type 0
+With3 {L} {A} {R} {E} Post b c d = (l : L) (a : A) (r s : R) (x y : E) → Post l a r x → Post l a s y → (r ≡ s) × ((b x ≡ b y) × ((c x ≡ c y) × (d x ≡ d y)))
 
 -- two buffers that are lent to be written are the same
 abbrev BothLent : {L A R E B C : Type 0} → (L → A → R → E → Type 0) → (E → B) → (E → C) → Type 0
@@ -368,6 +378,9 @@ one-rows-left l a r s x y = unique
 pub one-rollout : OneWithLent rollout.Post (λ x. x .1 .1 .1 .1 .1 .0 .now)
 one-rollout l a r s x y = both
 
+pub one-towards : OneWithLent towards.Post (λ x. x .1 .1 .1 .1 .1 .1 .0 .now)
+one-towards l a r s x y = both
+
 pub one-rollout-stop-distance : One rollout-stop-distance.Post (λ r x. r)
 one-rollout-stop-distance l a r s x y = unique
 
@@ -383,6 +396,9 @@ one-stopping-stop-distance l a r s x y = unique
 
 pub one-brake-feasible : OneWithLent brake-feasible.Post (λ x. x .1 .1 .1 .1 .1 .1 .1 .1 .0 .now)
 one-brake-feasible l a r s x y = both
+
+pub one-run-towards : With3 run-towards.Post (λ x. x .1 .1 .1 .1 .1 .1 .1 .0 .now) (λ x. x .1 .1 .1 .1 .0 .now) (λ x. x .1 .1 .1 .1 .1 .0 .now)
+one-run-towards l a r s x y = all-four
 
 pub one-brake-action : OneWithLent brake-action.Post (λ x. x .1 .1 .1 .1 .1 .1 .0 .now)
 one-brake-action l a r s x y = both

@@ -1,13 +1,15 @@
 -- A refusal changes nothing: each rule chooses between the new and the old by whether its number is 0.
 use Prim.Native.Nat.{ℕ, zero, suc}
-use mathlib.Core.Path.{_≡_, refl}
+use mathlib.Core.Path.{_≡_, refl, ap, _∙_}
 use mathlib.Core.Bool.{Bool, true, false, _||_}
 use mathlib.Core.List.{List}
 use borrow.Author.Tests.{ne-eqb}
 use lib.Dec.{eqb}
 use lib.ListN.{length}
 use lib.Ieee.{Float, binary64}
+use Rattle.refusal.specs.declared.Refusal.{Refusal}
 use Rattle.refusal.specs.Order.{given, refusal, refusedFor}
+use Rattle.refusal.proofs.Entry.{left-kept}
 use Rattle.bits.specs.Choice.{if_then_else_}
 use Rattle.chunk.specs.Refusals.{lentReasons}
 use Rattle.chunk.specs.declared.ChunkBuf.{ChunkBuf}
@@ -29,11 +31,14 @@ use Rattle.tier0.specs.Of.{actionRuling, actionRefusal, actionAnswer, actionOut
 use Rattle.tier1.specs.declared.Tier1Rt.{Tier1Rt}
 use Rattle.tier1.specs.Refusals.{stateJudged}
 use Rattle.tier1.specs.Of.{Tick, featuredAt, ticked, featuresRefusal, featuresOf, clearedAt, resetOf}
-use Rattle.course.specs.Forecast.{Forecast, placeOf, marginOf, feasibleOf, writtenOf}
+use Rattle.course.specs.Forecast.{Forecast, placeOf, writtenOf}
 use Rattle.brake.specs.declared.BrakeOut.the-variants as out
 use Rattle.workspace.specs.declared.WallMasks.{WallMasks}
-use Rattle.brake.specs.Answer.{outcome, answerAt, slacksAt, plan, forecastRefusal, forecastAnswer, forecastSlacks, sentAt, masksSent, rowAt, brakeSent, brakeRefusal, brakeAnswer, brakeOutput, holdSent, holdRefusal, holdAnswer, holdOutput}
-use Rattle.lictor.specs.Answer.{checkNumber, forecastNumber, sentNumber}
+use Rattle.brake.specs.Answer.{placedOr, outcome, decidedAt, slacksAt, plan, forecastRefusal, forecastAnswer, forecastSlacks, sentAt, masksSent, rowAt, brakeSent, brakeRefusal, brakeAnswer, brakeOutput, holdSent, holdRefusal, holdAnswer, holdOutput}
+use Rattle.brake.specs.declared.Ran.the-variants as ran
+use Rattle.brake.specs.Towards.{ranTo, running, runRefusal, runAnswer, runSlacks, runPosition, runVelocity}
+use Rattle.lictor.specs.Answer.{checkNumber, forecastNumber, ranNumber, sentNumber}
+use Rattle.promises.proofs.Exactly.{run-towards-number}
 use Rattle.promises.specs.Refused.{Refuses, RefusalChangesNothing}
 
 -- ---- chosen by a test of the number
@@ -103,8 +108,7 @@ reset-kept rt = cleared-kept (given (stateJudged rt)) rt
 
 row-kept : (n : ℕ) (m : WallMasks) (row : List Float) (k : ℕ) (l : List Float) → Refuses (sentNumber (sentAt n m)) → rowAt n row k l ≡ l
 unfolding sentNumber
-row-kept zero m row k l is = absurd (is refl)
-row-kept (suc n) m row k l is = refl
+row-kept n m row k l is = left-kept l _ n (λ z. is (ap (λ (i : ℕ). sentNumber (sentAt i m)) z))
 
 brake-kept : (c : FuseConfig) (tabs : Tables) (p v last l : List Float) → Refuses (sentNumber (brakeAnswer binary64 c tabs p v last (length l))) → brakeOutput binary64 c tabs p v last l ≡ l
 unfolding brakeAnswer brakeOutput
@@ -114,28 +118,36 @@ hold-kept : (c : FuseConfig) (tabs : Tables) (p last l : List Float) → Refuses
 unfolding holdAnswer holdOutput
 hold-kept c tabs p last l = row-kept (holdRefusal binary64 c tabs p last (length l)) (masksSent binary64 c p) (holdSent binary64 c p last .value) (c .dim) l
 
--- ---- a forecast: what it comes to is accepted or 13
+-- ---- a forecast, or a run under one setpoint: what it comes to is accepted or 13
 
-comes-to : (t : Forecast) → Refuses (forecastNumber (outcome t)) → forecastNumber (outcome t) ≡ 13
-unfolding outcome forecastNumber
-comes-to t is = go (eqb (placeOf t) 0) is
-  where
-    go : (b : Bool) → Refuses (forecastNumber (if b then out.Accepted (t .count) (marginOf t) (feasibleOf t) (t .stop .value) else out.Refused (record { number = 13; place = placeOf t })))
-        → forecastNumber (if b then out.Accepted (t .count) (marginOf t) (feasibleOf t) (t .stop .value) else out.Refused (record { number = 13; place = placeOf t })) ≡ 13
-    go true n = absurd (n refl)
-    go false n = refl
+module _ {A : Type 0} (number : A → ℕ) (refused : Refusal → A) (answer : A) (accepts : number answer ≡ 0) (refuses : (r : Refusal) → number (refused r) ≡ r .number) where
+  comes-to : (t : Forecast) → Refuses (number (placedOr refused answer t)) → number (placedOr refused answer t) ≡ 13
+  comes-to t = go (eqb (placeOf t) 0)
+    where
+      go : (b : Bool) → Refuses (number (if b then answer else refused (record { number = 13; place = placeOf t }))) → number (if b then answer else refused (record { number = 13; place = placeOf t })) ≡ 13
+      go true n = absurd (n accepts)
+      go false n = refuses _
 
-slacks-kept : (n : ℕ) (t : Forecast) (l : List Float) → Refuses (forecastNumber (answerAt n t)) → (forecastNumber (answerAt n t) ≡ 13 → ⊥) → slacksAt n t l ≡ l
-slacks-kept n t l = go (eqb n 0 || eqb n 13)
-  where
-    go : (b : Bool) → Refuses (forecastNumber (if b then outcome t else out.Refused (refusedFor n))) → (forecastNumber (if b then outcome t else out.Refused (refusedFor n)) ≡ 13 → ⊥) → (if b then writtenOf t l else l) ≡ l
-    go true is not-13 = absurd (not-13 (comes-to t is))
-    go false is not-13 = refl
+  slacks-kept : (n : ℕ) (t : Forecast) (l : List Float) → Refuses (number (decidedAt refused (placedOr refused answer t) n)) → (number (decidedAt refused (placedOr refused answer t) n) ≡ 13 → ⊥) → slacksAt n t l ≡ l
+  slacks-kept n t l = go (eqb n 0 || eqb n 13)
+    where
+      go : (b : Bool) → Refuses (number (if b then placedOr refused answer t else refused (refusedFor n))) → (number (if b then placedOr refused answer t else refused (refusedFor n)) ≡ 13 → ⊥) → (if b then writtenOf t l else l) ≡ l
+      go true is not-13 = absurd (not-13 (comes-to t is))
+      go false is not-13 = refl
 
 forecast-kept : (c : FuseConfig) (tabs : Tables) (p v rows : List Float) (k : Header) (from : ℕ) (l : List Float) → Refuses (forecastNumber (forecastAnswer binary64 c tabs p v rows k from (length l)))
     → (forecastNumber (forecastAnswer binary64 c tabs p v rows k from (length l)) ≡ 13 → ⊥) → forecastSlacks binary64 c tabs p v rows k from l ≡ l
-unfolding forecastAnswer forecastSlacks
-forecast-kept c tabs p v rows k from l = slacks-kept (forecastRefusal binary64 c tabs p v rows k from (length l)) (plan binary64 c p v rows k from) l
+unfolding forecastAnswer forecastSlacks forecastNumber outcome
+forecast-kept c tabs p v rows k from l = slacks-kept forecastNumber out.Refused _ refl (λ r. refl) (forecastRefusal binary64 c tabs p v rows k from (length l)) (plan binary64 c p v rows k from) l
+
+run-kept : (c : FuseConfig) (tabs : Tables) (a p v : List Float) (n : ℕ) (l : List Float) → Refuses (ranNumber (runAnswer binary64 c tabs a p v n (length l)))
+    → (runPosition binary64 c tabs a p v n (length l) ≡ p) × (runVelocity binary64 c tabs a p v n (length l) ≡ v) × ((ranNumber (runAnswer binary64 c tabs a p v n (length l)) ≡ 13 → ⊥) → runSlacks binary64 c tabs a p v n l ≡ l)
+unfolding runAnswer runSlacks runPosition runVelocity ranNumber ranTo
+run-kept c tabs a p v n l is =
+    let k = runRefusal binary64 c tabs a p v n (length l) in
+    let t = running binary64 c a p v n in
+    let refuses : Refuses k = λ z. is (run-towards-number c tabs a p v n (length l) ∙ z) in
+    (left-kept p _ k refuses, left-kept v _ k refuses, slacks-kept ranNumber ran.Refused _ refl (λ r. refl) k t l is)
 
 pub refusal-changes-nothing : RefusalChangesNothing
 refusal-changes-nothing = record {
@@ -150,6 +162,7 @@ refusal-changes-nothing = record {
   after-features = features-kept;
   after-reset = reset-kept;
   after-brake-feasible = forecast-kept;
+  after-run-towards = run-kept;
   after-brake-action = brake-kept;
   after-hold-action = hold-kept;
 }

@@ -11,7 +11,7 @@ use Rattle.envelope.specs.Refusals.{sizesOk, featuresOk, configJudged}
 use Rattle.envelope.specs.declared.FuseConfig.{FuseConfig}
 use Rattle.envelope.proofs.Promises.{no-stall}
 use Rattle.promises.specs.Stall.{NamedNowhere, AcceptedNamesNoStall}
-use Rattle.promises.proofs.Exactly.{check-action-exactly, check-chunk-exactly, features-exactly, brake-feasible-exactly, brake-action-exactly, hold-action-exactly}
+use Rattle.promises.proofs.Exactly.{check-action-exactly, check-chunk-exactly, features-exactly, brake-feasible-exactly, run-towards-exactly, brake-action-exactly, hold-action-exactly}
 
 module _ (c : FuseConfig) (tabs : Tables) (set : c .calibrated ≡ true) where
   neither-applies : not (sizesOk c) ≡ false → not (featuresOk c) ≡ false → NamesNoStall (c .calib)
@@ -26,6 +26,7 @@ module _ (c : FuseConfig) (tabs : Tables) (set : c .calibrated ≡ true) where
         let h : (r : Reason) → among (configJudged binary64 c tabs) r ≡ false = λ r. neither _ _ (neither _ _ (all r) .0) .0 in
         neither-applies (h size) (h withdrawn);
     by-brake-feasible = λ p v rows k from room e. let h = brake-feasible-exactly c tabs p v rows k from room .1 .1 e in neither-applies (h size) (h withdrawn);
+    by-run-towards = λ a p v n room e. let h = run-towards-exactly c tabs a p v n room .1 .1 e in neither-applies (h size) (h withdrawn);
     by-brake-action = λ p v last room e. let h = brake-action-exactly c tabs p v last room .1 .1 e in neither-applies (h size) (h withdrawn);
     by-hold-action = λ p last room e. let h = hold-action-exactly c tabs p last room .1 .1 e in neither-applies (h size) (h withdrawn);
   }

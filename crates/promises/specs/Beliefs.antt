@@ -26,6 +26,8 @@ use Rattle.rollout.specs.Plant.{Gains}
 use Rattle.brake.specs.Answer.{forecastAnswer, brakeAnswer, holdAnswer}
 use Rattle.brake.specs.Promises.{Call, SecondOrder, N, slackAfter, answer}
 use Rattle.brake.specs.declared.BrakeOut.the-variants as forecast
+use Rattle.brake.specs.Towards.{runAnswer}
+use Rattle.brake.specs.declared.Ran.the-variants as run
 use Rattle.brake.specs.declared.Sent.the-variants as sent
 
 -- "An empty contact box means slow everywhere": with no zone configured, under either choice for an absent camera, CONTACT is never raised, and a call answers and writes what it does with CONTACT unarmed
@@ -56,12 +58,13 @@ pub record SilentCameraIsSlow (c : FuseConfig) (tabs : Tables) (p aux : List Flo
 abbrev pub SilentCameraSlows : Type 0
 SilentCameraSlows = (c : FuseConfig) (tabs : Tables) (k : ℕ) (p aux : List Float) (radius speed : Float) (i j : ℕ) → c .«absent_camera» ≡ absent.Slow → ZoneUnseen (c .armed) (c .zones) k p aux radius speed i j → SilentCameraIsSlow c tabs p aux speed
 
--- "Two arms may share camera channels": where 1, 2 and 3 do not apply, one channel for both coordinates of a zone that counts is refused with 4 by the configuration's own judging, the checks, the forecast, brake and hold; and so are two zones of one arm that name the same channels in the same order
+-- "Two arms may share camera channels": where 1, 2 and 3 do not apply, one channel for both coordinates of a zone that counts is refused with 4 by the configuration's own judging, the checks, the forecast, a run under one setpoint, brake and hold; and so are two zones of one arm that name the same channels in the same order
 pub record ChannelsAre4 (c : FuseConfig) (tabs : Tables) : Type 0 where
   pub configuration-is-4 : refusal (configJudged binary64 c tabs) ≡ 4
   pub chunk-is-4 : (p aux rows : List Float) (k : Header) (room : ℕ) → chunkAnswer binary64 c tabs p aux rows k room ≡ check.Refused (refusedFor 4)
   pub action-is-4 : (p aux prev a : List Float) (room : ℕ) → actionAnswer binary64 c tabs p aux prev a room ≡ check.Refused (refusedFor 4)
   pub forecast-is-4 : (p v rows : List Float) (k : Header) (from room : ℕ) → forecastAnswer binary64 c tabs p v rows k from room ≡ forecast.Refused (refusedFor 4)
+  pub run-is-4 : (a p v : List Float) (n room : ℕ) → runAnswer binary64 c tabs a p v n room ≡ run.Refused (refusedFor 4)
   pub brake-is-4 : (p v last : List Float) (room : ℕ) → brakeAnswer binary64 c tabs p v last room ≡ sent.Refused (refusedFor 4)
   pub hold-is-4 : (p last : List Float) (room : ℕ) → holdAnswer binary64 c tabs p last room ≡ sent.Refused (refusedFor 4)
 

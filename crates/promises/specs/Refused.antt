@@ -1,5 +1,5 @@
--- A refusal changes nothing: what an entry would write or give back is what it was, save that a forecast refused with 13 keeps the entries before its place (brake's
--- `Demand3`). The proofs are `proofs/Refused.antt`.
+-- A refusal changes nothing: what an entry would write or give back is what it was, save that a forecast or a run refused with 13 keeps the entries before its place (brake's
+-- `Demand3`, and `StoppedAt`). The proofs are `proofs/Refused.antt`.
 use Prim.Native.Nat.{ℕ}
 use mathlib.Core.Path.{_≡_}
 use mathlib.Core.Bool.{Bool}
@@ -20,7 +20,8 @@ use Rattle.tier0.specs.Of.{actionAnswer, actionOut, chunkAnswer, chunkOut}
 use Rattle.tier1.specs.declared.Tier1Rt.{Tier1Rt}
 use Rattle.tier1.specs.Of.{featuresOf, resetOf}
 use Rattle.brake.specs.Answer.{forecastAnswer, forecastSlacks, brakeAnswer, brakeOutput, holdAnswer, holdOutput}
-use Rattle.lictor.specs.Answer.{checkNumber, forecastNumber, sentNumber}
+use Rattle.brake.specs.Towards.{runAnswer, runSlacks, runPosition, runVelocity}
+use Rattle.lictor.specs.Answer.{checkNumber, forecastNumber, ranNumber, sentNumber}
 
 -- a number that refuses
 abbrev pub Refuses : ℕ → Type 0
@@ -40,5 +41,7 @@ pub record RefusalChangesNothing : Type 0 where
   pub after-reset : (rt : Tier1Rt) → Refuses (resetOf rt .refusal .number) → resetOf rt .rt ≡ rt
   pub after-brake-feasible : (c : FuseConfig) (tabs : Tables) (p v rows : List Float) (k : Header) (from : ℕ) (l : List Float) → Refuses (forecastNumber (forecastAnswer binary64 c tabs p v rows k from (length l)))
       → (forecastNumber (forecastAnswer binary64 c tabs p v rows k from (length l)) ≡ 13 → ⊥) → forecastSlacks binary64 c tabs p v rows k from l ≡ l
+  pub after-run-towards : (c : FuseConfig) (tabs : Tables) (a p v : List Float) (n : ℕ) (l : List Float) → Refuses (ranNumber (runAnswer binary64 c tabs a p v n (length l)))
+      → (runPosition binary64 c tabs a p v n (length l) ≡ p) × (runVelocity binary64 c tabs a p v n (length l) ≡ v) × ((ranNumber (runAnswer binary64 c tabs a p v n (length l)) ≡ 13 → ⊥) → runSlacks binary64 c tabs a p v n l ≡ l)
   pub after-brake-action : (c : FuseConfig) (tabs : Tables) (p v last l : List Float) → Refuses (sentNumber (brakeAnswer binary64 c tabs p v last (length l))) → brakeOutput binary64 c tabs p v last l ≡ l
   pub after-hold-action : (c : FuseConfig) (tabs : Tables) (p last l : List Float) → Refuses (sentNumber (holdAnswer binary64 c tabs p last (length l))) → holdOutput binary64 c tabs p last l ≡ l

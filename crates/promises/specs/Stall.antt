@@ -14,7 +14,8 @@ use Rattle.tier0.specs.Of.{actionAnswer, chunkAnswer}
 use Rattle.tier1.specs.declared.Tier1Rt.{Tier1Rt}
 use Rattle.tier1.specs.Of.{featuresOf}
 use Rattle.brake.specs.Answer.{forecastAnswer, brakeAnswer, holdAnswer}
-use Rattle.lictor.specs.Answer.{checkNumber, forecastNumber, sentNumber}
+use Rattle.brake.specs.Towards.{runAnswer}
+use Rattle.lictor.specs.Answer.{checkNumber, forecastNumber, ranNumber, sentNumber}
 
 -- whichever entry accepts the configuration
 pub record NamedNowhere (c : FuseConfig) (tabs : Tables) : Type 0 where
@@ -22,6 +23,7 @@ pub record NamedNowhere (c : FuseConfig) (tabs : Tables) : Type 0 where
   pub by-check-chunk : (p aux rows : List Float) (k : Header) (room : ℕ) → checkNumber (chunkAnswer binary64 c tabs p aux rows k room) ≡ 0 → NamesNoStall (c .calib)
   pub by-features : (p ext : List Float) (there : Bool) (k : Header) (rows : List Float) (rt : Tier1Rt) (sc : Scores) → featuresOf binary64 c tabs p ext there k rows rt sc .refusal .number ≡ 0 → NamesNoStall (c .calib)
   pub by-brake-feasible : (p v rows : List Float) (k : Header) (from room : ℕ) → forecastNumber (forecastAnswer binary64 c tabs p v rows k from room) ≡ 0 → NamesNoStall (c .calib)
+  pub by-run-towards : (a p v : List Float) (n room : ℕ) → ranNumber (runAnswer binary64 c tabs a p v n room) ≡ 0 → NamesNoStall (c .calib)
   pub by-brake-action : (p v last : List Float) (room : ℕ) → sentNumber (brakeAnswer binary64 c tabs p v last room) ≡ 0 → NamesNoStall (c .calib)
   pub by-hold-action : (p last : List Float) (room : ℕ) → sentNumber (holdAnswer binary64 c tabs p last room) ≡ 0 → NamesNoStall (c .calib)
 

@@ -9,6 +9,11 @@ use Rattle.refusal.specs.Order.{Judged, computed, _when_, refusedFor, an
 use Rattle.refusal.specs.Chain.{chain, first-refuses, first-passes}
 use Rattle.refusal.specs.declared.Refusal.{Refusal}
 
+-- a number that refuses leaves what was there
+pub left-kept : {A : Type 0} (was written : A) (n : ℕ) → (n ≡ 0 → ⊥) → leftBy was written n ≡ was
+left-kept was written zero some = absurd (some refl)
+left-kept was written (suc n) some = refl
+
 -- the answer and what is left, by a number
 pub record Answered {A B : Type 0} (refused : Refusal → A) (answer : A) (was written : B) (n : ℕ) (r : A) (m : B) : Type 0 where
   pub gives : r ≡ answerBy refused answer n

@@ -1,5 +1,5 @@
--- One turn of the second-order run: the substep and its slack are the next of the task, so the run comes along one entry more.
-use mathlib.Core.Path.{_≡_, sym, ap, _∙_}
+-- One turn of a run under one setpoint: the substep and its slack are the next of the forecast, so the run comes along one entry more.
+use mathlib.Core.Path.{_≡_, sym, ap, _∙_, subst}
 use mathlib.Core.Bool.{true, false}
 use mathlib.Core.List.{List}
 use Prim.Native.Nat.{ℕ, _+_, _≤_, _<_}
@@ -14,74 +14,69 @@ use Rattle.checked.specs.Checked.{Checked, pure}
 use Rattle.checked.proofs.Each.{all-at, all-from}
 use Rattle.workspace.specs.declared.Workspace.{Workspace}
 use Rattle.checked.specs.declared.Reckoned.{Reckoned}
-use Rattle.workspace.specs.Rule.{Walls, slack}
+use Rattle.workspace.specs.Rule.{slack}
 use Rattle.workspace.specs.Of.{wallsOf}
 use Rattle.checked.specs.Of.{reckonedFrom}
 use Rattle.rollout.specs.declared.Law.{Law}
 use Rattle.course.specs.declared.Plant.{Plant}
 use Rattle.course.specs.declared.Run.{Run}
-use Rattle.rollout.specs.Plant.{Gains, substep}
+use Rattle.rollout.specs.Plant.{substep}
 use Rattle.course.specs.Plant.{State}
-use Rattle.course.specs.Forecast.{fine}
+use Rattle.course.specs.Forecast.{Forecast, fine, slackAt}
 use Rattle.rollout.specs.Rule.{Task, aimed, after, entry, forecast}
-use Rattle.rollout.specs.Of.{gainsOf, Along, Towards, Under}
-use Rattle.course.specs.Of.{stateOf}
+use Rattle.rollout.specs.Leg.{Leg, stepped}
+use Rattle.rollout.specs.Of.{gainsOf, legOf, legTo, StepOf, AlongLeg}
+use Rattle.course.specs.Of.{stateOf, CameAlong}
 use Rattle.rollout.proofs.Told.{slack-tells}
 use Rattle.course.proofs.Along.{along-fails, along-advances, stands-at}
 
--- the next substep, where the run goes towards a from where it stands
-module _ (f : Format) (t : Task) (k : ℕ) (a : List Float) (s : State) (aims : aimed f t k ≡ pure a) (from : s ≡ after f t k) where
-  pub next-state : substep f (t .gains) a (t .n) s .value ≡ after f t (k + 1)
-  unfolding after
-  next-state = rw (← ap (λ (x : Checked (List Float)). x .value) aims, from) (sym (ap (after f t) (add-one k)))
-
-  pub next-slack : slack f (t .walls) (substep f (t .gains) a (t .n) s .value .p) (t .n) .value ≡ entry f t k .value
-  unfolding entry
-  next-slack = rw (aims, from)
-
-  pub next-fine : t .n ≤ length (s .p) → slack f (t .walls) (substep f (t .gains) a (t .n) s .value .p) (t .n) .sound ≡ entry f t k .sound
-  unfolding entry
-  next-fine h = sym (slack-tells f (t .gains) a s (t .walls) (t .n) h) ∙ rw (aims, from)
+-- a substep of a task is one of the leg towards what it goes towards
+pub aimed-step : (f : Format) (t : Task) (k : ℕ) (a : List Float) → aimed f t k ≡ pure a → StepOf f (legTo f t a) (forecast f t) (after f t) k
+unfolding after entry stepped
+aimed-step f t k a aims = record { moves = ap (λ (x : Checked (List Float)). substep f (t .gains) (x .value) (t .n) (after f t k) .value) aims; measures = rw aims }
 
 -- one turn of the run, from what its calls give
 module _
-    (f : Format) (t : Task) (l : List Float) (k : ℕ) (r : Run) (out : List Float) (g : Law) (w : Workspace) (n : ℕ) (a : List Float)
-    (u : Under t g w n) (h : Along f t l k r out) (go : Towards f t k 1 a r) (s : r .sound ≡ true) (axes : n ≤ length (r .plant .p))
+    (f : Format) (t : Forecast) (stand : ℕ → State) (l : List Float) (k : ℕ) (r : Run) (out : List Float) (g : Law) (w : Workspace) (n : ℕ) (a : List Float)
+    (h : CameAlong t stand l k r out) (go : AlongLeg f (legOf f g w n a) t stand k 1 r) (s : r .sound ≡ true) (axes : n ≤ length (r .plant .p))
     (next : Plant) (e : stateOf next ≡ substep f (gainsOf g) a n (stateOf (r .plant)) .value)
     (d : Reckoned) (v : d ≡ reckonedFrom (slack f (wallsOf w) (next .p) n)) where
-  aims : aimed f t k ≡ pure a
-  aims = ap (aimed f t) (sym (add-zero k)) ∙ go s 0 (omega arith)
+  here : StepOf f (legOf f g w n a) t stand k
+  here = subst (λ (m : ℕ). StepOf f (legOf f g w n a) t stand m) (add-zero k) (go s 0 (omega arith))
 
-  from : stateOf (r .plant) ≡ after f t k
-  from = stands-at (forecast f t) (after f t) l k r out h s
+  from : stateOf (r .plant) ≡ stand k
+  from = stands-at t stand l k r out h s
 
-  stepped : stateOf next ≡ substep f (t .gains) a (t .n) (stateOf (r .plant)) .value
-  stepped = e ∙ sym (ap (λ (x : Gains). substep f x a (t .n) (stateOf (r .plant)) .value) (u .gains) ∙ ap (λ (x : ℕ). substep f (gainsOf g) a x (stateOf (r .plant)) .value) (u .live))
+  comes-to : stateOf next ≡ stand (k + 1)
+  comes-to = e ∙ ap (λ (q : State). substep f (gainsOf g) a n q .value) from ∙ sym (here .moves) ∙ ap stand (sym (add-one k))
 
-  -- the slack that the code takes is the task's
-  distance-is : d ≡ reckonedFrom (slack f (t .walls) (substep f (t .gains) a (t .n) (stateOf (r .plant)) .value .p) (t .n))
-  distance-is =
-      v
-      ∙ ap (λ (x : State). reckonedFrom (slack f (wallsOf w) (x .p) n)) stepped
-      ∙ sym
-      (ap (λ (x : Walls). reckonedFrom (slack f x (substep f (t .gains) a (t .n) (stateOf (r .plant)) .value .p) (t .n))) (u .walls)
-      ∙ ap (λ (x : ℕ). reckonedFrom (slack f (wallsOf w) (substep f (t .gains) a (t .n) (stateOf (r .plant)) .value .p) x)) (u .live))
+  -- the slack that the code takes is the forecast's
+  distance-is : d ≡ reckonedFrom (slack f (wallsOf w) (substep f (gainsOf g) a n (stateOf (r .plant)) .value .p) n)
+  distance-is = v ∙ ap (λ (x : State). reckonedFrom (slack f (wallsOf w) (x .p) n)) e
 
-  fine-is : d .sound ≡ fine (forecast f t) k
-  fine-is = ap (λ (x : Reckoned). x .sound) distance-is ∙ next-fine f t k a (stateOf (r .plant)) aims from (rw (u .live) axes)
+  entry-is : stepped f (legOf f g w n a) (stateOf (r .plant)) ≡ t .entry k
+  entry-is = ap (stepped f (legOf f g w n a)) from ∙ sym (here .measures)
 
-  pub turn-fails : d .sound ≡ false → Along f t l (k + 1) (record { plant = r .plant; margin = r .margin; done = r .done; sound = false }) out
-  turn-fails b = along-fails (forecast f t) (after f t) l k r out h s (sym fine-is ∙ b)
+  fine-is : d .sound ≡ fine t k
+  unfolding stepped
+  fine-is =
+      ap (λ (x : Reckoned). x .sound) distance-is
+      ∙ sym (slack-tells f (gainsOf g) a (stateOf (r .plant)) (wallsOf w) n axes)
+      ∙ ap (λ (x : Checked Float). x .sound) entry-is
 
-  pub turn-advances : d .sound ≡ true → (m : Float) → m ≡ lesser (r .margin) (d .value) → Along f t l (k + 1) (record { plant = next; margin = m; done = r .done + 1; sound = true }) (set out (r .done) (d .value))
-  turn-advances b m c =
-      along-advances (forecast f t) (after f t) l k r out h s (sym fine-is ∙ b) next (stepped ∙ next-state f t k a (stateOf (r .plant)) aims from) (d .value)
-      (ap (λ (x : Reckoned). x .value) distance-is ∙ next-slack f t k a (stateOf (r .plant)) aims from) m c
+  slack-is : d .value ≡ slackAt t k
+  unfolding stepped
+  slack-is = ap (λ (x : Reckoned). x .value) distance-is ∙ ap (λ (x : Checked Float). x .value) entry-is
 
--- a run that still goes did so before, so it goes towards the setpoint that it was given
-pub towards-next : (f : Format) (t : Task) (l : List Float) (k count i : ℕ) (a : List Float) (r₀ r : Run) (out₀ out : List Float)
-    → Along f t l k r₀ out₀ → Towards f t k count a r₀ → Along f t l (k + i) r out → i < count → Towards f t (k + i) 1 a r
-towards-next f t l k count i a r₀ r out₀ out h₀ go h b s j c =
-    let ok = fine (forecast f t) in
-    let all₀ : all ok k ≡ true = all-from ok k (λ m d. all-at ok (k + i) (sym (h .whole) ∙ s) m (omega arith)) in
-    ap (aimed f t) (add-assoc k i j) ∙ go (h₀ .whole ∙ all₀) (i + j) (omega arith)
+  pub turn-fails : d .sound ≡ false → CameAlong t stand l (k + 1) (record { plant = r .plant; margin = r .margin; done = r .done; sound = false }) out
+  turn-fails b = along-fails t stand l k r out h s (sym fine-is ∙ b)
+
+  pub turn-advances : d .sound ≡ true → (m : Float) → m ≡ lesser (r .margin) (d .value) → CameAlong t stand l (k + 1) (record { plant = next; margin = m; done = r .done + 1; sound = true }) (set out (r .done) (d .value))
+  turn-advances b m c = along-advances t stand l k r out h s (sym fine-is ∙ b) next comes-to (d .value) slack-is m c
+
+-- a run that still goes did so before, so its next entry is the leg's that it was given
+pub legged-next : (f : Format) (g : Leg) (t : Forecast) (stand : ℕ → State) (l : List Float) (k count i : ℕ) (r₀ r : Run) (out₀ out : List Float)
+    → CameAlong t stand l k r₀ out₀ → AlongLeg f g t stand k count r₀ → CameAlong t stand l (k + i) r out → i < count → AlongLeg f g t stand (k + i) 1 r
+legged-next f g t stand l k count i r₀ r out₀ out h₀ go h b s j c =
+    let all₀ : all (fine t) k ≡ true = all-from (fine t) k (λ m d. all-at (fine t) (k + i) (sym (h .whole) ∙ s) m (omega arith)) in
+    subst (λ (m : ℕ). StepOf f g t stand m) (sym (add-assoc k i j)) (go (h₀ .whole ∙ all₀) (i + j) (omega arith))

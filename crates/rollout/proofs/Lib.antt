@@ -5,3 +5,5 @@ pub mod Wide
 pub mod Rows
 pub mod Room
 pub mod Promises
+pub mod Halves
+pub mod Reached

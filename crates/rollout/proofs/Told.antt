@@ -12,7 +12,7 @@ use lib.Ieee.{Float, Format, nan, add, sub, mul}
 use Rattle.checked.specs.Each.{at, all}
 use Rattle.checked.specs.Finite.{finite, +0}
 use Rattle.fmath.specs.Norm.{dist}
-use Rattle.checked.proofs.Each.{_&&≡_, all-from}
+use Rattle.checked.proofs.Each.{_&&≡_, and-left, and-right, all-from}
 use Rattle.checked.proofs.Absorbing.{fine-add-left, fine-add-right, fine-sub-left, fine-sub-right, fine-mul-left, fine-mul-right}
 use Rattle.checked.proofs.Told.{Tells, implied}
 use Rattle.fmath.proofs.Lengths.{dist-tells}
@@ -47,6 +47,20 @@ module _ (f : Format) (g : Gains) where
       let he = fine-mul-right f (g .kp) e hpull in
       he &&≡ (hpull &&≡ (hdrag &&≡ (hacc &&≡ (hdv &&≡ (hv &&≡ (hdp &&≡ (h &&≡ refl)))))))
 
+  -- where each number on the way is finite, so are the place and the velocity
+  pub axis-finite : (a : Float) (m : Motion) → axis f g a m .sound ≡ true → (finite (axis f g a m .value .p) ≡ true) × (finite (axis f g a m .value .v) ≡ true)
+  unfolding axis
+  axis-finite a m h =
+      let e = sub f a (m .p) in
+      let pull = mul f (g .kp) e in
+      let drag = mul f (g .kv) (m .v) in
+      let acc = sub f pull drag in
+      let dv = mul f acc (g .dt) in
+      let v = add f (m .v) dv in
+      let dp = mul f v (g .dt) in
+      let from-v = and-right (finite dv) _ (and-right (finite acc) _ (and-right (finite drag) _ (and-right (finite pull) _ (and-right (finite e) _ h)))) in
+      (and-left (finite (add f (m .p) dp)) true (and-right (finite dp) _ (and-right (finite v) _ from-v)), and-left (finite v) _ from-v)
+
   module _ (a : List Float) (s : State) where
     -- one turn of a loop over the axes
     pub substep-more : (j : ℕ) (r : State) (m : Motion) → r ≡ substep f g a j s .value → m ≡ axis f g (at a j) (motionAt r j) .value
@@ -64,7 +78,7 @@ module _ (f : Format) (g : Gains) where
         let d : j ≡ n → ⊥ = λ e. omega arith in
         rw (getD-set-other (t .p) n j (m .p) nan d, getD-set-other (t .v) n j (m .v) nan d) (untouched n j (omega arith))
 
-    substep-sound : (n : ℕ) → substep f g a n s .sound ≡ all (λ (j : ℕ). axis f g (at a j) (motionAt s j) .sound) n
+    pub substep-sound : (n : ℕ) → substep f g a n s .sound ≡ all (λ (j : ℕ). axis f g (at a j) (motionAt s j) .sound) n
     unfolding substep all
     substep-sound zero = refl
     substep-sound (suc n) = rw (untouched n n (omega arith), substep-sound n) (ap (λ (b : Bool). all (λ (j : ℕ). axis f g (at a j) (motionAt s j) .sound) n && b) (and-true (axis f g (at a n) (motionAt s n) .sound)))

@@ -3,16 +3,14 @@ use mathlib.Core.Path.{_≡_, refl, sym, ap, _∙_}
 use mathlib.Core.Bool.{true, false}
 use mathlib.Core.List.{List}
 use Prim.Native.Nat.{ℕ, zero, suc, _+_, _≤_, _<_}
-use native.Mathlib.Nat.{le-refl, lt-of-not-le}
-use native.Mathlib.Decide.{decLe}
+use native.Mathlib.Nat.{le-refl}
 use native.Mathlib.Numerals.{add-one}
 use native.Mathlib.Omega.{arith}
 use lib.ListN.{length, set}
-use lib.Seq.{ext-getD}
-use lib.Ieee.{Float, Format, nan}
+use lib.Ieee.{Float, Format}
 use Rattle.checked.specs.Each.{at, over}
 use Rattle.checked.specs.Least.{lesser}
-use Rattle.checked.proofs.Each.{length-over, over-at, over-keeps, over-itself}
+use Rattle.checked.proofs.Each.{length-over, over-at, over-twice, over-itself}
 use Rattle.workspace.specs.declared.Workspace.{Workspace}
 use Rattle.checked.specs.declared.Reckoned.{Reckoned}
 use Rattle.workspace.specs.Rule.{slack}
@@ -24,9 +22,9 @@ use Rattle.course.specs.declared.Plant.{Plant}
 use Rattle.course.specs.declared.Run.{Run}
 use Rattle.rollout.specs.Plant.{Gains, Motion, axis, motionAt, substep}
 use Rattle.course.specs.Plant.{State}
-use Rattle.rollout.specs.Rule.{Task}
-use Rattle.rollout.specs.Of.{gainsOf, joinedOf, endedOf, Along, Towards, Under}
-use Rattle.course.specs.Of.{stateOf}
+use Rattle.course.specs.Forecast.{Forecast}
+use Rattle.rollout.specs.Of.{gainsOf, joinedOf, endedOf, legOf, AlongLeg}
+use Rattle.course.specs.Of.{stateOf, CameAlong}
 use Rattle.rollout.proofs.Told.{put, untouched, length-kept, substep-at, substep-speed}
 use Rattle.rollout.proofs.Along.{turn-fails, turn-advances}
 
@@ -36,16 +34,6 @@ use Rattle.rollout.proofs.Along.{turn-fails, turn-advances}
 pub joined-more : (moved still r : Plant) (j : ℕ) → r ≡ joinedOf moved still j → _≡_ {A = Plant} (record { p = set (r .p) j (at (moved .p) j); v = set (r .v) j (at (moved .v) j) }) (joinedOf moved still (j + 1))
 unfolding over
 joined-more moved still r j e = rw (add-one, e)
-
--- what is put over the same places twice
-over-twice : (g h : ℕ → Float) (l : List Float) (n : ℕ) → over g (over h l n) n ≡ over g l n
-over-twice g h l n =
-    ext-getD nan (over g (over h l n) n) (over g l n) (length-over g (over h l n) n ∙ length-over h l n ∙ sym (length-over g l n))
-    (λ i b. go i (rw (length-over g (over h l n) n) at b) (decLe n i))
-  where
-    go : (i : ℕ) → i < length (over h l n) → Dec (n ≤ i) → at (over g (over h l n) n) i ≡ at (over g l n) i
-    go i b (yes k) = over-keeps g (over h l n) n i k ∙ over-keeps h l n i k ∙ sym (over-keeps g l n i k)
-    go i b (no k) = over-at g (over h l n) n i (lt-of-not-le k) b ∙ sym (over-at g l n i (lt-of-not-le k) (rw (length-over h l n) at b))
 
 pub joined-itself : (q : Plant) (n : ℕ) → joinedOf q q n ≡ q
 joined-itself q n = λ i. record { p = over-itself (at (q .p)) (q .p) n (λ j b. refl) i; v = over-itself (at (q .v)) (q .v) n (λ j b. refl) i }
@@ -96,8 +84,8 @@ abbrev pub running : Plant → Plant → ℕ → Float → ℕ → Run
 running moved still n margin done = endedOf moved still n margin done true
 
 module _
-    (f : Format) (t : Task) (l : List Float) (k : ℕ) (moved still : Plant) (n : ℕ) (margin : Float) (done : ℕ) (out : List Float) (g : Law) (w : Workspace) (a aim : List Float)
-    (u : Under t g w n) (h : Along f t l k (running moved still n margin done) out) (go : Towards f t k 1 a (running moved still n margin done)) (axes : n ≤ 8) (two : 2 ≤ n)
+    (f : Format) (t : Forecast) (stand : ℕ → State) (l : List Float) (k : ℕ) (moved still : Plant) (n : ℕ) (margin : Float) (done : ℕ) (out : List Float) (g : Law) (w : Workspace) (a aim : List Float)
+    (h : CameAlong t stand l k (running moved still n margin done) out) (go : AlongLeg f (legOf f g w n a) t stand k 1 (running moved still n margin done)) (axes : n ≤ 8) (two : 2 ≤ n)
     (lp : length (moved .p) ≡ 8) (lv : length (moved .v) ≡ 8) (sp : length (still .p) ≡ 8) (sv : length (still .v) ≡ 8) (same : (j : ℕ) → j < n → at aim j ≡ at a j)
     (next : Plant) (e : stateOf next ≡ substep f (gainsOf g) aim 8 (stateOf moved) .value)
     (d : Reckoned) (v : d ≡ reckonedFrom (slack f (wallsOf w) (next .p) n)) where
@@ -112,11 +100,11 @@ module _
   long : n ≤ length (joinedOf moved still n .p)
   long = omega (arith, length-over (at (moved .p)) (still .p) n, sp)
 
-  pub wide-fails : d .sound ≡ false → Along f t l (k + 1) (endedOf moved still n margin done false) out
-  wide-fails = turn-fails f t l k (running moved still n margin done) out g w n a u h go refl long (joinedOf next still n) steps d measures
+  pub wide-fails : d .sound ≡ false → CameAlong t stand l (k + 1) (endedOf moved still n margin done false) out
+  wide-fails = turn-fails f t stand l k (running moved still n margin done) out g w n a h go refl long (joinedOf next still n) steps d measures
 
-  pub wide-advances : d .sound ≡ true → (m : Float) → m ≡ lesser margin (d .value) → Along f t l (k + 1) (running next still n m (done + 1)) (set out done (d .value))
-  wide-advances = turn-advances f t l k (running moved still n margin done) out g w n a u h go refl long (joinedOf next still n) steps d measures
+  pub wide-advances : d .sound ≡ true → (m : Float) → m ≡ lesser margin (d .value) → CameAlong t stand l (k + 1) (running next still n m (done + 1)) (set out done (d .value))
+  wide-advances = turn-advances f t stand l k (running moved still n margin done) out g w n a h go refl long (joinedOf next still n) steps d measures
 
 -- a run that goes
 pub going : (r : Run) → r .sound ≡ true → r ≡ record { plant = r .plant; margin = r .margin; done = r .done; sound = true }

@@ -1,4 +1,4 @@
-// The second-order brake: the plant runs through the committed rows and then holds the braking setpoint, and each substep leaves its slack.
+// Runs of substeps, each of which leaves its slack: towards one setpoint, and the second-order brake, which goes through the committed rows and then holds the braking setpoint.
 ghost use mathlib.Core.Path.{_≡_};
 ghost use mathlib.Core.Bool.{true};
 ghost use mathlib.Core.List.{List};
@@ -8,11 +8,13 @@ ghost use lib.Ieee.{Float, binary64};
 ghost use Rattle.bits.specs.Choice.{if_then_else_};
 ghost use Rattle.envelope.specs.Steps.{substepsOf};
 ghost use Rattle.rollout.specs.Plant.{axis, substep};
-ghost use Rattle.course.specs.Forecast.{writtenOf};
-ghost use Rattle.rollout.specs.Rule.{Task, stopDistance, forecast};
+ghost use Rattle.course.specs.Plant.{State};
+ghost use Rattle.course.specs.Forecast.{Forecast, writtenOf};
+ghost use Rattle.rollout.specs.Rule.{stopDistance, forecast};
+ghost use Rattle.rollout.specs.Leg.{leg};
 ghost use Rattle.course.specs.declared.Plant.{Plant};
-ghost use Rattle.rollout.specs.Of.{gainsOf, movedFrom, joinedOf, endedOf, taskOf, Along, Towards, Under, rolledOf, roomy};
-ghost use Rattle.course.specs.Of.{stateOf, leftOf, shaped, noRun};
+ghost use Rattle.rollout.specs.Of.{gainsOf, movedFrom, joinedOf, endedOf, taskOf, Along, legOf, AlongLeg, legRun, legRoomy, rolledOf, roomy};
+ghost use Rattle.course.specs.Of.{stateOf, CameAlong, leftOf, shaped, noRun};
 ghost use Rattle.checked.specs.Of.{reckonedFrom};
 use checked::Reckoned;
 use course::Course;
@@ -65,7 +67,7 @@ fn substep(g: Law, a: &[f64], n: usize, s: Plant) -> Plant
 // One substep more, if the run still goes: its slack is written unless a number on the way isn't finite.
 fn advance(g: Law, w: Workspace, n: usize, a: &[f64], run: Run, slack: &mut [f64]) -> Run
     requires { ⌜ (n ≤ 8) × (n ≤ length (now a)) × (run .done < length (now slack)) ⌝ }
-    ensures { λ r. ⌜ (r .done ≤ run .done + 1) × ((t : Task) (l : List Float) (k : ℕ) → Under t g w n → Along binary64 t l k run (now (slack .entry)) → Towards binary64 t k 1 (now (a .entry)) run → Along binary64 t l (k + 1) r (now (slack .exit))) ⌝ }
+    ensures { λ r. ⌜ (r .done ≤ run .done + 1) × ((t : Forecast) (stand : ℕ → State) (l : List Float) (k : ℕ) → AlongLeg binary64 (legOf binary64 g w n (now (a .entry))) t stand k 1 run → CameAlong t stand l k run (now (slack .entry)) → CameAlong t stand l (k + 1) r (now (slack .exit))) ⌝ }
 {
     if !run.sound {
         return run;
@@ -133,14 +135,14 @@ fn stepwise(
     slack: &mut [f64],
 ) -> Run
     requires { ⌜ (n ≤ 8) × (n ≤ length (now a)) × (run .done + count ≤ length (now slack)) ⌝ }
-    ensures { λ r. ⌜ (r .done ≤ run .done + count) × ((t : Task) (l : List Float) (k : ℕ) → Under t g w n → Along binary64 t l k run (now (slack .entry)) → Towards binary64 t k count (now (a .entry)) run → Along binary64 t l (k + count) r (now (slack .exit))) ⌝ }
+    ensures { λ r. ⌜ (r .done ≤ run .done + count) × ((t : Forecast) (stand : ℕ → State) (l : List Float) (k : ℕ) → AlongLeg binary64 (legOf binary64 g w n (now (a .entry))) t stand k count run → CameAlong t stand l k run (now (slack .entry)) → CameAlong t stand l (k + count) r (now (slack .exit))) ⌝ }
 {
     let mut r = run;
-    let mut s = 0;
-    while s < count {
+    let mut k = 0;
+    while k < count {
         let next = advance(g, w, n, a, r, slack);
         r = next;
-        s += 1;
+        k += 1;
     }
     r
 }
@@ -157,7 +159,7 @@ fn abreast(
     slack: &mut [f64],
 ) -> Run
     requires { ⌜ (n ≤ 8) × (n ≤ length (now a)) × (run .done + count ≤ length (now slack)) × (2 ≤ n) ⌝ }
-    ensures { λ r. ⌜ (r .done ≤ run .done + count) × ((t : Task) (l : List Float) (k : ℕ) → Under t g w n → Along binary64 t l k run (now (slack .entry)) → Towards binary64 t k count (now (a .entry)) run → Along binary64 t l (k + count) r (now (slack .exit))) ⌝ }
+    ensures { λ r. ⌜ (r .done ≤ run .done + count) × ((t : Forecast) (stand : ℕ → State) (l : List Float) (k : ℕ) → AlongLeg binary64 (legOf binary64 g w n (now (a .entry))) t stand k count run → CameAlong t stand l k run (now (slack .entry)) → CameAlong t stand l (k + count) r (now (slack .exit))) ⌝ }
 {
     if !run.sound {
         return run;
@@ -187,12 +189,45 @@ fn abreast(
 // One setpoint, held for so many substeps. A single axis is quicker alone.
 fn hold(g: Law, w: Workspace, n: usize, a: &[f64], count: usize, run: Run, slack: &mut [f64]) -> Run
     requires { ⌜ (n ≤ 8) × (n ≤ length (now a)) × (run .done + count ≤ length (now slack)) × (1 ≤ n) ⌝ }
-    ensures { λ r. ⌜ (r .done ≤ run .done + count) × ((t : Task) (l : List Float) (k : ℕ) → Under t g w n → Along binary64 t l k run (now (slack .entry)) → Towards binary64 t k count (now (a .entry)) run → Along binary64 t l (k + count) r (now (slack .exit))) ⌝ }
+    ensures { λ r. ⌜ (r .done ≤ run .done + count) × ((t : Forecast) (stand : ℕ → State) (l : List Float) (k : ℕ) → AlongLeg binary64 (legOf binary64 g w n (now (a .entry))) t stand k count run → CameAlong t stand l k run (now (slack .entry)) → CameAlong t stand l (k + count) r (now (slack .exit))) ⌝ }
 {
     if n == 1 {
         return stepwise(g, w, n, a, count, run, slack);
     }
     abreast(g, w, n, a, count, run, slack)
+}
+
+// A run from a given plant under one setpoint, for so many substeps: its slacks are written in order up to the first number that isn't
+// finite, and none where it has no room. No setpoint is made, and no stop distance.
+pub fn towards(
+    g: Law,
+    w: Workspace,
+    n: usize,
+    a: &[f64],
+    count: usize,
+    start: Plant,
+    slack: &mut [f64],
+) -> Run
+    ensures { λ r. ⌜ r ≡ (if legRoomy n (length (now (a .entry))) count (length (now (slack .entry))) then legRun binary64 (legOf binary64 g w n (now (a .entry))) start count else noRun start) ⌝ }
+    ensures { λ r. ⌜ now (slack .exit) ≡ (if legRoomy n (length (now (a .entry))) count (length (now (slack .entry))) then writtenOf (leg binary64 (legOf binary64 g w n (now (a .entry))) (stateOf start) count) (now (slack .entry)) else now (slack .entry)) ⌝ }
+{
+    let infinite = 1.0 / 0.0;
+    let roomy = (1 <= n) & (n <= 8) & (n <= a.len()) & (count <= slack.len());
+    if !roomy {
+        return Run {
+            plant: start,
+            margin: infinite,
+            done: 0,
+            sound: false,
+        };
+    }
+    let first = Run {
+        plant: start,
+        margin: infinite,
+        done: 0,
+        sound: true,
+    };
+    hold(g, w, n, a, count, first, slack)
 }
 
 // The committed rows, each held for its substeps.

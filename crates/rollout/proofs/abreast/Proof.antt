@@ -16,9 +16,11 @@ use Rattle.checked.specs.Row.{padded}
 use Rattle.checked.proofs.Copy.{all-padded, padded-at}
 use Rattle.course.specs.declared.Plant.{Plant}
 use Rattle.course.specs.declared.Run.{Run}
-use Rattle.rollout.specs.Rule.{Task, after, forecast}
-use Rattle.rollout.specs.Of.{gainsOf, Along, Towards, Under}
-use Rattle.rollout.proofs.Along.{towards-next}
+use Rattle.course.specs.Plant.{State}
+use Rattle.course.specs.Forecast.{Forecast}
+use Rattle.course.specs.Of.{CameAlong}
+use Rattle.rollout.specs.Of.{gainsOf, legOf, AlongLeg}
+use Rattle.rollout.proofs.Along.{legged-next}
 use Rattle.course.proofs.Along.{along-zero, along-sum, along-at, along-rest}
 use Rattle.rollout.proofs.Wide.{joined-itself, as-long, running, wide-fails, wide-advances, going}
 use Rattle.rollout.proofs.abreast.Statement.{statement}
@@ -39,7 +41,7 @@ record Coming (g : Law) (w : Workspace) (n : ℕ) (a : List Float) (count : ℕ)
   written : at ≤ at₀ + s
   places : length (moved .p) ≡ 8
   rates : length (moved .v) ≡ 8
-  comes : ((t : Task) (l : List Float) (k : ℕ) → Under t g w n → Along binary64 t l k (first still margin₀ at₀) slack₀ → Towards binary64 t k count a (first still margin₀ at₀) → Along binary64 t l (k + s) (running moved still n margin at) slack)
+  comes : ((t : Forecast) (stand : ℕ → State) (l : List Float) (k : ℕ) → AlongLeg binary64 (legOf binary64 g w n a) t stand k count (first still margin₀ at₀) → CameAlong t stand l k (first still margin₀ at₀) slack₀ → CameAlong t stand l (k + s) (running moved still n margin at) slack)
 
 abbrev Inv-loop : tie.InvT-loop
 Inv-loop g w n a count slack₀ still aim moved₀ margin₀ at₀ s₀ slack moved margin at s = Coming g w n a count slack₀ still margin₀ at₀ slack moved margin at s
@@ -48,7 +50,7 @@ abbrev μ-loop : tie.MeasureT-loop
 μ-loop g w n a count slack₀ still aim moved₀ margin₀ at₀ s₀ slack moved margin at s = count - s
 
 returns : tie.Need-returns Inv-loop μ-loop
-returns c = (omega arith, λ t l k u h go. along-rest (forecast binary64 t) (after binary64 t) l k _ _ (not-true _ (c .if1 .taken)) h (c .before .before .before .before .args .count))
+returns c = (omega arith, λ t stand l k go h. along-rest t stand l k _ _ (not-true _ (c .if1 .taken)) h (c .before .before .before .before .args .count))
 
 -- the plant's arrays are eight long
 long : (s : tie.Start Inv-loop μ-loop) → (length (s .args .run .plant .p) ≡ 8) × (length (s .args .run .plant .v) ≡ 8)
@@ -65,9 +67,9 @@ loop-holds c =
       written = omega arith;
       places = search needs;
       rates = search needs;
-      comes = λ t l k u h go.
-          along-zero (forecast binary64 t) (after binary64 t) l k _ _
-          (subst (λ (q : Plant). Along binary64 t l k (first q (s .run .margin) (s .run .done)) (now (s .slack))) (sym (joined-itself (s .run .plant) (s .n))) h);
+      comes = λ t stand l k go h.
+          along-zero t stand l k _ _
+          (subst (λ (q : Plant). CameAlong t stand l k (first q (s .run .margin) (s .run .done)) (now (s .slack))) (sym (joined-itself (s .run .plant) (s .n))) h);
     }
 
 slice-aggregate-substep : tie.Need-slice-aggregate-substep Inv-loop μ-loop
@@ -93,14 +95,14 @@ returns-2 c =
     let turns = c .before .before .before .before .before .before .before .loop-test .taken in
     rw (c .ended .ensures) (
       omega (arith, i .inv .written, turns),
-      λ t l k u r towards.
-          let h = subst (λ (q : Run). Along binary64 t l k q (now (s .args .slack))) (going (s .args .run) sound) r in
-          let go : Towards binary64 t k (s .args .count) (now (s .args .a)) (first (s .args .run .plant) (s .args .run .margin) (s .args .run .done)) = λ _. towards sound in
-          along-at (forecast binary64 t) (after binary64 t) l (k + s .args .count) _ _ (k + i .s + 1 + (s .args .count - i .s - 1)) (omega (arith, turns))
-          (along-rest (forecast binary64 t) (after binary64 t) l (k + i .s + 1) _ _ refl
-          (wide-fails binary64 t l (k + i .s) (i .moved) (s .args .run .plant) (s .args .n) (i .margin) (i .at) (i .slack) (s .args .g) (s .args .w) (now (s .args .a)) (c .before .before .before .before .before .before .before .before .before .before .padded .result) u
-          (i .inv .comes t l k u h go)
-          (towards-next binary64 t l k (s .args .count) (i .s) (now (s .args .a)) (first (s .args .run .plant) (s .args .run .margin) (s .args .run .done)) (running (i .moved) (s .args .run .plant) (s .args .n) (i .margin) (i .at)) (now (s .args .slack)) (i .slack) h go (i .inv .comes t l k u h go) (omega arith))
+      λ t stand l k legged r.
+          let h = subst (λ (q : Run). CameAlong t stand l k q (now (s .args .slack))) (going (s .args .run) sound) r in
+          let go : AlongLeg binary64 (legOf binary64 (s .args .g) (s .args .w) (s .args .n) (now (s .args .a))) t stand k (s .args .count) (first (s .args .run .plant) (s .args .run .margin) (s .args .run .done)) = λ _. legged sound in
+          along-at t stand l (k + s .args .count) _ _ (k + i .s + 1 + (s .args .count - i .s - 1)) (omega (arith, turns))
+          (along-rest t stand l (k + i .s + 1) _ _ refl
+          (wide-fails binary64 t stand l (k + i .s) (i .moved) (s .args .run .plant) (s .args .n) (i .margin) (i .at) (i .slack) (s .args .g) (s .args .w) (now (s .args .a)) (c .before .before .before .before .before .before .before .before .before .before .padded .result)
+          (i .inv .comes t stand l k go h)
+          (legged-next binary64 _ t stand l k (s .args .count) (i .s) (first (s .args .run .plant) (s .args .run .margin) (s .args .run .done)) (running (i .moved) (s .args .run .plant) (s .args .n) (i .margin) (i .at)) (now (s .args .slack)) (i .slack) h go (i .inv .comes t stand l k go h) (omega arith))
           (s .pre .0) (s .pre .3) (i .inv .places) (i .inv .rates) (long s .0) (long s .1) (taken-in (s .args .n) (now (s .args .a)) (s .pre .0) (s .pre .1) (c .before .before .before .before .before .before .before .before .before .before .padded .ensures)) (c .before .before .before .before .before .substep .result) (c .before .before .before .before .before .substep .ensures) (c .before .before .before .slack-abreast .result) (c .before .before .before .slack-abreast .ensures) (not-true _ (c .before .if2 .taken)))
           (s .args .count - i .s - 1)),
     )
@@ -139,11 +141,11 @@ loop-again c =
       written = omega (arith, i .inv .written);
       places = kept .0 ∙ i .inv .places;
       rates = kept .1 ∙ i .inv .rates;
-      comes = λ t l k u h go.
-          along-sum (forecast binary64 t) (after binary64 t) l k _ _ (i .s) 1
-          (wide-advances binary64 t l (k + i .s) (i .moved) (s .args .run .plant) (s .args .n) (i .margin) (i .at) (i .slack) (s .args .g) (s .args .w) (now (s .args .a)) (c .before .before .before .before .before .before .before .before .before .before .padded .result) u
-          (i .inv .comes t l k u h go)
-          (towards-next binary64 t l k (s .args .count) (i .s) (now (s .args .a)) (first (s .args .run .plant) (s .args .run .margin) (s .args .run .done)) (running (i .moved) (s .args .run .plant) (s .args .n) (i .margin) (i .at)) (now (s .args .slack)) (i .slack) h go (i .inv .comes t l k u h go) (omega arith))
+      comes = λ t stand l k go h.
+          along-sum t stand l k _ _ (i .s) 1
+          (wide-advances binary64 t stand l (k + i .s) (i .moved) (s .args .run .plant) (s .args .n) (i .margin) (i .at) (i .slack) (s .args .g) (s .args .w) (now (s .args .a)) (c .before .before .before .before .before .before .before .before .before .before .padded .result)
+          (i .inv .comes t stand l k go h)
+          (legged-next binary64 _ t stand l k (s .args .count) (i .s) (first (s .args .run .plant) (s .args .run .margin) (s .args .run .done)) (running (i .moved) (s .args .run .plant) (s .args .n) (i .margin) (i .at)) (now (s .args .slack)) (i .slack) h go (i .inv .comes t stand l k go h) (omega arith))
           (s .pre .0) (s .pre .3) (i .inv .places) (i .inv .rates) (long s .0) (long s .1) (taken-in (s .args .n) (now (s .args .a)) (s .pre .0) (s .pre .1) (c .before .before .before .before .before .before .before .before .before .before .padded .ensures)) (c .before .before .before .before .before .substep .result) (c .before .before .before .before .before .substep .ensures) (c .before .before .before .slack-abreast .result) (c .before .before .before .slack-abreast .ensures) (not-false _ (c .before .if2 .left)) _ (c .min .ensures));
     }
 
@@ -161,9 +163,9 @@ returns-3 c =
     let e : i .s ≡ s .args .count = omega arith in
     rw (c .ended2 .ensures) (
       omega (arith, i .inv .written, e),
-      λ t l k u r towards.
-          along-at (forecast binary64 t) (after binary64 t) l (k + s .args .count) _ _ (k + i .s) (ap (λ (m : ℕ). k + m) e)
-          (i .inv .comes t l k u (subst (λ (q : Run). Along binary64 t l k q (now (s .args .slack))) (going (s .args .run) sound) r) (λ _. towards sound)),
+      λ t stand l k legged r.
+          along-at t stand l (k + s .args .count) _ _ (k + i .s) (ap (λ (m : ℕ). k + m) e)
+          (i .inv .comes t stand l k (λ _. legged sound) (subst (λ (q : Run). CameAlong t stand l k q (now (s .args .slack))) (going (s .args .run) sound) r)),
     )
 
 pub abreast-spec : {M : Type 1} → statement M

@@ -7,7 +7,6 @@ use borrow.Author.Tests.{not-true, not-false}
 use denote.Ref.{now}
 use lib.ListN.{length}
 use lib.Ieee.{binary64}
-use Rattle.rollout.specs.Rule.{after, forecast}
 use Rattle.course.proofs.Along.{along-stopped}
 use Rattle.rollout.proofs.Along.{turn-fails, turn-advances}
 use Rattle.rollout.proofs.advance.Statement.{statement}
@@ -20,7 +19,7 @@ axes : (s : tie.Start) → s .args .n ≤ length (s .args .run .plant .p)
 axes s = omega (arith, long s, s .pre .0)
 
 returns : tie.Need-returns
-returns c = (omega arith, λ t l k u h go. along-stopped (forecast binary64 t) (after binary64 t) l k _ _ h (not-true _ (c .if1 .taken)))
+returns c = (omega arith, λ t stand l k go h. along-stopped t stand l k _ _ h (not-true _ (c .if1 .taken)))
 
 substep-requires : tie.Need-substep-requires
 substep-requires c κs = search needs
@@ -32,8 +31,8 @@ returns-2 : tie.Need-returns-2
 returns-2 c =
     let s = c .before .before .before .before .before .before .before .before .before .before in (
       omega arith,
-      λ t l k u h go.
-          turn-fails binary64 t l k (s .args .run) (now (s .args .slack)) (s .args .g) (s .args .w) (s .args .n) (now (s .args .a)) u h go (not-false _ (c .before .before .before .before .before .before .if1 .left)) (axes s)
+      λ t stand l k go h.
+          turn-fails binary64 t stand l k (s .args .run) (now (s .args .slack)) (s .args .g) (s .args .w) (s .args .n) (now (s .args .a)) h go (not-false _ (c .before .before .before .before .before .before .if1 .left)) (axes s)
           (c .before .before .before .before .substep .result) (c .before .before .before .before .substep .ensures) (c .before .before .slack .result) (c .before .before .slack .ensures) (not-true _ (c .if2 .taken)),
     )
 
@@ -56,8 +55,8 @@ returns-3 : tie.Need-returns-3
 returns-3 c =
     let s = c .before .before .before .before .before .before .before .before .before .before .before in (
       omega arith,
-      λ t l k u h go.
-          turn-advances binary64 t l k (s .args .run) (now (s .args .slack)) (s .args .g) (s .args .w) (s .args .n) (now (s .args .a)) u h go (not-false _ (c .before .before .before .before .before .before .before .if1 .left)) (axes s)
+      λ t stand l k go h.
+          turn-advances binary64 t stand l k (s .args .run) (now (s .args .slack)) (s .args .g) (s .args .w) (s .args .n) (now (s .args .a)) h go (not-false _ (c .before .before .before .before .before .before .before .if1 .left)) (axes s)
           (c .before .before .before .before .before .substep .result) (c .before .before .before .before .before .substep .ensures) (c .before .before .before .slack .result) (c .before .before .before .slack .ensures) (not-false _ (c .before .if2 .left)) _ (c .min .ensures),
     )
 

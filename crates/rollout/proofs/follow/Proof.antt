@@ -21,6 +21,7 @@ use Rattle.rollout.specs.Of.{taskOf, Along}
 use Rattle.course.specs.Of.{leftOf}
 use Rattle.course.proofs.Along.{along-at}
 use Rattle.course.proofs.Room.{shape-of}
+use Rattle.rollout.proofs.Along.{aimed-step}
 use Rattle.rollout.proofs.Rows.{row-more, aims-row}
 use Rattle.rollout.proofs.follow.Statement.{statement}
 use Rattle.rollout.proofs.follow.Tie as tie
@@ -98,8 +99,9 @@ loop-again c =
       comes = λ q l h.
           let t = taskOf (s .args .g) (s .args .w) (s .args .c) q (now (s .args .rows)) in
           along-at (forecast binary64 t) (after binary64 t) l ((i .i + 1) * per) (call .result) _ (i .i * per + per) (sym (row-more (i .i) per))
-          (call .ensures .1 t l (i .i * per) (record { gains = refl; walls = refl; live = refl }) (i .inv .comes q l h)
-          (λ _ j b. aims-row binary64 t (i .i) j (still c) b ∙ ap pure (sym (c .before .before .before .before .action .ensures))));
+          (call .ensures .1 (forecast binary64 t) (after binary64 t) l (i .i * per)
+          (λ _ j b. aimed-step binary64 t (i .i * per + j) _ (aims-row binary64 t (i .i) j (still c) b ∙ ap pure (sym (c .before .before .before .before .action .ensures))))
+          (i .inv .comes q l h));
     }
 
 same-length : tie.Need-same-length Inv-loop μ-loop

@@ -12,11 +12,12 @@ use lib.ListN.{length}
 use lib.Ieee.{binary64, ofBits, div}
 use Rattle.checked.specs.declared.Row.{Row}
 use Rattle.rollout.specs.Rule.{Task, rowSubsteps, total, after, forecast}
-use Rattle.rollout.specs.Of.{taskOf, Along, Towards, roomy}
+use Rattle.rollout.specs.Of.{taskOf, Along, legTo, AlongLeg, roomy}
 use Rattle.course.specs.Of.{leftOf, shaped}
 use Rattle.course.proofs.Along.{along-start, along-at}
 use Rattle.course.proofs.Room.{shape-of}
 use Rattle.rollout.proofs.Room.{room-of}
+use Rattle.rollout.proofs.Along.{aimed-step}
 use Rattle.rollout.proofs.Rows.{aims-setpoint}
 use Rattle.rollout.proofs.Setpoint.{made-is, unmade, all-come}
 use Rattle.rollout.proofs.rollout.Statement.{statement}
@@ -86,20 +87,20 @@ whole : (s : tie.Start) → rowSubsteps (task s) + (0 + s .args .c .brake .0) * 
 whole s = ap (λ (b : ℕ). rowSubsteps (task s) + b * s .args .c .per .0) (zero-add (s .args .c .brake .0)) ∙ sym (add-mul (leftOf (s .args .c) .0) (s .args .c .brake .0) (s .args .c .per .0))
 
 -- where the rows leave the plant, the setpoint is made
-towards-setpoint : (c : tie.After-hold) → Towards binary64 (task (c .before .before .before .before .before .before .before .before .before .before .before .before .before .before .before .before .before .before .before .before)) (rowSubsteps (task (c .before .before .before .before .before .before .before .before .before .before .before .before .before .before .before .before .before .before .before .before))) (c .before .before .before .substeps-in .result) (c .before .before .before .before .before .before .before .inward .result .at) (c .before .before .before .before .before .before .before .before .before .before .before .before .before .before .follow .result)
-towards-setpoint c e j b =
+to-setpoint : (c : tie.After-hold) → AlongLeg binary64 (legTo binary64 (task (c .before .before .before .before .before .before .before .before .before .before .before .before .before .before .before .before .before .before .before .before)) (c .before .before .before .before .before .before .before .inward .result .at)) (forecast binary64 (task (c .before .before .before .before .before .before .before .before .before .before .before .before .before .before .before .before .before .before .before .before))) (after binary64 (task (c .before .before .before .before .before .before .before .before .before .before .before .before .before .before .before .before .before .before .before .before))) (rowSubsteps (task (c .before .before .before .before .before .before .before .before .before .before .before .before .before .before .before .before .before .before .before .before))) (c .before .before .before .substeps-in .result) (c .before .before .before .before .before .before .before .before .before .before .before .before .before .before .follow .result)
+to-setpoint c e j b =
     let s = c .before .before .before .before .before .before .before .before .before .before .before .before .before .before .before .before .before .before .before .before in
     let r = c .before .before .before .before .before .before .before .before .before .before .before .before .before .before in
     let m = made-is binary64 (task s) (now (s .args .slack)) (r .follow .result) (r .follow .last .1 .1 .1 .1 .1 .0) (along-rows r) (c .before .before .before .before .before .before .before .inward .ensures) e in
     let sound = not-false _ (c .before .before .before .before .before .if2 .left) in
-    aims-setpoint binary64 (task s) (rowSubsteps (task s) + j) (omega arith) ∙ sym (λ i. record { value = m i .at; sound = (sym sound ∙ ap (λ (x : Row). x .sound) m) i })
+    aimed-step binary64 (task s) (rowSubsteps (task s) + j) _ (aims-setpoint binary64 (task s) (rowSubsteps (task s) + j) (omega arith) ∙ sym (λ i. record { value = m i .at; sound = (sym sound ∙ ap (λ (x : Row). x .sound) m) i }))
 
 along-whole : (c : tie.After-hold) → Along binary64 (task (c .before .before .before .before .before .before .before .before .before .before .before .before .before .before .before .before .before .before .before .before)) (now (c .before .before .before .before .before .before .before .before .before .before .before .before .before .before .before .before .before .before .before .before .args .slack)) (total (task (c .before .before .before .before .before .before .before .before .before .before .before .before .before .before .before .before .before .before .before .before))) (c .hold .result) (c .hold .last .1 .1 .1 .1 .1 .1 .0)
 along-whole c =
     let s = c .before .before .before .before .before .before .before .before .before .before .before .before .before .before .before .before .before .before .before .before in
     along-at (forecast binary64 (task s)) (after binary64 (task s)) (now (s .args .slack)) (total (task s)) (c .hold .result) (c .hold .last .1 .1 .1 .1 .1 .1 .0) (rowSubsteps (task s) + c .before .before .before .substeps-in .result)
     (ap (λ (n : ℕ). rowSubsteps (task s) + n) (c .before .before .before .substeps-in .ensures) ∙ whole s)
-    (c .hold .ensures .1 (task s) (now (s .args .slack)) (rowSubsteps (task s)) (record { gains = refl; walls = refl; live = refl }) (along-rows (c .before .before .before .before .before .before .before .before .before .before .before .before .before .before)) (towards-setpoint c))
+    (c .hold .ensures .1 (forecast binary64 (task s)) (after binary64 (task s)) (now (s .args .slack)) (rowSubsteps (task s)) (to-setpoint c) (along-rows (c .before .before .before .before .before .before .before .before .before .before .before .before .before .before)))
 
 returns-3 : tie.Need-returns-3
 returns-3 c =

@@ -9,9 +9,11 @@ use lib.Ieee.{Float, binary64}
 use Rattle.course.specs.declared.Run.{Run}
 use Rattle.workspace.specs.declared.Workspace.{Workspace}
 use Rattle.rollout.specs.declared.Law.{Law}
-use Rattle.rollout.specs.Rule.{Task, after, forecast}
-use Rattle.rollout.specs.Of.{Along, Towards, Under}
-use Rattle.rollout.proofs.Along.{towards-next}
+use Rattle.course.specs.Plant.{State}
+use Rattle.course.specs.Forecast.{Forecast}
+use Rattle.course.specs.Of.{CameAlong}
+use Rattle.rollout.specs.Of.{legOf, AlongLeg}
+use Rattle.rollout.proofs.Along.{legged-next}
 use Rattle.course.proofs.Along.{along-zero, along-sum, along-at}
 use Rattle.rollout.proofs.stepwise.Statement.{statement}
 use Rattle.rollout.proofs.stepwise.Tie as tie
@@ -21,7 +23,7 @@ record Coming (g : Law) (w : Workspace) (n : ℕ) (a : List Float) (count : ℕ)
   turns : s ≤ count
   same : length slack ≡ length slack₀
   written : r .done ≤ r₀ .done + s
-  comes : ((t : Task) (l : List Float) (k : ℕ) → Under t g w n → Along binary64 t l k r₀ slack₀ → Towards binary64 t k count a r₀ → Along binary64 t l (k + s) r slack)
+  comes : ((t : Forecast) (stand : ℕ → State) (l : List Float) (k : ℕ) → AlongLeg binary64 (legOf binary64 g w n a) t stand k count r₀ → CameAlong t stand l k r₀ slack₀ → CameAlong t stand l (k + s) r slack)
 
 abbrev Inv-loop : tie.InvT-loop
 Inv-loop g w n a count slack₀ r₀ s₀ slack r s = Coming g w n a count slack₀ r₀ slack r s
@@ -35,14 +37,14 @@ loop-holds c =
       turns = omega arith;
       same = refl;
       written = omega arith;
-      comes = λ t l k u h go. along-zero (forecast binary64 t) (after binary64 t) l k _ _ h;
+      comes = λ t stand l k go h. along-zero t stand l k _ _ h;
     }
 
 advance-requires : tie.Need-advance-requires Inv-loop μ-loop
 advance-requires c κs = let s = c .before .before .before .before .before in (s .pre .0, s .pre .1, omega (arith, s .pre .2))
 
-add-s : tie.Need-add-s Inv-loop μ-loop
-add-s c = omega arith
+add-k : tie.Need-add-k Inv-loop μ-loop
+add-k c = omega arith
 
 loop-less : tie.Need-loop-less Inv-loop μ-loop
 loop-less c = omega arith
@@ -55,9 +57,11 @@ loop-again c =
       turns = omega arith;
       same = call .kept .1 .1 .1 .1 .1 .0 ∙ i .inv .same;
       written = omega (arith, call .ensures .0, i .inv .written);
-      comes = λ t l k u h go.
-          along-sum (forecast binary64 t) (after binary64 t) l k _ _ (i .s) 1
-          (call .ensures .1 t l (k + i .s) u (i .inv .comes t l k u h go) (towards-next binary64 t l k (s .args .count) (i .s) (now (s .args .a)) (s .args .run) (i .r) (now (s .args .slack)) (i .slack) h go (i .inv .comes t l k u h go) (omega arith)));
+      comes = λ t stand l k go h.
+          along-sum t stand l k _ _ (i .k) 1
+          (call .ensures .1 t stand l (k + i .k)
+          (legged-next binary64 _ t stand l k (s .args .count) (i .k) (s .args .run) (i .r) (now (s .args .slack)) (i .slack) h go (i .inv .comes t stand l k go h) (omega arith))
+          (i .inv .comes t stand l k go h));
     }
 
 same-length : tie.Need-same-length Inv-loop μ-loop
@@ -67,8 +71,8 @@ returns : tie.Need-returns Inv-loop μ-loop
 returns c =
     let s = c .before .before .before .before in
     let i = c .before .loop in
-    let e : i .s ≡ s .args .count = omega arith in
-    (omega (arith, i .inv .written), λ t l k u h go. along-at (forecast binary64 t) (after binary64 t) l (k + s .args .count) _ _ (k + i .s) (ap (λ (m : ℕ). k + m) e) (i .inv .comes t l k u h go))
+    let e : i .k ≡ s .args .count = omega arith in
+    (omega (arith, i .inv .written), λ t stand l k go h. along-at t stand l (k + s .args .count) _ _ (k + i .k) (ap (λ (m : ℕ). k + m) e) (i .inv .comes t stand l k go h))
 
 pub stepwise-spec : {M : Type 1} → statement M
 stepwise-spec =
@@ -78,7 +82,7 @@ stepwise-spec =
     μ-loop
     loop-holds
     advance-requires
-    add-s
+    add-k
     loop-less
     loop-again
     same-length
