@@ -8,8 +8,8 @@
  * Every pointer is to memory of the caller's that nothing else writes during the call; what is written overlaps nothing
  * else that is passed, and no pointer is kept. A slice is a pointer to its first number and a count of numbers. To an entry the
  * pointer is not null and is aligned for a double also where the count is 0: pass LICTOR_NONE there. An entry that can refuse
- * returns the number of the refusal, 0 where it accepts; a refusal leaves every output as it was, save that a forecast's sets its place
- * and, with LICTOR_COMPUTED, keeps the entries before it.
+ * returns the number of the refusal, 0 where it accepts; a refusal leaves every output as it was, save that a forecast's or a run's sets
+ * its place and, with LICTOR_COMPUTED, keeps the entries before it.
  *
  * Threads: the library has no state of its own and calls nothing but memcpy, memmove and memset, so that any number of threads may be
  * in it at once, each with memory of its own.
@@ -36,10 +36,10 @@
 /* ---- the version of this file, and so of the archive that it was installed with */
 
 #define LICTOR_VERSION_MAJOR 0
-#define LICTOR_VERSION_MINOR 8
+#define LICTOR_VERSION_MINOR 9
 #define LICTOR_VERSION_PATCH 0
-#define LICTOR_VERSION "0.8.0"
-/* for comparisons: LICTOR_VERSION_NUMBER >= 800 is 0.8.0 or later */
+#define LICTOR_VERSION "0.9.0"
+/* for comparisons: LICTOR_VERSION_NUMBER >= 900 is 0.9.0 or later */
 #define LICTOR_VERSION_NUMBER (LICTOR_VERSION_MAJOR * 10000 + LICTOR_VERSION_MINOR * 100 + LICTOR_VERSION_PATCH)
 
 /* ---- what a compiler is told: a result that is dropped and a null pointer are mistakes */
@@ -528,11 +528,11 @@ uint64_t lictor_trip(const double center[192], const double scale[192], double t
 LICTOR_MUST_USE LICTOR_NOT_NULL
 uint64_t lictor_time_bin(uint32_t t, uint32_t horizon_ticks, uint64_t *bin);
 
-/* ---- the brake: whether the arm can still stop inside its workspace, and the rows that brake and hold
+/* ---- the brake: whether the arm can still stop inside its workspace, a run towards one setpoint, and the rows that brake and hold
 
    A slack is how far a position is from the nearest wall or edge, and negative beyond it: the least, over the axes that have walls, of
-   position - low wall and high wall - position, the walls moved inward by the margin, and, on a round table, of disc_radius - distance. The
-   closed kinds take their stopping radius off each. */
+   position - low wall and high wall - position, the walls moved inward by the margin, and, on a round table, of disc_radius - distance. In a
+   forecast the closed kinds take their stopping radius off each. */
 
 struct lictor_forecast_marks {
     uint64_t count;    /* how many slacks are written */
@@ -557,6 +557,32 @@ uint64_t lictor_brake_feasible(const struct lictor_numbers *numbers, const struc
                                size_t rows_count, uint16_t horizon, uint16_t dim, uint16_t exec_steps, size_t from,
                                double *slacks, size_t slacks_count, struct lictor_forecast_marks *marks,
                                struct lictor_forecast_distances *distances, uint64_t *place);
+
+/* Runs n substeps towards one setpoint from a position and a velocity: the run that a forecast of the second-order brake makes towards each
+   row, and then towards the setpoint that it makes where the rows end. It makes no setpoint itself, and computes no stop distance. On each of
+   the first min(dim, pos_dim) axes a substep adds (brake_k_p x (setpoint - position) - brake_k_v x velocity) x brake_dt to the velocity, and
+   then the new velocity x brake_dt to the position; these gains are in force whatever the code of brake is, and no stopping radius is taken
+   off.
+   Writes the slack after each substep in order, the first min(dim, pos_dim) numbers of position and velocity, which are then those after the
+   last one, the count, which is n, and the margin: the least slack by lictor_min, infinity where n is 0. The rest of each slice stays. n is
+   bounded by slacks_count alone. No two of setpoint, position, velocity and slacks may overlap: to run towards where the arm stands, copy the
+   position.
+   LICTOR_SHORT is for a setpoint below dim, a position or a velocity below pos_dim, and slacks below n; LICTOR_NOT_FINITE for any number of the
+   first three, read or not. LICTOR_COMPUTED is for a substep that computes a number that isn't finite, its slack's numbers too: place is the
+   first such substep, counted from 1, and the slacks before it are written, and nothing else. For any other number place is 0, and
+   LICTOR_MISFIT leaves it as it was.
+   Two runs make one, by a theorem: m substeps, and then n from where they end towards the same setpoint, are m + n at once, bit for bit. The
+   position and the velocity are the same, the slacks are those of the first and then those of the second, and the margin is lictor_min(first,
+   second); with the two swapped a zero's sign may differ. Where the first is refused with LICTOR_COMPUTED the whole is at the same place, and
+   where the second is at place k the whole is at m + k. A forecast may not be split so across the point where its rows end: from further on
+   lictor_brake_feasible makes another setpoint, of where the arm is then, and its slacks are others.
+   LICTOR_MISFIT, LICTOR_SIZE to LICTOR_WITHDRAWN, LICTOR_SHORT to LICTOR_COMPUTED. */
+LICTOR_MUST_USE LICTOR_NOT_NULL
+uint64_t lictor_run_towards(const struct lictor_numbers *numbers, const struct lictor_counts *counts,
+                            const double center[192], const double scale[192], const double *setpoint,
+                            size_t setpoint_count, double *position, size_t position_count, double *velocity,
+                            size_t velocity_count, size_t n, double *slacks, size_t slacks_count, uint64_t *count,
+                            double *margin, uint64_t *place);
 
 /* At which wall the position of a row that brakes or holds was stopped: bit j is coordinate j, counted from 0, of the first min(dim,
    pos_dim). A position on its wall sets none, a round table sets none of its two axes, and what a short position lacks counts as 0. Both are
@@ -763,6 +789,21 @@ static inline uint64_t lictor_guard_brake_feasible(const struct lictor_config *c
     return lictor_brake_feasible(LICTOR_CONFIG_PARTS(config), lictor_lent(position), position_count, lictor_lent(velocity),
                                  velocity_count, LICTOR_CHUNK_PARTS(chunk), from, slacks ? slacks : &none, slacks_count, marks,
                                  distances, place);
+}
+
+/* lictor_run_towards; no two of setpoint, position, velocity and slacks may overlap */
+LICTOR_MUST_USE
+static inline uint64_t lictor_guard_run_towards(const struct lictor_config *config, const double *setpoint, size_t setpoint_count,
+                                                double *position, size_t position_count, double *velocity, size_t velocity_count,
+                                                size_t n, double *slacks, size_t slacks_count, uint64_t *count, double *margin,
+                                                uint64_t *place) {
+    double none = 0.0;
+    if (lictor_missing(setpoint, setpoint_count) || lictor_missing(position, position_count) ||
+        lictor_missing(velocity, velocity_count) || lictor_missing(slacks, slacks_count))
+        return LICTOR_MISFIT;
+    return lictor_run_towards(LICTOR_CONFIG_PARTS(config), lictor_lent(setpoint), setpoint_count, position ? position : &none,
+                              position_count, velocity ? velocity : &none, velocity_count, n, slacks ? slacks : &none, slacks_count,
+                              count, margin, place);
 }
 
 /* lictor_brake_action; last and out may not overlap. Under LICTOR_GRIPPER_TO_ZERO a null last is no numbers, whatever its count. */

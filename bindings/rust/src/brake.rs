@@ -1,4 +1,4 @@
-//! Whether the arm can still stop inside its workspace, and the rows that brake and hold.
+//! Whether the arm can still stop inside its workspace, a run towards one setpoint, and the rows that brake and hold.
 
 use crate::{
     chunk::ChunkView,
@@ -18,6 +18,15 @@ pub struct BrakeOut {
     pub feasible: bool,
     /// How far the arm comes.
     pub stop_dist: f64,
+}
+
+/// A run towards one setpoint.
+#[derive(Clone, Copy, Debug, PartialEq)]
+pub struct Ran {
+    /// How many slacks it wrote: one for each substep.
+    pub count: usize,
+    /// The least of them; infinity where there is none.
+    pub margin: f64,
 }
 
 /// At which wall the position of a row that brakes or holds was stopped. Bit j is coordinate j, counted from 0, of the first
@@ -101,6 +110,81 @@ pub fn brake_feasible(
     };
     let [margin, stop_dist] = distances;
     given_at(number, place, BrakeOut { count: marks[0] as usize, margin, feasible: marks[1] == 1, stop_dist })
+}
+
+/// Runs `n` substeps towards one setpoint from a position and a velocity, whose first min(dim, `pos_dim`) numbers become those after the last
+/// one. The slacks are written in order over the first `n` numbers of `slacks`. Where it is refused with 13, the slacks before the refusal's
+/// place are written, and nothing else: the place is the first substep, counted from 1, that computes a number that is not finite, its slack's
+/// numbers too.
+///
+/// It is the run that [`brake_feasible`] makes for the second-order brake, towards each row and then towards the setpoint that it makes where
+/// the rows end. Here no setpoint is made, and no stop distance computed. The gains are those of the brake, whatever its kind, and no stopping
+/// radius is taken off. `n` is bounded by the room in `slacks` alone.
+///
+/// Two runs make one: m substeps, and then n from where they end towards the same setpoint, are m + n at once, bit for bit. The position and the
+/// velocity are the same, the slacks are those of the first and then those of the second, and the margin is the
+/// [`min`](crate::fmath::min) of the first and the second; with the two swapped a zero's sign may differ. Where the first is refused with 13 the
+/// whole is at the same place, and where the second is at place k the whole is at m + k. A forecast may not be split so across the point where
+/// its rows end (`examples/halves.rs`).
+///
+/// ```
+/// # use lictor::config::{BrakeKind, BrakeModel, Config};
+/// # let brake = BrakeModel {
+/// #     kind: BrakeKind::PdSecondOrder, k_p: 2.0, k_v: 1.0, dt: 0.5, substeps: 2, commit: 1, brake_steps: 1, react_ticks: 1,
+/// # };
+/// # let builder = Config::builder().axes(1).dt(1.0).v_max(1.0).a_max(9.0).j_max(9.0).reach_max(99.0).brake(brake);
+/// use lictor::{brake::{run_towards, Ran}, Refusal};
+/// let config = builder.walls([-1.0; 8], [1.0; 8]).build()?;
+/// let (mut pos, mut vel, mut slacks) = ([0.0], [0.0], [0.0; 3]);
+/// assert_eq!(run_towards(&config, &[1.0], &mut pos, &mut vel, 3, &mut slacks), Ok(Ran { count: 3, margin: -0.25 }));
+/// assert_eq!((pos, vel, slacks), ([1.25], [0.5], [0.5, 0.0, -0.25]));
+/// // two, and then one from where they end
+/// let (mut pos, mut vel) = ([0.0], [0.0]);
+/// assert_eq!(run_towards(&config, &[1.0], &mut pos, &mut vel, 2, &mut slacks), Ok(Ran { count: 2, margin: 0.0 }));
+/// assert_eq!(run_towards(&config, &[1.0], &mut pos, &mut vel, 1, &mut slacks), Ok(Ran { count: 1, margin: -0.25 }));
+/// assert_eq!((pos, vel), ([1.25], [0.5]));
+/// // none change nothing, and one more than there is room for is refused
+/// assert_eq!(run_towards(&config, &[1.0], &mut pos, &mut vel, 0, &mut []), Ok(Ran { count: 0, margin: f64::INFINITY }));
+/// assert_eq!(run_towards(&config, &[1.0], &mut pos, &mut vel, 4, &mut slacks), Err(Refusal::Short));
+/// # Ok::<(), lictor::Refusal>(())
+/// ```
+///
+/// # Errors
+///
+/// [`Size`](crate::Refusal::Size) to [`Withdrawn`](crate::Refusal::Withdrawn); [`Short`](crate::Refusal::Short) for a setpoint below dim, a
+/// position or a velocity below `pos_dim`, and slacks below `n`; [`NotFinite`](crate::Refusal::NotFinite) for any number of the first three, read
+/// or not; [`Computed`](crate::Refusal::Computed) with its place.
+pub fn run_towards(
+    c: &Config,
+    setpoint: &[f64],
+    pos: &mut [f64],
+    vel: &mut [f64],
+    n: usize,
+    slacks: &mut [f64],
+) -> Answer<Ran> {
+    let (mut count, mut margin, mut place) = (0, 0.0, 0);
+    // SAFETY: the arrays and slices are live; `pos`, `vel` and `slacks` are lent to us alone, and the places are ours.
+    let number = unsafe {
+        raw::lictor_run_towards(
+            &c.numbers,
+            &c.counts,
+            &c.gate.center,
+            &c.gate.scale,
+            setpoint.as_ptr(),
+            setpoint.len(),
+            pos.as_mut_ptr(),
+            pos.len(),
+            vel.as_mut_ptr(),
+            vel.len(),
+            n,
+            slacks.as_mut_ptr(),
+            slacks.len(),
+            &mut count,
+            &mut margin,
+            &mut place,
+        )
+    };
+    given_at(number, place, Ran { count: count as usize, margin })
 }
 
 /// The row that brakes, over the first dim numbers of `out`: the position moved inside its workspace, or the velocity ramped down. Gives the

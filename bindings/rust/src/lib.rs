@@ -1,10 +1,10 @@
 //! A guard between a planner and the motors of an arm: a safe layer over the proved static library. The borrow checker
-//! gives what `include/lictor.h` asks of pointers. A refused call changes nothing that was lent, save that a forecast
+//! gives what `include/lictor.h` asks of pointers. A refused call changes nothing that was lent, save that a forecast or a run
 //! refused with 13 keeps the entries before its place.
 //!
 //! A control box makes a [`Config`](config::Config) once and lends it to every call. `docs/INTEGRATION.md` has the order of the calls in
-//! a tick and what to do at each [`Refusal`]; `examples/tick.rs` is a whole tick, and `examples/calm.rs` shows which rows the checks leave as
-//! they came. The shortest question:
+//! a tick and what to do at each [`Refusal`]; `examples/tick.rs` is a whole tick, `examples/calm.rs` shows which rows the checks leave as
+//! they came, and `examples/halves.rs` what of a forecast may be run in two halves. The shortest question:
 //!
 //! ```
 //! use lictor::{brake, chunk::ChunkView, config::{BrakeKind, BrakeModel, Config}};

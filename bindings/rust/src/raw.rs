@@ -227,6 +227,24 @@ extern "C" {
         distances: &mut [f64; 2],
         place: &mut u64,
     ) -> u64;
+    pub fn lictor_run_towards(
+        numbers: &Numbers,
+        counts: &Counts,
+        center: &[f64; 192],
+        scale: &[f64; 192],
+        setpoint: *const f64,
+        setpoint_len: usize,
+        pos: *mut f64,
+        pos_len: usize,
+        vel: *mut f64,
+        vel_len: usize,
+        n: usize,
+        slacks: *mut f64,
+        slacks_len: usize,
+        count: &mut u64,
+        margin: &mut f64,
+        place: &mut u64,
+    ) -> u64;
     pub fn lictor_brake_action(
         numbers: &Numbers,
         counts: &Counts,

@@ -45,7 +45,7 @@ pub enum Refusal {
     NotFinite,
     /// 13: a computed number is not finite.
     Computed {
-        /// Of a forecast the place of that number, counted from 1; everywhere else 0.
+        /// Of a forecast or a run the place of that number, counted from 1; everywhere else 0.
         place: usize,
     },
     /// 255, the boundary's own: a code, a flag or a count that its field cannot hold. No call of this crate gives it: its types hold what
@@ -110,7 +110,7 @@ impl Refusal {
         }
     }
 
-    /// The place of a forecast's number that is not finite, counted from 1; 0 for every other refusal.
+    /// The place of a forecast's or a run's number that is not finite, counted from 1; 0 for every other refusal.
     ///
     /// ```
     /// assert_eq!(lictor::Refusal::Computed { place: 7 }.place(), 7);
