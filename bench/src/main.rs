@@ -8,7 +8,7 @@ mod inputs;
 use std::{env, hint::black_box, time::Instant};
 
 use differential::{linked, port::Port};
-use model::{ClampMode, FuseConfig, Gripper};
+use model::{BrakeModel, ClampMode, FuseConfig, Gripper};
 use oracle::rust::{self, brake, conformal, fmath, tier0, tier1};
 
 const ROUNDS: usize = 15;
@@ -40,7 +40,7 @@ fn line(name: &str, calls: usize, mut rust: Option<Side<'_>>, mut port: Option<S
             "-".into()
         }
     };
-    println!("{name:<34} {:>12} {:>12} {:>8}", shown(r), shown(p), shown_ratio(p / r));
+    println!("{name:<38} {:>12} {:>12} {:>8}", shown(r), shown(p), shown_ratio(p / r));
 }
 
 fn shown_ratio(ratio: f64) -> String {
@@ -62,7 +62,7 @@ fn calls<'a, T>(calls: usize, mut f: impl FnMut() -> T + 'a) -> Side<'a> {
 
 fn main() {
     let port = linked::port();
-    println!("{:<34} {:>12} {:>12} {:>8}", "entry", "Rust ns", "port ns", "ratio");
+    println!("{:<38} {:>12} {:>12} {:>8}", "entry", "Rust ns", "port ns", "ratio");
     root(&port);
     norm(&port);
     chunk(&port);
@@ -74,6 +74,12 @@ fn main() {
     for axes in [2, 8] {
         let cfg = inputs::round(inputs::second_order(axes));
         forecast(&port, &format!("forecast 4,096, round table: {axes}"), &cfg);
+    }
+    for axes in [1, 2, 8] {
+        run_towards(&format!("run_towards 4,096 (Rust forecasts): {axes}"), &inputs::second_order(axes));
+    }
+    for axes in [2, 8] {
+        run_towards(&format!("run_towards 4,096, round table: {axes}"), &inputs::round(inputs::second_order(axes)));
     }
     check_chunk(&port, "check_chunk 64 x 8, all armed", &inputs::all_armed(8), &inputs::numbers(512));
     check_chunk(&port, "check_chunk 64 x 8, rows outside", &inputs::all_armed(8), &inputs::about_the_walls(512));
@@ -192,6 +198,26 @@ fn forecast(port: &Port, name: &str, cfg: &FuseConfig) {
         .brake_feasible
         .map(|_| calls(10, move || lictor::brake::brake_feasible(black_box(&cfg), p, v, ch, 0, &mut slacks)));
     line(name, 10, rust, ported);
+}
+
+/// The Rust has no such function. Beside it stands the nearest, its forecast of one row that is held for as many substeps, which makes a setpoint
+/// and a stop distance besides; no call of the Rust's judges that these are more than a row may have.
+fn run_towards(name: &str, cfg: &FuseConfig) {
+    const SUBSTEPS: u16 = 4096;
+    let (dim, brake) = (cfg.dim, BrakeModel { substeps: SUBSTEPS, commit: 1, brake_steps: 0, ..cfg.brake });
+    let raw = in_the_rust(&FuseConfig { brake, ..*cfg });
+    let (p, v, aim) = (inputs::numbers(dim), inputs::numbers(dim), inputs::numbers(64 * dim));
+    let aim = &aim[..dim];
+    let ch = oracle::chunk_view(inputs::chunk(dim, aim));
+    let rust = raw.as_ref().map(|raw| calls(10, || brake::brake_feasible(black_box(raw), &p, &v, ch, 0)));
+    let (mut pos, mut vel, mut slacks) = (p.clone(), v.clone(), vec![0.0; SUBSTEPS.into()]);
+    let (cfg, p, v) = (linked::config(cfg), &p, &v);
+    let ported = calls(10, move || {
+        pos.copy_from_slice(p);
+        vel.copy_from_slice(v);
+        lictor::brake::run_towards(black_box(&cfg), aim, &mut pos, &mut vel, SUBSTEPS.into(), &mut slacks)
+    });
+    line(name, 10, rust, Some(ported));
 }
 
 /// The configuration as the Rust has it, which is with a box, with one zone or none, and without a last command.

@@ -821,8 +821,8 @@ static void codes(void) {
         struct lictor_forecast_marks f = {7, 7};
         struct lictor_forecast_distances r = {7.0, 7.0};
         struct lictor_wall_marks w = {7, 7};
-        double out[1] = {7.0}, slacks[1] = {7.0}, speed = 7.0;
-        uint64_t place = 7;
+        double out[1] = {7.0}, slacks[1] = {7.0}, speed = 7.0, position[1] = {0.0}, velocity[1] = {1.0}, margin = 7.0;
+        uint64_t place = 7, count = 7;
         four_zones(&n, &c, 4);
         c.commit = 1, n.disc_radius = 1.0, ((uint64_t *)&c)[cases[i].at] = cases[i].value;
         lictor_tier1_new(LICTOR_TIER1_PARTS(&t));
@@ -838,6 +838,10 @@ static void codes(void) {
         EXPECT((s.f[0] == 7.0) == (due != 0) && t.header.filled == (due == 0));
         CODE(lictor_brake_feasible(&n, &c, center, scale, origin, 1, origin, 1, origin, 1, 1, 1, 1, 0, slacks, 1, &f, &r, &place));
         EXPECT((f.count == 7) == (due != 0) && (slacks[0] == 7.0) == (due != 0) && place == (due == 0 || due == LICTOR_MISFIT ? 7 : 0));
+        slacks[0] = 7.0, place = 7;
+        CODE(lictor_run_towards(&n, &c, center, scale, origin, 1, position, 1, velocity, 1, 1, slacks, 1, &count, &margin, &place));
+        EXPECT((count == 7) == (due != 0) && (slacks[0] == 7.0) == (due != 0) && place == (due == 0 || due == LICTOR_MISFIT ? 7 : 0));
+        EXPECT((margin == 7.0) == (due != 0) && (velocity[0] == 1.0) == (due != 0));
         out[0] = 7.0;
         CODE(lictor_brake_action(&n, &c, center, scale, origin, 1, origin, 1, origin, 1, out, 1, &w));
         EXPECT((w.low_dims == 7) == (due != 0) && (out[0] == 7.0) == (due != 0));
@@ -944,6 +948,236 @@ static void brakes(void) {
     EXPECT(HOLD(far, 1, 2) == LICTOR_ACCEPTED && out[0] == 0.0 && w.low_dims == 0 && w.high_dims == 0);
 #undef BRAKE
 #undef HOLD
+}
+
+/* What a run towards a setpoint answers, and all that it may write, the slacks over sevens. */
+struct ran {
+    uint64_t number, count, place;
+    double margin, position[9], velocity[9], slacks[70];
+};
+
+/* An arm before it runs. */
+static struct ran ready(void) {
+    const double position[9] = {0.1, 0.2, -0.3, 0.4, -0.5, 0.6, 0.7, -0.8, 7.0}, velocity[9] = {1.0, -0.9, 0.8, 0.7, 0.6, -0.5, 0.4, 0.3, 7.0};
+    struct ran r = {0, 7, 7, 7.0, {0.0}, {0.0}, {0.0}};
+    memcpy(r.position, position, sizeof position), memcpy(r.velocity, velocity, sizeof velocity);
+    for (int i = 0; i < 70; i++) r.slacks[i] = 7.0;
+    return r;
+}
+
+/* What is there where a run is refused with this number. */
+static struct ran stays(uint64_t number, uint64_t place) {
+    struct ran r = ready();
+    r.number = number, r.place = place;
+    return r;
+}
+
+/* Where it runs to. */
+static const double aim[9] = {0.5, -0.25, 0.75, 1.5, -1.25, 0.0, -0.0, 0.3, 9.0};
+
+/* So many substeps from what r has, with so much lent of the setpoint, the position and the velocity, and so much room for the slacks. */
+static struct ran run(const struct lictor_numbers *n, const struct lictor_counts *c, const double *to, const size_t lent[3], struct ran r,
+                      size_t steps, size_t room) {
+    r.number = lictor_run_towards(n, c, center, scale, to, lent[0], r.position, lent[1], r.velocity, lent[2], steps, r.slacks, room, &r.count,
+                                  &r.margin, &r.place);
+    return r;
+}
+
+/* Whether two runs answer and write the same, bit for bit. */
+static int same(struct ran a, struct ran b) { return memcmp(&a, &b, sizeof a) == 0; }
+
+/* The same run by the rule as the header has it, substep by substep. */
+static struct ran stepped(const struct lictor_numbers *n, const struct lictor_counts *c, struct ran r, size_t steps) {
+    const size_t live = c->dim < c->pos_dim ? c->dim : c->pos_dim;
+    r.count = steps, r.margin = INFINITY;
+    for (size_t i = 0; i < steps; i++) {
+        const double centre[2] = {n->disc_x, n->disc_y};
+        double least = INFINITY, distance;
+        for (size_t j = 0; j < live; j++) {
+            const double pull = n->brake_k_p * (aim[j] - r.position[j]), drag = n->brake_k_v * r.velocity[j];
+            r.velocity[j] += (pull - drag) * n->brake_dt;
+            r.position[j] += r.velocity[j] * n->brake_dt;
+            if (c->shape == LICTOR_DISC && j < 2) continue;
+            least = lictor_min(least, r.position[j] - (n->box_lo[j] + n->margin));
+            least = lictor_min(least, n->box_hi[j] - n->margin - r.position[j]);
+        }
+        if (c->shape == LICTOR_DISC) {
+            EXPECT(lictor_dist(r.position, 2, centre, 2, 2, &distance) == LICTOR_ACCEPTED);
+            least = lictor_min(n->disc_radius - distance, least);
+        }
+        r.slacks[i] = least, r.margin = lictor_min(r.margin, least);
+    }
+    return r;
+}
+
+/* An arm at a box or on a round table that is not the origin's, with gains that no number of it is a power of two of. */
+static void runner(struct lictor_numbers *n, struct lictor_counts *c, uint64_t shape, uint64_t dim, uint64_t pos_dim) {
+    table(n, c);
+    n->box_lo[0] = n->box_lo[1] = -1.0, n->box_hi[0] = n->box_hi[1] = 1.0, n->margin = 0.125;
+    n->disc_x = 0.25, n->disc_y = 0.5, n->disc_radius = 0.75;
+    n->brake_k_p = 2.3, n->brake_k_v = 1.7, n->brake_dt = 0.1;
+    c->shape = shape, c->dim = dim, c->pos_dim = pos_dim;
+}
+
+/* Runs as the rule has them, from none to 64 substeps with just room for them and with more, for every brake, with dim above, at and below
+   pos_dim, at both shapes, with what is lent just long enough and longer: what is past the live axes and past the substeps stays. */
+static void runs(void) {
+    const uint64_t sizes[9][2] = {{1, 1}, {2, 1}, {4, 2}, {8, 1}, {8, 3}, {3, 3}, {8, 8}, {2, 4}, {1, 8}};
+    struct lictor_numbers n;
+    struct lictor_counts c;
+    for (unsigned setting = 0; setting < 9 * 2 * 5; setting++) {
+        const uint64_t dim = sizes[setting / 10][0], pos_dim = sizes[setting / 10][1], shape = setting % 2;
+        const size_t least[3] = {dim, pos_dim, pos_dim}, more[3] = {9, 9, 9};
+        if (shape == LICTOR_DISC && (dim < 2 || pos_dim < 2)) continue;
+        runner(&n, &c, shape, dim, pos_dim), c.brake = setting / 2 % 5;
+        for (size_t steps = 0; steps <= 64; steps += steps < 5 ? 1 : 59) {
+            const struct ran due = stepped(&n, &c, ready(), steps);
+            EXPECT(same(run(&n, &c, aim, least, ready(), steps, steps), due) || shown(setting, steps));
+            EXPECT(same(run(&n, &c, aim, more, ready(), steps, 70), due) || shown(setting, steps));
+        }
+    }
+    /* by hand: from rest to 1, walls at -1 and 2 */
+    const double to[1] = {1.0}, slacks[3] = {1.5, 1.0, 0.75};
+    const size_t one[3] = {1, 1, 1};
+    struct ran due = ready(), still;
+    runner(&n, &c, LICTOR_BOX, 1, 1);
+    n.brake_k_p = 2.0, n.brake_k_v = 1.0, n.brake_dt = 0.5, n.margin = 0.0, n.box_hi[0] = 2.0;
+    due.position[0] = due.velocity[0] = 0.0, still = due;
+    due.count = 3, due.margin = 0.75, due.position[0] = 1.25, due.velocity[0] = 0.5, memcpy(due.slacks, slacks, sizeof slacks);
+    EXPECT(same(run(&n, &c, to, one, still, 3, 3), due));
+    due = still, due.count = 0, due.margin = INFINITY;
+    EXPECT(same(run(&n, &c, to, one, still, 0, 0), due));
+    /* more substeps than any count of the configuration holds */
+    static double many[70000];
+    EXPECT(lictor_run_towards(&n, &c, center, scale, to, 1, still.position, 1, still.velocity, 1, 70000, many, 70000, &due.count, &due.margin,
+                              &due.place) == LICTOR_ACCEPTED);
+    EXPECT(due.count == 70000 && due.margin == 0.75 && many[2] == 0.75 && many[69999] == 1.0 && still.position[0] == 1.0);
+}
+
+/* The refusals of a run on both sides of each edge, in their order: what is written is the place and, with LICTOR_COMPUTED, the slacks before it. */
+static void runs_refused(void) {
+    const size_t fit[3] = {4, 3, 3}, more[3] = {9, 9, 9};
+    struct lictor_numbers n;
+    struct lictor_counts c;
+    struct ran due;
+    for (unsigned setting = 0; setting < 2 * 5; setting++) {
+        runner(&n, &c, setting % 2, 4, 3), c.brake = setting / 2;
+#define REFUSED(call, number, place) EXPECT(same(call, stays(number, place)) || shown(setting, 0))
+        EXPECT(run(&n, &c, aim, fit, ready(), 5, 5).number == LICTOR_ACCEPTED);
+        REFUSED(run(&n, &c, aim, fit, ready(), 5, 4), LICTOR_SHORT, 0);
+        REFUSED(run(&n, &c, aim, fit, ready(), 1, 0), LICTOR_SHORT, 0);
+        REFUSED(run(&n, &c, aim, fit, ready(), SIZE_MAX, 70), LICTOR_SHORT, 0);
+        /* each slice ends before a number that isn't finite, or just after it: it counts where it is lent, read or not, and the lengths come first */
+        for (size_t i = 0; i < 3 * 9; i++) {
+            const size_t slice = i / 9, at = i % 9;
+            struct ran spoiled = ready();
+            double to[9], *const slices[3] = {to, spoiled.position, spoiled.velocity};
+            memcpy(to, aim, sizeof to), slices[slice][at] = i % 2 ? -INFINITY : NAN;
+            for (size_t count = at; count <= at + 1; count++) {
+                size_t lent[3] = {9, 9, 9};
+                lent[slice] = count, due = spoiled, due.place = 0;
+                due.number = count < fit[slice] ? LICTOR_SHORT : LICTOR_NOT_FINITE;
+                if (count < fit[slice] || count > at) EXPECT(same(run(&n, &c, to, lent, spoiled, 5, 5), due) || shown(i, count));
+                else EXPECT(run(&n, &c, to, lent, spoiled, 5, 5).number == LICTOR_ACCEPTED || shown(i, count));
+                /* without a substep just as with some, and with too little room 11 whatever the numbers are */
+                if (count > at) EXPECT(same(run(&n, &c, to, lent, spoiled, 0, 0), due) || shown(i, count));
+                due.number = LICTOR_SHORT;
+                EXPECT(same(run(&n, &c, to, lent, spoiled, 5, 4), due) || shown(i, count));
+            }
+        }
+        /* the configuration comes before all that is lent, and a code that is none before the configuration */
+        c.substeps = 0;
+        REFUSED(run(&n, &c, aim, fit, ready(), 5, 4), LICTOR_STEPS, 0);
+        c.kind = 5;
+        REFUSED(run(&n, &c, aim, fit, ready(), 5, 4), LICTOR_MISFIT, 7);
+        c.substeps = 1, c.kind = 0;
+        /* a gain that throws the arm out: the place, and the slacks before it; one substep less is accepted, and none whatever the gain */
+        n.brake_k_p = 1e60;
+        const uint64_t place = c.shape == LICTOR_DISC ? 3 : 6;
+        const struct ran before = run(&n, &c, aim, fit, ready(), place - 1, 70);
+        EXPECT(before.number == LICTOR_ACCEPTED && before.count == place - 1 && before.place == 7);
+        due = stays(LICTOR_COMPUTED, place), memcpy(due.slacks, before.slacks, (place - 1) * sizeof *due.slacks);
+        EXPECT(same(run(&n, &c, aim, fit, ready(), place, 70), due) && same(run(&n, &c, aim, more, ready(), 70, 70), due));
+        n.brake_k_p = 0x1.fffffffffffffp1023, n.brake_dt = 4.0;
+        REFUSED(run(&n, &c, aim, fit, ready(), 1, 1), LICTOR_COMPUTED, 1);
+        due = ready(), due.count = 0, due.margin = INFINITY;
+        EXPECT(same(run(&n, &c, aim, fit, ready(), 0, 0), due));
+#undef REFUSED
+    }
+    /* a slack that isn't finite, of a position that is: 2^1023 is too far from a wall at -2^1023, and half as much is not */
+    const double far[2] = {0x1p1023, 0x1p1022};
+    const size_t one[3] = {1, 1, 1};
+    runner(&n, &c, LICTOR_BOX, 1, 1);
+    n.brake_k_p = n.brake_k_v = n.brake_dt = 1.0, n.box_lo[0] = -0x1p1023, n.box_hi[0] = 0x1p1023;
+    EXPECT(same(run(&n, &c, far, one, ready(), 2, 2), stays(LICTOR_COMPUTED, 1)));
+    due = run(&n, &c, far + 1, one, ready(), 2, 2);
+    EXPECT(due.number == LICTOR_ACCEPTED && due.position[0] == 0x1p1022 && due.margin == 0x1p1022);
+}
+
+/* m substeps and then n from where they end are m + n at once, accepted or refused, at both shapes and at every split; and a forecast of one row
+   that is held for n substeps, with no braking step, writes the slacks of such a run. */
+static void halves(void) {
+    const double gains[4] = {2.3, 40.0, 1e20, 1e60};
+    unsigned too_far = 0;
+    const size_t fit[3] = {4, 3, 3};
+    struct lictor_numbers n;
+    struct lictor_counts c;
+    for (unsigned setting = 0; setting < 2 * 4; setting++) {
+        unsigned accepted = 0, first_refused = 0, second_refused = 0;
+        runner(&n, &c, setting % 2, 4, 3), n.brake_k_p = gains[setting / 2];
+        for (size_t whole = 0; whole <= 20; whole++) {
+            const struct ran all = run(&n, &c, aim, fit, ready(), whole, whole);
+            for (size_t m = 0; m <= whole; m++) {
+                const struct ran first = run(&n, &c, aim, fit, ready(), m, m);
+                struct ran due = all;
+                if (first.number) {
+                    EXPECT(same(first, all) || shown(setting, m));
+                    first_refused++;
+                    continue;
+                }
+                /* the second, its slacks after those of the first */
+                struct ran second = first;
+                second.number = lictor_run_towards(&n, &c, center, scale, aim, 4, second.position, 3, second.velocity, 3, whole - m, second.slacks + m,
+                                                   whole - m, &second.count, &second.margin, &second.place);
+                if (second.number) {
+                    due.place = all.place - m, due.count = first.count, due.margin = first.margin;
+                    memcpy(due.position, first.position, sizeof due.position), memcpy(due.velocity, first.velocity, sizeof due.velocity);
+                    second_refused++;
+                } else {
+                    second.margin = lictor_min(first.margin, second.margin), second.count += first.count;
+                    accepted++;
+                }
+                EXPECT(same(second, due) || shown(setting, m));
+            }
+            struct lictor_forecast_marks f = {7, 7};
+            struct lictor_forecast_distances r = {7.0, 7.0};
+            struct ran row = ready();
+            c.substeps = whole ? whole : 1, c.commit = whole ? 1 : 0, c.brake_steps = 0;
+            row.number = lictor_brake_feasible(&n, &c, center, scale, row.position, 3, row.velocity, 3, aim, 4, 1, 4, 1, 0, row.slacks, whole, &f, &r,
+                                               &row.place);
+            EXPECT(memcmp(row.slacks, all.slacks, sizeof row.slacks) == 0 || shown(setting, whole));
+            /* its stop distance, which a run does not have, is what it may be refused for besides, at the place after the last slack */
+            if (setting > 3 && !all.number && row.number) {
+                EXPECT(row.number == LICTOR_COMPUTED && row.place == whole + 1 && f.count == 7);
+                too_far++;
+            } else {
+                EXPECT((row.number == all.number && row.place == all.place) || shown(setting, whole));
+                EXPECT((f.count == all.count && memcmp(&r.margin, &all.margin, sizeof r.margin) == 0) || shown(setting, whole));
+            }
+        }
+        EXPECT(accepted > 0 && (setting < 4 || (first_refused > 0 && second_refused > 0)) && (setting > 3 || first_refused + second_refused == 0));
+    }
+    EXPECT(too_far > 0);
+    /* a least slack that is a zero: the first axis stands at 0.0 on a wall at -0.0, and in the second substep the other touches its own */
+    const double to[2] = {0.0, 1.0}, plus = 0.0, minus = -0.0;
+    struct ran still = ready();
+    runner(&n, &c, LICTOR_BOX, 2, 2), n.brake_k_p = 2.0, n.brake_k_v = 1.0, n.brake_dt = 0.5, n.margin = 0.0, n.box_hi[0] = -0.0;
+    for (int j = 0; j < 2; j++) still.position[j] = still.velocity[j] = 0.0;
+    const size_t two[3] = {2, 2, 2};
+    const struct ran first = run(&n, &c, to, two, still, 1, 1), second = run(&n, &c, to, two, first, 1, 1), all = run(&n, &c, to, two, still, 2, 2);
+    const double least = lictor_min(first.margin, second.margin), swapped = lictor_min(second.margin, first.margin);
+    EXPECT(memcmp(&first.margin, &minus, sizeof minus) == 0 && memcmp(&second.margin, &plus, sizeof plus) == 0);
+    EXPECT(memcmp(&least, &all.margin, sizeof least) == 0 && memcmp(&swapped, &minus, sizeof swapped) == 0 && all.margin == swapped);
 }
 
 /* A row that brakes or holds, written over sevens, and its marks. */
@@ -1096,6 +1330,9 @@ int main(void) {
     codes();
     features();
     brakes();
+    runs();
+    runs_refused();
+    halves();
     grippers();
     gate();
     puts(failed ? "C calls: failed" : "C calls: as expected");

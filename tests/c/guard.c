@@ -55,6 +55,7 @@ static struct lictor_config arm(void) {
 struct tick {
     double pos[AXES], vel[AXES], aux[CHANNELS], ext[4], rows[ROWS * AXES], previous[AXES], last[AXES + 1];
     double out[ROWS * AXES], row[AXES], slacks[64], speed;
+    double aim[AXES + 1], at[AXES + 1], moving[AXES + 1], margin;
     struct lictor_tier1 state;
     struct lictor_scores scores;
     struct lictor_marks marks;
@@ -63,7 +64,7 @@ struct tick {
     struct lictor_forecast_marks forecast;
     struct lictor_forecast_distances distances;
     struct lictor_derived derived;
-    uint64_t place, trips, bin, length;
+    uint64_t place, trips, bin, length, count;
 };
 
 static const uint32_t terms[8] = {3, 60};
@@ -77,6 +78,7 @@ static uint64_t every_form(const struct lictor_config *c, struct tick *a) {
         lictor_guard_check_action(c, a->pos, AXES, NULL, 0, a->previous, AXES, a->rows, AXES, a->row, AXES, &a->found, &a->speed),
         lictor_guard_features(c, &a->state, a->pos, AXES, NULL, 0, &chunk, &a->scores, &a->marks),
         lictor_guard_brake_feasible(c, a->pos, AXES, a->vel, AXES, &chunk, 0, a->slacks, 64, &a->forecast, &a->distances, &a->place),
+        lictor_guard_run_towards(c, a->rows, AXES, a->at, AXES, a->moving, AXES, 4, a->slacks, 64, &a->count, &a->margin, &a->place),
         lictor_guard_brake_action(c, a->pos, AXES, a->vel, AXES, a->last, AXES, a->row, AXES, &a->walls),
         lictor_guard_hold_action(c, a->pos, AXES, a->last, AXES, a->row, AXES, &a->walls),
     };
@@ -101,15 +103,16 @@ static void forms(void) {
     static struct tick a, b;
     int refusals = 0;
     const struct lictor_wall_marks none = {0, 0};
-    uint64_t answer, stopped = 0, turned = 0, kept = 0, slowed[LICTOR_MAX_ZONES + 1] = {0};
+    uint64_t answer, stopped = 0, turned = 0, kept = 0, ran = 0, lost = 0, slowed[LICTOR_MAX_ZONES + 1] = {0};
     lictor_tier1_new(LICTOR_TIER1_PARTS(&a.state));
     for (uint32_t t = 0; t < 2000; t++) {
         struct lictor_config c = arm();
         struct lictor_chunk chunk = {a.rows, ROWS * AXES, t + 7, t, ROWS, AXES, 2};
         const size_t from = below(4), i = below(7), pos = AXES - (below(30) == 0), aux = below(CHANNELS + 1), ext = below(5);
         const size_t last = below(30) == 0 ? below(AXES) : AXES + below(2);
+        const size_t aim = AXES + 1 - below(3), steps = below(20), room = below(30) == 0 ? steps / 2 : steps + below(2);
         draw(a.pos, AXES), draw(a.vel, AXES), draw(a.aux, CHANNELS), draw(a.ext, 4), draw(a.rows, ROWS * AXES), draw(a.previous, AXES);
-        draw(a.last, AXES + 1);
+        draw(a.last, AXES + 1), draw(a.aim, AXES + 1), draw(a.at, AXES + 1), draw(a.moving, AXES + 1);
         c.counts.brake = below(5), c.counts.kind = below(5), c.counts.contact = below(5), c.counts.clamp = below(2);
         c.counts.absent_camera = below(2), c.counts.shape = below(3) == 0 ? LICTOR_DISC : LICTOR_BOX;
         c.counts.gripper = below(2), c.counts.pos_dim = below(3) == 0 ? AXES - 1 : AXES;
@@ -128,6 +131,8 @@ static void forms(void) {
         if (below(30) == 0) c.counts.contact = 5 + below(300);
         if (below(30) == 0) c.numbers.contact3_v_max = NAN;
         if (below(30) == 0) c.counts.contact2_a0 = 0, c.counts.contact2_a1 = 1;
+        if (below(30) == 0) c.numbers.brake_k_p = 1e100;
+        if (below(30) == 0) a.aim[below(AXES + 1)] = NAN;
         if (below(30) == 0) c.scale[100] = 0.0;
         if (below(30) == 0) c.counts.mask |= 1 << LICTOR_STALL;
         b = a;
@@ -155,6 +160,9 @@ static void forms(void) {
         SAME(lictor_brake_feasible(PARTS, a.pos, pos, a.vel, AXES, a.rows, ROWS * AXES, ROWS, AXES, chunk.exec_steps, from, a.slacks,
                                    64, &a.forecast, &a.distances, &a.place),
              lictor_guard_brake_feasible(&c, a.pos, pos, a.vel, AXES, &chunk, from, b.slacks, 64, &b.forecast, &b.distances, &b.place));
+        SAME(lictor_run_towards(PARTS, a.aim, aim, a.at, pos, a.moving, AXES, steps, a.slacks, room, &a.count, &a.margin, &a.place),
+             lictor_guard_run_towards(&c, a.aim, aim, b.at, pos, b.moving, AXES, steps, b.slacks, room, &b.count, &b.margin, &b.place));
+        ran += answer == LICTOR_ACCEPTED, lost += answer == LICTOR_COMPUTED;
         a.row[0] = b.row[0] = a.pos[0];
         a.walls = b.walls = none;
         SAME(lictor_brake_action(PARTS, a.pos, pos, a.vel, AXES, a.last, last, a.row, AXES, &a.walls),
@@ -176,6 +184,8 @@ static void forms(void) {
     EXPECT(refusals > 500 && refusals < 12000 && stopped == (1 << 2 * AXES) - 1);
     /* a brake is moved onto a round table, and left where it is */
     EXPECT(turned > 20 && turned < 200);
+    /* a run comes to its end, and is lost on its way */
+    EXPECT(ran > 500 && ran < 1500 && lost > 10);
     /* a gripper is kept, and is not */
     EXPECT(kept > 50 && kept < 500);
     EXPECT(slowed[0] == 0);
@@ -198,6 +208,8 @@ static void nulls(void) {
     lictor_guard_features(&c, &a.state, pos, pos_count, ext, ext_count, ch, &a.scores, &a.marks)
 #define FORECAST(pos, pos_count, vel, vel_count, ch, slacks, slacks_count) \
     lictor_guard_brake_feasible(&c, pos, pos_count, vel, vel_count, ch, 0, slacks, slacks_count, &a.forecast, &a.distances, &a.place)
+#define RUN(to, to_count, pos, pos_count, vel, vel_count, n, slacks, slacks_count) \
+    lictor_guard_run_towards(&c, to, to_count, pos, pos_count, vel, vel_count, n, slacks, slacks_count, &a.count, &a.margin, &a.place)
 #define BRAKE(pos, pos_count, vel, vel_count, last, last_count, out, out_count) \
     lictor_guard_brake_action(&c, pos, pos_count, vel, vel_count, last, last_count, out, out_count, &a.walls)
 #define HOLD(pos, pos_count, last, last_count, out, out_count) \
@@ -224,6 +236,16 @@ static void nulls(void) {
     EXPECT(FORECAST(a.pos, AXES, a.vel, AXES, &chunk, NULL, 64) == LICTOR_MISFIT);
     EXPECT(FORECAST(NULL, 0, NULL, 0, &chunk, NULL, 0) == LICTOR_SHORT);
     EXPECT(FORECAST(a.pos, AXES, a.vel, AXES, &chunk, NULL, 0) == LICTOR_SHORT);
+    EXPECT(RUN(NULL, 1, a.at, AXES, a.moving, AXES, 4, a.slacks, 64) == LICTOR_MISFIT);
+    EXPECT(RUN(a.aim, AXES, NULL, 1, a.moving, AXES, 4, a.slacks, 64) == LICTOR_MISFIT);
+    EXPECT(RUN(a.aim, AXES, a.at, AXES, NULL, 1, 4, a.slacks, 64) == LICTOR_MISFIT);
+    EXPECT(RUN(a.aim, AXES, a.at, AXES, a.moving, AXES, 4, NULL, 64) == LICTOR_MISFIT);
+    EXPECT(RUN(a.aim, AXES, a.at, AXES, a.moving, AXES, 0, NULL, 1) == LICTOR_MISFIT);
+    EXPECT(RUN(NULL, 0, NULL, 0, NULL, 0, 0, NULL, 0) == LICTOR_SHORT);
+    EXPECT(RUN(NULL, 0, a.at, AXES, a.moving, AXES, 4, a.slacks, 64) == LICTOR_SHORT);
+    EXPECT(RUN(a.aim, AXES, NULL, 0, a.moving, AXES, 4, a.slacks, 64) == LICTOR_SHORT);
+    EXPECT(RUN(a.aim, AXES, a.at, AXES, NULL, 0, 4, a.slacks, 64) == LICTOR_SHORT);
+    EXPECT(RUN(a.aim, AXES, a.at, AXES, a.moving, AXES, 1, NULL, 0) == LICTOR_SHORT);
     EXPECT(lictor_lent(NULL) == LICTOR_NONE && lictor_lent(a.pos) == a.pos);
     for (c.counts.gripper = 0; c.counts.gripper < 3; c.counts.gripper++) {
         const enum lictor_refusal due = c.counts.gripper > LICTOR_GRIPPER_LAST_COMMAND ? LICTOR_MISFIT : LICTOR_SHORT;
@@ -263,12 +285,15 @@ static void nulls(void) {
     c = arm();
     c.counts.commit = c.counts.brake_steps = 0;
     EXPECT(FORECAST(a.pos, AXES, a.vel, AXES, &chunk, NULL, 0) == LICTOR_ACCEPTED && a.forecast.count == 0);
+    a.count = 7;
+    EXPECT(RUN(a.aim, AXES, a.at, AXES, a.moving, AXES, 0, NULL, 0) == LICTOR_ACCEPTED && a.count == 0 && a.margin == INFINITY);
     /* the entries' own constant for it */
     EXPECT(lictor_norm(LICTOR_NONE, 0, 0, &a.speed) == LICTOR_ACCEPTED && a.speed == 0.0);
 #undef CHECK
 #undef ACTION
 #undef FEATURES
 #undef FORECAST
+#undef RUN
 #undef BRAKE
 #undef HOLD
 }
@@ -478,7 +503,7 @@ static void words(void) {
         for (uint64_t j = 0; known && j < i; j++) EXPECT(strcmp(lictor_refusal_text(i), lictor_refusal_text(j)) != 0);
     }
     snprintf(version, sizeof version, "%d.%d.%d", LICTOR_VERSION_MAJOR, LICTOR_VERSION_MINOR, LICTOR_VERSION_PATCH);
-    EXPECT(strcmp(version, LICTOR_VERSION) == 0 && LICTOR_VERSION_NUMBER >= 800);
+    EXPECT(strcmp(version, LICTOR_VERSION) == 0 && LICTOR_VERSION_NUMBER >= 900);
 }
 
 int main(void) {

@@ -17,7 +17,7 @@ static struct lictor_counts c;
 static struct lictor_tier1 t;
 static struct lictor_scores s;
 static struct lictor_marks m;
-static double rows[512], slacks[4096], out[512], filled[512];
+static double rows[512], slacks[4096], out[512], filled[512], position[8], velocity[8];
 static const double still[8];
 /* how many numbers the camera sends */
 static size_t camera;
@@ -50,6 +50,12 @@ static void forecast(void) {
     struct lictor_forecast_distances distances;
     uint64_t place;
     if (lictor_brake_feasible(&n, &c, center, scale, still, 8, still, 8, rows, 512, 64, 8, 64, 0, slacks, 4096, &marks, &distances, &place)) abort();
+}
+
+static void towards(void) {
+    uint64_t count, place;
+    double margin;
+    if (lictor_run_towards(&n, &c, center, scale, rows, 8, position, 8, velocity, 8, 4096, slacks, 4096, &count, &margin, &place)) abort();
 }
 
 static void brake(void) {
@@ -119,8 +125,8 @@ int main(void) {
     } calls[] = {
         {"lictor_tier1_new", new_state}, {"lictor_features", features}, {"trail", trail}, {"gate", gate},
         {"lictor_tier1_reset", reset}, {"lictor_check_chunk", check_chunk}, {"lictor_check_action", check_action},
-        {"lictor_brake_feasible", forecast}, {"lictor_brake_action", brake}, {"lictor_hold_action", hold},
-        {"lictor_derive", derive}, {"lictor_fill", fill},
+        {"lictor_brake_feasible", forecast}, {"lictor_run_towards", towards}, {"lictor_brake_action", brake},
+        {"lictor_hold_action", hold}, {"lictor_derive", derive}, {"lictor_fill", fill},
     };
     size_t most = 0, needs[sizeof calls / sizeof *calls] = {0};
     const char *largest = "";

@@ -1,7 +1,7 @@
 //! Build script of the published crates: one `pub mod` for each file of the crate below LICTOR_SRC, by its path, so
 //! that the compiler reads the published file itself, unchanged. lictor-watched alone has a copy that is changed: the
-//! forecast with each slack shown to `crate::seen` on its way into the margin, since the Rust gives no slacks, and
-//! each Euler step followed by `crate::stepped`.
+//! forecast with each slack shown to `crate::seen` on its way into the margin, since the Rust gives no slacks, each
+//! Euler step followed by `crate::stepped`, and the plant after the last substep shown to `crate::reached`.
 
 use std::{
     env, fs,
@@ -47,14 +47,16 @@ fn watched(brake: &Path, out: &Path) -> String {
     module(&copy)
 }
 
-/// The forecast's text with its four slacks passed through `crate::seen`.
+/// The forecast's text with its four slacks passed through `crate::seen`, and the plant to `crate::reached`.
 fn showing_slacks(mut text: String) -> String {
     let start = "slack_r(cfg, pl, radius(cfg, &pl.v, n, react))";
+    let end = "    (margin, 0.0)\n";
     let euler = "        }\n        i += 1;\n    }\n    (margin, radius(";
     let changes = [
         ("margin, slack(cfg, pl))", "margin, crate::seen(slack(cfg, pl)))".to_string(), 2),
         ("margin, slack_r(cfg, pl, r))", "margin, crate::seen(slack_r(cfg, pl, r)))".to_string(), 1),
         (start, format!("crate::seen({start})"), 1),
+        (end, format!("    crate::reached(&pl.p[..pl.n], &pl.v[..pl.n]);\n{end}"), 1),
         (euler, euler.replacen("        }\n", "        }\n        crate::stepped();\n", 1), 1),
     ];
     for (from, to, count) in changes {

@@ -883,6 +883,10 @@ fn judges_of_positions(port: &Port) -> Vec<Judge> {
             let call = move |c: &FuseConfig| number(f(c, &pos, &ZEROS, &ZEROS, &mut ZEROS.clone()));
             asked("brake_action", accepted, Box::new(call));
         }
+        if let Some(f) = port.run_towards {
+            let call = move |c: &FuseConfig| number(f(c, &ZEROS, &mut pos.clone(), &mut ZEROS.clone(), 1, &mut [0.0]));
+            asked("run_towards", accepted, Box::new(call));
+        }
         if let Some(f) = port.hold_action {
             let call = move |c: &FuseConfig| number(f(c, &pos, &ZEROS, &mut ZEROS.clone()));
             asked("hold_action", accepted, Box::new(call));
@@ -948,6 +952,7 @@ pub fn check(port: &Port) -> Result<String, String> {
         check_chunk: Some(tier0::check_chunk),
         features: Some(tier1::features),
         brake_feasible: Some(brake::brake_feasible),
+        run_towards: Some(brake::run_towards),
         brake_action: Some(brake::brake_action),
         hold_action: Some(brake::hold_action),
         standardise: Some(conformal::standardise),

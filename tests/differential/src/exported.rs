@@ -1,7 +1,7 @@
 //! The exported functions themselves, on a configuration as C passes it: what is not read comes to them as it is, as a zone past the count
 //! and the centre and the radius of a box, which do not come to the library by the binding.
 
-use model::{BrakeOut, ChunkView, Derived, FuseConfig, Refusal, Tier0Out, WallMarks, BINS, MAX_D, MAX_POS, NFEAT};
+use model::{BrakeOut, ChunkView, Derived, FuseConfig, Ran, Refusal, Tier0Out, WallMarks, BINS, MAX_D, MAX_POS, NFEAT};
 
 use crate::port::{Answer, Port};
 
@@ -69,6 +69,24 @@ extern "C" {
         distances: &mut [f64; 2],
         place: &mut u64,
     ) -> u64;
+    fn lictor_run_towards(
+        numbers: &Numbers,
+        counts: &Counts,
+        center: &Table,
+        scale: &Table,
+        setpoint: *const f64,
+        setpoint_len: usize,
+        pos: *mut f64,
+        pos_len: usize,
+        vel: *mut f64,
+        vel_len: usize,
+        n: usize,
+        slacks: *mut f64,
+        slacks_len: usize,
+        count: &mut u64,
+        margin: &mut f64,
+        place: &mut u64,
+    ) -> u64;
     fn lictor_brake_action(
         numbers: &Numbers,
         counts: &Counts,
@@ -106,6 +124,7 @@ pub fn port() -> Port {
         check_chunk: Some(check_chunk),
         check_action: Some(check_action),
         brake_feasible: Some(brake_feasible),
+        run_towards: Some(run_towards),
         brake_action: Some(brake_action),
         hold_action: Some(hold_action),
         ..Port::default()
@@ -255,6 +274,41 @@ fn brake_feasible(
     };
     let ([count, feasible], [margin, stop_dist]) = (marks, distances);
     given(number, place, || BrakeOut { count: count as usize, feasible: feasible == 1, margin, stop_dist })
+}
+
+/// Count and margin stay where it refuses, and the place where it accepts.
+fn run_towards(
+    c: &FuseConfig,
+    setpoint: &[f64],
+    p: &mut [f64],
+    v: &mut [f64],
+    n: usize,
+    slacks: &mut [f64],
+) -> Answer<Ran> {
+    let ((numbers, counts), mut count, mut margin, mut place) = (laid(c), 7, 7.0, 7);
+    let number = unsafe {
+        lictor_run_towards(
+            &numbers,
+            &counts,
+            &c.cal.center,
+            &c.cal.scale,
+            setpoint.as_ptr(),
+            setpoint.len(),
+            p.as_mut_ptr(),
+            p.len(),
+            v.as_mut_ptr(),
+            v.len(),
+            n,
+            slacks.as_mut_ptr(),
+            slacks.len(),
+            &mut count,
+            &mut margin,
+            &mut place,
+        )
+    };
+    assert!(number == 0 || (count, margin) == (7, 7.0), "refused with {number}, and count or margin is written");
+    assert!(number != 0 || place == 7, "accepted, and the place is written");
+    given(number, place, || Ran { count: count as usize, margin })
 }
 
 /// The marks, which a refusal leaves as they were.

@@ -4,7 +4,7 @@
 use lictor::{brake, chunk, config, conformal, fmath, tier0, tier1, window};
 use model::{
     AbsentCamera, ActionKind, BrakeKind, BrakeOut, Calibration, ChunkBuf, ChunkView, ClampMode, ContactLimit, Derived,
-    FuseConfig, Gripper, Scores, Shape, Tier0Out, Tier1Rt, Trail, WallMarks, Zones, MAX_ZONES,
+    FuseConfig, Gripper, Ran, Scores, Shape, Tier0Out, Tier1Rt, Trail, WallMarks, Zones, MAX_ZONES,
 };
 
 use crate::port::{Answer, Port};
@@ -42,6 +42,9 @@ pub fn port() -> Port {
         brake_feasible: Some(|c, p, v, ch, from, slacks| {
             answer(brake::brake_feasible(&config(c), p, v, chunk_view(&ch), from, slacks)).map(forecast)
         }),
+        run_towards: Some(|c, setpoint, p, v, n, slacks| {
+            answer(brake::run_towards(&config(c), setpoint, p, v, n, slacks)).map(ran)
+        }),
         brake_action: Some(|c, p, v, last, out| walls(brake::brake_action(&config(c), p, v, last, out))),
         hold_action: Some(|c, p, last, out| walls(brake::hold_action(&config(c), p, last, out))),
         standardise: Some(|c, bin, sc| on_scores(sc, |s| conformal::standardise(&calibration(c), bin, s))),
@@ -68,6 +71,10 @@ fn walls(a: lictor::Answer<brake::WallMarks>) -> Answer<WallMarks> {
 
 fn forecast(r: brake::BrakeOut) -> BrakeOut {
     BrakeOut { count: r.count, margin: r.margin, feasible: r.feasible, stop_dist: r.stop_dist }
+}
+
+fn ran(r: brake::Ran) -> Ran {
+    Ran { count: r.count, margin: r.margin }
 }
 
 pub fn chunk_view<'a>(v: &ChunkView<'a>) -> chunk::ChunkView<'a> {

@@ -1,7 +1,7 @@
 //! The port's side: each entry of `bindings/rust` in the shape of the model's, or `None` while it is not there.
 
 use model::{
-    BrakeOut, Calibration, ChunkBuf, ChunkView, Derived, FuseConfig, Refusal, Scores, Tier0Out, Tier1Rt, Trail,
+    BrakeOut, Calibration, ChunkBuf, ChunkView, Derived, FuseConfig, Ran, Refusal, Scores, Tier0Out, Tier1Rt, Trail,
     WallMarks,
 };
 
@@ -35,6 +35,8 @@ pub type CheckAction = fn(&FuseConfig, &[f64], &[f64], &[f64], &[f64], &mut [f64
 pub type Features = fn(&FuseConfig, &mut Tier1Rt, &[f64], &[f64], Option<ChunkView<'_>>, &mut Scores) -> Answer<()>;
 pub type Reset = fn(&mut Tier1Rt) -> Answer<()>;
 pub type BrakeFeasible = fn(&FuseConfig, &[f64], &[f64], ChunkView<'_>, usize, &mut [f64]) -> Answer<BrakeOut>;
+/// The setpoint, the position and the velocity, the substeps, the entries.
+pub type RunTowards = fn(&FuseConfig, &[f64], &mut [f64], &mut [f64], usize, &mut [f64]) -> Answer<Ran>;
 pub type BrakeAction = fn(&FuseConfig, &[f64], &[f64], &[f64], &mut [f64]) -> Answer<WallMarks>;
 pub type HoldAction = fn(&FuseConfig, &[f64], &[f64], &mut [f64]) -> Answer<WallMarks>;
 pub type Standardise = fn(&Calibration, usize, &mut Scores) -> Answer<()>;
@@ -70,6 +72,7 @@ pub struct Port {
     pub features: Option<Features>,
     pub reset: Option<Reset>,
     pub brake_feasible: Option<BrakeFeasible>,
+    pub run_towards: Option<RunTowards>,
     pub brake_action: Option<BrakeAction>,
     pub hold_action: Option<HoldAction>,
     pub standardise: Option<Standardise>,

@@ -16,7 +16,8 @@ pub struct Shown {
     pub numbers: Vec<f64>,
     pub counts: Vec<u64>,
     /// What is compared between port and model alone. Of an answer: sides and their masks, which the Rust has not, the bits of what clamp gives
-    /// and the signs of a kept command. Of the buffers: the signs of what a calm check leaves.
+    /// and of a run's margin, and the signs of a kept command. Of the buffers: the signs of what a calm check leaves, and the bits of what a run
+    /// does.
     pub added: Vec<i64>,
 }
 
@@ -158,11 +159,12 @@ impl<I: Clone + Debug + 'static> Entry<I> {
         if oracle::take_raised() && counts && got.answer.is_ok() {
             got.answer = Err(Refusal { number: COMPUTED, place: 0 });
         }
-        same("the Rust", &got, &in_the_rust(want))?;
+        let due = in_the_rust(want);
+        same("the Rust", &got, &due)?;
         // the forecast's entries before its place are the Rust's, too
-        match want.answer {
-            Err(r) if r.place > 0 && !same_shown(&got.buffers, &want.buffers) => {
-                Err(format!("the Rust's slacks are others: {}", first_apart(&got.buffers, &want.buffers)))
+        match due.answer {
+            Err(r) if r.place > 0 && !same_shown(&got.buffers, &due.buffers) => {
+                Err(format!("the Rust's slacks are others: {}", first_apart(&got.buffers, &due.buffers)))
             }
             _ => Ok(true),
         }
@@ -288,7 +290,8 @@ fn untouched(before: &Shown, want: &Outcome, got: &Outcome) -> Result<(), String
         true => bits(&got.buffers, i) == bits(before, i),
         false => same_number(got.buffers.numbers[i], want.buffers.numbers[i]),
     };
-    if got.buffers.counts == before.counts && (0..before.numbers.len()).all(fine) {
+    let kept = got.buffers.counts == before.counts && got.buffers.added == want.buffers.added;
+    if kept && (0..before.numbers.len()).all(fine) {
         Ok(())
     } else {
         Err("the port refuses and yet changes a buffer".into())

@@ -4,7 +4,7 @@ use std::time::Duration;
 
 use differential::{
     edges, entries,
-    port::{BrakeFeasible, CheckAction, CheckChunk, Derive, Port},
+    port::{BrakeFeasible, CheckAction, CheckChunk, Derive, Port, RunTowards},
     run::Budget,
 };
 use model::{
@@ -13,7 +13,7 @@ use model::{
     fmath::{self, min},
     refusal::{SHAPE, WITHDRAWN},
     AbsentCamera, ActionKind, BrakeKind, BrakeOut, Calibration, ChunkView, ClampMode, ContactLimit, Derived,
-    FuseConfig, Gripper, Refusal, Scores, Shape, Tier0Out, Tier1Rt, Trail, WallMarks, Zones, ACCEL, CONTACT, JERK,
+    FuseConfig, Gripper, Ran, Refusal, Scores, Shape, Tier0Out, Tier1Rt, Trail, WallMarks, Zones, ACCEL, CONTACT, JERK,
     MAX_D, NAMED, REACH, SPEED, STALL, WORKSPACE,
 };
 
@@ -2153,6 +2153,339 @@ fn a_stall_that_is_evaluated() {
     });
     let text = failure(Port { features: Some(evaluated), ..Port::default() }, "features");
     assert!(text.contains("the port says Refusal { number: 13, place: 0 }; the model accepts"));
+}
+
+// ---- runs under one setpoint
+
+/// The text of the run of an entry with this run, which has to say all of this.
+fn run_found(entry: &str, run: RunTowards, said: &[&str]) -> String {
+    let text = failure(Port { run_towards: Some(run), ..Port::default() }, entry);
+    for words in said {
+        assert!(text.contains(words), "{words} is not said");
+    }
+    text
+}
+
+/// Those of all three entries; what is said of how small the input is holds of the first, whose generator is the plainest.
+fn runs_found(run: RunTowards, said: &str, small: &str) {
+    run_found("run_towards", run, &[said, small]);
+    run_found("run_towards on a round table", run, &[said]);
+    run_found("run_towards the start", run, &[said]);
+}
+
+const OTHER_RUN: &str = "the port answers otherwise than the model";
+const TOUCHED: &str = "the port refuses and yet changes a buffer";
+
+#[test]
+fn a_second_half_from_the_given_plant() {
+    let given: RunTowards = |c, a, p, v, n, s| brake::run_towards(c, a, &mut p.to_vec(), &mut v.to_vec(), n, s);
+    runs_found(given, OTHER_ROW, "n: 1,");
+    runs_found(|c, a, p, v, n, s| brake::run_towards(c, a, p, &mut v.to_vec(), n, s), OTHER_ROW, "n: 1,");
+    runs_found(|c, a, p, v, n, s| brake::run_towards(c, a, &mut p.to_vec(), v, n, s), OTHER_ROW, "n: 1,");
+}
+
+#[test]
+fn a_margin_of_other_slacks() {
+    // the least of a second half alone
+    let last: RunTowards = |c, a, p, v, n, s| {
+        let r = brake::run_towards(c, a, p, v, n, s)?;
+        Ok(Ran { margin: s[..n].last().map_or(r.margin, |last| *last), ..r })
+    };
+    runs_found(last, OTHER_RUN, "n: 2,");
+    let from_zero: RunTowards =
+        |c, a, p, v, n, s| brake::run_towards(c, a, p, v, n, s).map(|r| Ran { margin: min(0.0, r.margin), ..r });
+    runs_found(from_zero, "the model: number 0 is 0.0, not inf", "n: 0,");
+    let none: RunTowards = |c, a, p, v, n, s| {
+        let r = brake::run_towards(c, a, p, v, n, s)?;
+        Ok(Ran { margin: if n == 0 { 0.0 } else { r.margin }, ..r })
+    };
+    runs_found(none, "the model: number 0 is 0.0, not inf", "n: 0,");
+    // folded the other way round, which is seen by a zero's sign alone
+    let swapped: RunTowards = |c, a, p, v, n, s| {
+        let r = brake::run_towards(c, a, p, v, n, s)?;
+        Ok(Ran { margin: s[..n].iter().fold(f64::INFINITY, |m, x| min(*x, m)), ..r })
+    };
+    run_found("run_towards", swapped, &[OTHER_RUN, "added", "n: 2,"]);
+}
+
+/// The model's answer, with nothing written.
+fn asked(c: &FuseConfig, a: &[f64], p: &[f64], v: &[f64], n: usize, s: &[f64]) -> Result<Ran, Refusal> {
+    brake::run_towards(c, a, &mut p.to_vec(), &mut v.to_vec(), n, &mut s.to_vec())
+}
+
+/// The slack of a start that is accepted, by the forecast of a plant at rest that is not drawn anywhere.
+fn slack_of(c: &FuseConfig, p: &[f64], v: &[f64]) -> Option<f64> {
+    let still = FuseConfig { brake: model::BrakeModel { k_p: 0.0, k_v: 1.0, dt: 1.0, ..c.brake }, ..*c };
+    let (mut slack, zeros) = ([0.0], vec![0.0; c.dim.max(v.len())]);
+    brake::run_towards(&still, &zeros, &mut p.to_vec(), &mut vec![0.0; v.len()], 1, &mut slack).ok()?;
+    Some(slack[0])
+}
+
+#[test]
+fn a_slack_for_zero_substeps() {
+    let written: RunTowards = |c, a, p, v, n, s| {
+        let start = slack_of(c, p, v);
+        let r = brake::run_towards(c, a, p, v, n, s)?;
+        match (start, s.first_mut()) {
+            (Some(slack), Some(first)) if n == 0 => *first = slack,
+            _ => (),
+        }
+        Ok(r)
+    };
+    runs_found(written, OTHER_ROW, "n: 0,");
+    let counted: RunTowards = |c, a, p, v, n, s| {
+        let start = slack_of(c, p, v);
+        let r = brake::run_towards(c, a, p, v, n, s)?;
+        Ok(start.filter(|_| n == 0).map_or(r, |margin| Ran { margin, ..r }))
+    };
+    runs_found(counted, "not inf", "n: 0,");
+}
+
+/// The model's run with another configuration.
+macro_rules! run_with {
+    ($change:expr) => {
+        |c, a, p, v, n, s| {
+            let change: fn(&mut FuseConfig) = $change;
+            let mut other = *c;
+            change(&mut other);
+            brake::run_towards(&other, a, p, v, n, s)
+        }
+    };
+}
+
+#[test]
+fn gains_of_the_second_order_kind_alone() {
+    let alone: RunTowards = run_with!(|c| if c.brake.kind != BrakeKind::PdSecondOrder && c.brake.k_p >= 0.0 {
+        c.brake.k_p = 0.0;
+    });
+    let text = run_found("run_towards", alone, &["n: 1,"]);
+    assert!(!text.contains("kind: PdSecondOrder"), "another kind");
+    let refused: RunTowards = |c, a, p, v, n, s| match asked(c, a, p, v, n, s) {
+        Ok(_) if c.brake.kind != BrakeKind::PdSecondOrder => Err(Refusal { number: 3, place: 0 }),
+        _ => brake::run_towards(c, a, p, v, n, s),
+    };
+    runs_found(refused, "the port says Refusal { number: 3, place: 0 }; the model accepts", "n: 0,");
+}
+
+#[test]
+fn lengths_of_a_run_judged_otherwise() {
+    let accepted = "the port accepts; the model says Refusal { number: 11, place: 0 }";
+    let refused = "the port says Refusal { number: 11, place: 0 }; the model accepts";
+    // what is short is taken for long enough
+    let setpoint: RunTowards = |c, a, p, v, n, s| {
+        let short = a.len() >= c.pos_dim && a.len() < c.dim && c.dim <= MAX_D;
+        let padded = [a, &[0.0; MAX_D][..if short { c.dim - a.len() } else { 0 }]].concat();
+        brake::run_towards(c, &padded, p, v, n, s)
+    };
+    runs_found(setpoint, accepted, "dim: 2");
+    let to_pos_dim: RunTowards = |c, a, p, v, n, s| match asked(c, a, p, v, n, s) {
+        Ok(_) | Err(Refusal { number: 12 | 13, .. }) if a.len() < c.pos_dim => Err(Refusal { number: 11, place: 0 }),
+        _ => brake::run_towards(c, a, p, v, n, s),
+    };
+    runs_found(to_pos_dim, refused, "pos_dim: 2");
+    let to_dim: RunTowards = |c, a, p, v, n, s| match asked(c, a, p, v, n, s) {
+        Ok(_) | Err(Refusal { number: 12 | 13, .. }) if p.len() < c.dim => Err(Refusal { number: 11, place: 0 }),
+        _ => brake::run_towards(c, a, p, v, n, s),
+    };
+    runs_found(to_dim, refused, "dim: 2");
+    let fewer: RunTowards = |c, a, p, v, n, s| brake::run_towards(c, a, p, v, n.min(s.len()), s);
+    runs_found(fewer, accepted, "n: 1,");
+    let one_more: RunTowards = |c, a, p, v, n, s| match asked(c, a, p, v, n, s) {
+        Ok(_) if s.len() == n => Err(Refusal { number: 11, place: 0 }),
+        _ => brake::run_towards(c, a, p, v, n, s),
+    };
+    runs_found(one_more, refused, "n: 0, slacks: []");
+    let bounded: RunTowards = |c, a, p, v, n, s| match model::envelope::derive(c) {
+        Ok(_) if n > model::MAX_SUBSTEPS => Err(Refusal { number: 3, place: 0 }),
+        _ => brake::run_towards(c, a, p, v, n, s),
+    };
+    runs_found(bounded, "the port says Refusal { number: 3, place: 0 }", "n: 4097,");
+}
+
+#[test]
+fn numbers_of_a_run_that_are_not_judged() {
+    let accepted = "the port accepts; the model says Refusal { number: 12, place: 0 }";
+    // what is not read counts, too
+    let unread: RunTowards = |c, a, p, v, n, s| {
+        let live = c.dim.min(c.pos_dim);
+        let read = |x: &[f64]| x.iter().enumerate().map(|(k, x)| if k < live { *x } else { 0.0 }).collect::<Vec<_>>();
+        let (mut q, mut w) = (read(p), read(v));
+        let r = brake::run_towards(c, &read(a), &mut q, &mut w, n, s)?;
+        for (k, (q, w)) in q.into_iter().zip(w).enumerate().take(live) {
+            (p[k], v[k]) = (q, w);
+        }
+        Ok(r)
+    };
+    runs_found(unread, accepted, "n: 0,");
+    let to_dim: RunTowards = |c, a, p, v, n, s| brake::run_towards(c, &a[..a.len().min(c.dim)], p, v, n, s);
+    runs_found(to_dim, accepted, "n: 0,");
+    let none: RunTowards = |c, a, p, v, n, s| match brake::run_towards(c, a, p, v, n, s) {
+        Err(Refusal { number: 12, .. }) if n == 0 => Ok(Ran { count: 0, margin: f64::INFINITY }),
+        said => said,
+    };
+    runs_found(none, accepted, "n: 0,");
+    let entries: RunTowards = |c, a, p, v, n, s| match asked(c, a, p, v, n, s) {
+        Ok(_) if s.iter().any(|x| !x.is_finite()) => Err(Refusal { number: 12, place: 0 }),
+        _ => brake::run_towards(c, a, p, v, n, s),
+    };
+    runs_found(entries, "the port says Refusal { number: 12, place: 0 }; the model accepts", "n: 0,");
+}
+
+#[test]
+fn a_place_of_a_run_off_by_one() {
+    let early: RunTowards = |c, a, p, v, n, s| {
+        brake::run_towards(c, a, p, v, n, s).map_err(|r| Refusal { place: r.place.saturating_sub(1), ..r })
+    };
+    runs_found(
+        early,
+        "the port says Refusal { number: 13, place: ",
+        "place: 1 }; the model says Refusal { number: 13, place: 2 }",
+    );
+    // counted from the end, and every place as the first
+    let back: RunTowards = |c, a, p, v, n, s| {
+        let turned = |r: Refusal| Refusal { place: if r.number == 13 { n + 1 - r.place } else { 0 }, ..r };
+        brake::run_towards(c, a, p, v, n, s).map_err(turned)
+    };
+    runs_found(back, "the port says Refusal { number: 13, place: ", "n: 3,");
+    let first: RunTowards =
+        |c, a, p, v, n, s| brake::run_towards(c, a, p, v, n, s).map_err(|r| Refusal { place: r.place.min(1), ..r });
+    runs_found(first, "place: 1 }; the model says Refusal { number: 13, place: ", "n: 2,");
+}
+
+#[test]
+fn a_run_that_writes_too_much() {
+    let past: RunTowards = |c, a, p, v, n, s| {
+        let r = brake::run_towards(c, a, p, v, n, s)?;
+        s[n..].iter_mut().for_each(|x| *x = 0.0);
+        Ok(r)
+    };
+    runs_found(past, OTHER_ROW, "n: 0,");
+    // where it refuses: the plant before the place, its position alone, the entry at the place
+    let plant: RunTowards = |c, a, p, v, n, s| {
+        brake::run_towards(c, a, p, v, n, s).inspect_err(|r| {
+            if r.number == 13 {
+                _ = brake::run_towards(c, a, p, v, r.place - 1, s);
+            }
+        })
+    };
+    runs_found(plant, TOUCHED, "n: 2,");
+    let position: RunTowards = |c, a, p, v, n, s| {
+        brake::run_towards(c, a, p, v, n, s).inspect_err(|r| {
+            if r.number == 13 {
+                _ = brake::run_towards(c, a, p, &mut v.to_vec(), r.place - 1, s);
+            }
+        })
+    };
+    runs_found(position, TOUCHED, "n: 2,");
+    let entry: RunTowards = |c, a, p, v, n, s| {
+        brake::run_towards(c, a, p, v, n, s).inspect_err(|r| {
+            if r.number == 13 {
+                s[r.place - 1] = 0.5;
+            }
+        })
+    };
+    runs_found(entry, TOUCHED, "n: 2,");
+    // every axis of the position, by a setpoint of 0 where there is none
+    let all: RunTowards = |c, a, p, v, n, s| {
+        let wide = FuseConfig { dim: c.pos_dim.max(c.dim), norm_center: [0.0; 8], norm_scale: [1.0; 8], ..*c };
+        let (setpoint, mut q, mut w) = ([a, &[0.0; MAX_D]].concat(), p.to_vec(), v.to_vec());
+        let moved = brake::run_towards(&wide, &setpoint, &mut q, &mut w, n, &mut s.to_vec());
+        let r = brake::run_towards(c, a, p, v, n, s)?;
+        if moved.is_ok() {
+            p.copy_from_slice(&q);
+            v.copy_from_slice(&w);
+        }
+        Ok(r)
+    };
+    runs_found(all, OTHER_ROW, "pos_dim: 2");
+}
+
+#[test]
+fn a_run_that_writes_too_little() {
+    // a 13 that leaves no entry
+    let nothing: RunTowards = |c, a, p, v, n, s| {
+        let mut seen = s.to_vec();
+        let r = brake::run_towards(c, a, p, v, n, &mut seen)?;
+        s.copy_from_slice(&seen);
+        Ok(r)
+    };
+    runs_found(nothing, TOUCHED, "n: 2,");
+    // a last entry that is the first
+    let padded: RunTowards = |c, a, p, v, n, s| {
+        let r = brake::run_towards(c, a, p, v, n, s)?;
+        if let [first, .., last] = &mut s[..n] {
+            *last = *first;
+        }
+        Ok(r)
+    };
+    runs_found(padded, OTHER_ROW, "n: 2,");
+}
+
+#[test]
+fn a_run_of_other_substeps() {
+    // the setpoint moved inside first, as the forecast has it
+    let moved: RunTowards = |c, a, p, v, n, s| {
+        let mut inside = a.to_vec();
+        if let Ok(d) = model::envelope::derive(c) {
+            if a.len() >= c.dim && a.iter().all(|x| x.is_finite()) {
+                _ = model::workspace::move_inside(c, &d, c.dim.min(c.pos_dim), &mut inside);
+            }
+        }
+        brake::run_towards(c, &inside, p, v, n, s)
+    };
+    run_found("run_towards", moved, &["n: 1,"]);
+    run_found("run_towards on a round table", moved, &["n: 1,"]);
+    // one more than was asked, where there is room
+    let more: RunTowards = |c, a, p, v, n, s| {
+        let room = s.len() > n && asked(c, a, p, v, n + 1, s).is_ok();
+        brake::run_towards(c, a, p, v, n + room as usize, s)
+    };
+    runs_found(more, OTHER_RUN, "n: 0,");
+    // a control step for each substep
+    let control: RunTowards = run_with!(|c| c.brake.dt *= c.brake.substeps.clamp(1, 64) as f64);
+    run_found("run_towards", control, &["substeps: 2", "n: 1,"]);
+    // a stop distance counts
+    let stop: RunTowards = |c, a, p, v, n, s| {
+        let (mut q, mut w, live) = (p.to_vec(), v.to_vec(), shared(c));
+        let r = brake::run_towards(c, a, &mut q, &mut w, n, s)?;
+        fmath::dist(&q[..live], &p[..live], live).map_err(|_| Refusal { number: 13, place: n + 1 })?;
+        p.copy_from_slice(&q);
+        v.copy_from_slice(&w);
+        Ok(r)
+    };
+    run_found("run_towards", stop, &["the port says Refusal { number: 13, place: 2 }; the model accepts", "n: 1,"]);
+}
+
+/// The whole configuration is judged, also what no substep reads.
+#[test]
+fn a_configuration_of_a_run_that_is_not_judged() {
+    let runs: [(RunTowards, &str); 3] = [
+        (run_with!(|c| c.norm_scale = [1.0; 8]), "norm_scale[0] as NaN: 2 is due, the port's run_towards gives 0"),
+        (run_with!(|c| c.calibrated = false), "mask as 4096: 1 is due, the port's run_towards gives 0"),
+        (run_with!(|c| c.zones = Zones::NONE), "contact v_max as 0.0: 2 is due, the port's run_towards gives 0"),
+    ];
+    for (run, row) in runs {
+        let text = edges::check(&Port { run_towards: Some(run), ..Port::default() }).expect_err(row);
+        assert!(text.contains(row) && !text.contains("the model's"), "{row} is not among {text}");
+        runs_found(run, "; the model says Refusal { number: ", "n: 0,");
+    }
+}
+
+/// A slack that is not finite is passed over: the walls at the ends of the format are drawn in.
+#[test]
+fn a_slack_of_a_run_that_is_not_judged() {
+    let passed: RunTowards = |c, a, p, v, n, s| {
+        let mut near = *c;
+        (near.box_lo, near.box_hi, near.margin) = ([-1.0; 8], [1.0; 8], 0.0);
+        near.shape.disc = false;
+        match asked(c, a, p, v, n, s) {
+            Err(Refusal { number: 13, .. }) => brake::run_towards(&near, a, p, v, n, s),
+            _ => brake::run_towards(c, a, p, v, n, s),
+        }
+    };
+    let accepted = "the port accepts; the model says Refusal { number: 13, place: ";
+    run_found("run_towards", passed, &[accepted, "box_hi: [1.7976931348623157e308"]);
+    run_found("run_towards on a round table", passed, &[accepted, "disc: true"]);
 }
 
 fn steps_first(cfg: &FuseConfig) -> Result<model::Derived, Refusal> {

@@ -456,6 +456,26 @@ fn a_box_move_that_is_taken_back() {
     assert_eq!((model.clamped_dims, model.low_dims, model.high_dims, out), (0, 0, 1, [2.0]));
 }
 
+/// One axis in a box of 0..0, with damping alone. The Rust has the substep in a forecast of one row, and there the stop distance, too, which a run
+/// does not compute.
+#[test]
+fn a_run_under_one_setpoint() {
+    let mut cfg = FuseConfig { absent_camera: AbsentCamera::NoZone, ..FuseConfig::PLAIN };
+    cfg.brake.k_p = 0.0;
+    let (mut p, mut v, mut slacks) = ([0.0], [1.0], [7.0; 2]);
+    let rust = oracle::run_towards_a_row(&cfg, &[0.0], &p, &v, 1);
+    let model = brake::run_towards(&cfg, &[0.0], &mut p, &mut v, 1, &mut slacks);
+    assert_eq!((model, p, v, slacks), (Ok(Ran { count: 1, margin: 0.0 }), [0.0], [0.0], [0.0, 7.0]));
+    assert_eq!((rust.answer, rust.slacks, rust.place), (Ran { count: 1, margin: 0.0 }, vec![0.0], None));
+
+    (cfg.brake.dt, cfg.brake.commit) = (2.0, 1);
+    let (p, v) = ([0.0], [-1e291]);
+    let (_, _, place) = oracle::brake_feasible(&cfg, &p, &v, rows(1, &[0.0]), 0);
+    let forecast = brake::brake_feasible(&cfg, &p, &v, rows(1, &[0.0]), 0, &mut slacks);
+    assert_eq!((place, forecast), (Some(2), refused_at(13, 2)));
+    assert!(brake::run_towards(&cfg, &[0.0], &mut p.clone(), &mut v.clone(), 1, &mut slacks).is_ok());
+}
+
 #[test]
 fn a_zero_on_a_zero_limit() {
     let signs = |clamp: fn(f64, f64, f64) -> f64| {

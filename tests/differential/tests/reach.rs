@@ -1,11 +1,11 @@
 //! The generators reach what matters: every trip on its limit and off it, every side of a wall and of clamp, every way in which a zone is not
-//! seen, every zone of several that decides alone, every way on and beside a round table, every last command of a gripper, every kind, every
-//! place of 13, and 15 and 17 at every entry.
+//! seen, every zone of several that decides alone, every way on and beside a round table, every last command of a gripper, every length and
+//! every place of a run, every kind, every place of 13, and 15 and 17 at every entry.
 
 use std::collections::BTreeMap;
 
 use differential::{
-    entries::{brake, conformal, envelope, fmath, tier0, tier1},
+    entries::{brake, conformal, envelope, fmath, tier0, tier1, towards},
     port::Port,
     run::Entry,
 };
@@ -1040,6 +1040,134 @@ fn the_forecast() {
     met.all(kinds.iter().flat_map(|k| actions.iter().map(move |a| format!("{k} {a}"))));
 }
 
+/// The slices of a run, by what it reads of them and by their least length.
+const LENT: [&str; 4] = ["setpoint", "position", "velocity", "entries"];
+
+/// Of a run that is refused with 11 or 12: which slice is short alone and by how much, and where the number that is not finite stands.
+fn note_unfit(met: &mut Met, name: &str, i: &towards::RunIn, number: u8) {
+    let FuseConfig { dim, pos_dim, .. } = i.cfg;
+    let lent = [(&i.setpoint, dim), (&i.p, pos_dim), (&i.v, pos_dim), (&i.slacks, i.n)];
+    let short: Vec<usize> = (0..4).filter(|k| lent[*k].0.len() < lent[*k].1).collect();
+    match (number, &short[..]) {
+        (11, [k]) => {
+            let by_one = lent[*k].0.len() + 1 == lent[*k].1;
+            met.note(format!("{name} 11 by the {} alone, by one {by_one}", LENT[*k]));
+        }
+        (12, _) => {
+            for (k, (slice, least)) in lent.into_iter().enumerate().take(3) {
+                for at in (0..slice.len()).filter(|at| !slice[*at].is_finite()) {
+                    let place = match at {
+                        at if at < i.live() => "on a live axis",
+                        at if at < least => "past the live axes",
+                        _ => "past its least length",
+                    };
+                    met.note(format!("{name} 12 in the {} {place}", LENT[k]));
+                }
+            }
+        }
+        _ => (),
+    }
+}
+
+/// What a run is: its sizes, kind and substeps, what it is lent past those, and where 13 is, by the plant or by the slack.
+fn note_run(met: &mut Met, name: &str, i: &towards::RunIn) -> u8 {
+    let (mut p, mut v, mut slacks) = (i.p.clone(), i.v.clone(), i.slacks.clone());
+    let answer = model::brake::run_towards(&i.cfg, &i.setpoint, &mut p, &mut v, i.n, &mut slacks);
+    let number = answer.map_or_else(|r| r.number, |_| 0);
+    met.note(format!("{name} number {number}"));
+    note_unfit(met, name, i, number);
+    match answer {
+        Ok(r) => {
+            met.note(format!("{name} {:?}", i.cfg.brake.kind));
+            met.note(format!("{name} {}", to_pos_dim(&i.cfg)));
+            let n = [(i.n == 0, "none"), (i.n > 4096, "more than a forecast's"), (true, "some")];
+            let many = n.into_iter().find(|(is, _)| *is).map_or("", |(_, many)| many);
+            met.note(format!("{name} substeps {many}, entries past them {}", slacks.len() > i.n));
+            for (lent, least) in [(&i.setpoint, i.cfg.dim), (&i.p, i.cfg.pos_dim), (&i.v, i.cfg.pos_dim)] {
+                met.note(format!("{name} past its least length {}", lent.len() > least));
+            }
+            if i.n > 0 {
+                met.note(format!("{name} margin {}", if r.margin == 0.0 { "0" } else { "of another number" }));
+                met.note(format!("{name} margin is the last slack {}", r.margin == slacks[i.n - 1]));
+                met.note(format!("{name} margin below 0 {}", r.margin < 0.0));
+                let zero = |x: f64| slacks[..i.n].iter().any(|s| s.to_bits() == x.to_bits());
+                met.note(format!("{name} slacks of both zeros {}", zero(0.0) && zero(-0.0)));
+            }
+        }
+        Err(Refusal { number: 13, place }) => {
+            let at = [(place == 1, "first"), (place == i.n, "last"), (true, "between")];
+            let at = at.into_iter().find(|(is, _)| *is).map_or("", |(_, at)| at);
+            met.note(format!("{name} 13 {at}"));
+            met.note(format!("{name} 13 {:?}", i.cfg.brake.kind));
+            // walls and radius from which a slack is finite, so that what is left is the plant's
+            let mut near = i.cfg;
+            (near.box_lo, near.box_hi, near.margin) = ([-1.0; 8], [1.0; 8], 0.0);
+            near.shape.disc = false;
+            let other = towards::RunIn { cfg: near, ..i.clone() }.answer(place);
+            met.note(format!("{name} 13 by the slack alone {}", other.is_ok()));
+        }
+        Err(_) => (),
+    }
+    number
+}
+
+/// What every entry of runs has to have met.
+fn every_run_is_met(met: &Met, name: &str) {
+    met.all([0, 1, 2, 3, 4, 11, 12, 13, 17].map(|number| format!("{name} number {number}")));
+    met.all(LENT.iter().flat_map(|k| [true, false].map(|one| format!("{name} 11 by the {k} alone, by one {one}"))));
+    let places = ["on a live axis", "past the live axes", "past its least length"];
+    met.all(LENT[..3].iter().flat_map(|k| places.map(|place| format!("{name} 12 in the {k} {place}"))));
+    met.all(differential::part::BRAKES.iter().flat_map(|k| [format!("{name} {k:?}"), format!("{name} 13 {k:?}")]));
+    met.all(["first", "between", "last"].map(|at| format!("{name} 13 {at}")));
+    let sizes = ["dim above pos_dim", "dim at pos_dim", "dim below pos_dim"];
+    met.all(sizes.map(|size| format!("{name} {size}")));
+    let substeps = ["none", "some", "more than a forecast's"];
+    met.all(
+        substeps
+            .iter()
+            .flat_map(|n| [true, false].map(|past| format!("{name} substeps {n}, entries past them {past}"))),
+    );
+    let told = ["past its least length", "margin is the last slack", "margin below 0", "13 by the slack alone"];
+    met.all(told.iter().flat_map(|case| [true, false].map(|is| format!("{name} {case} {is}"))));
+    met.all(["0", "of another number"].map(|margin| format!("{name} margin {margin}")));
+}
+
+#[test]
+fn the_runs() {
+    let (port, mut met) = (Port::default(), Met::new());
+    let entries = [
+        towards::run_towards(&port),
+        towards::run_towards_the_start(&port),
+        towards::run_towards_on_a_round_table(&port),
+    ];
+    for entry in &entries {
+        for call in 0..CALLS * 3 {
+            let i = entry.input(1, call);
+            let number = note_run(&mut met, entry.name, &i);
+            let disc = if i.cfg.shape.disc { "disc" } else { "box" };
+            note_rust(&mut met, entry, &i, disc);
+            note_shape(&mut met, entry.name, &i.cfg, number);
+            if i.cfg.shape.disc && number == 0 && i.n > 0 {
+                met.note(format!("a run from {}", to_the_edge(&i.cfg.shape, &i.p)));
+                met.note(format!("a run towards {}", to_the_edge(&i.cfg.shape, &i.setpoint)));
+            }
+        }
+        every_run_is_met(&met, entry.name);
+    }
+    let [row, start, table] = entries.map(|entry| entry.name);
+    met.all([true, false].map(|both| format!("{row} slacks of both zeros {both}")));
+    met.all([0, 13].map(|number| format!("{row} box {number}, Rust asked true")));
+    met.all([0, 13].map(|number| format!("{start} box {number}, Rust asked true")));
+    met.all([0, 13].map(|number| format!("{table} box {number}, Rust asked true")));
+    met.all([0, 13].map(|number| format!("{table} disc {number}, Rust asked false")));
+    let never = |words: [&str; 2]| !met.0.keys().any(|case| words.iter().all(|w| case.contains(w)));
+    assert!(never(["disc", "Rust asked true"]) && never([&format!("{row} box"), "Rust asked false"]));
+    every_shape_is_met(&met, table);
+    let places =
+        ["at the centre", "on the edge", "a step beyond the edge", "a step inside the edge", "beyond", "inside"];
+    met.all(places.iter().flat_map(|place| [format!("a run from {place}"), format!("a run towards {place}")]));
+}
+
 #[test]
 fn the_features() {
     let entry = tier1::features(&Port::default());
@@ -1107,10 +1235,19 @@ fn calibrations_that_name_stall() {
     note_stall(&mut met, tier0::check_action(&port), |i| of(&i.cfg));
     note_stall(&mut met, tier1::features(&port), |i| of(&i.cfg));
     note_stall(&mut met, brake::brake_feasible(&port), |i| of(&i.cfg));
+    note_stall(&mut met, towards::run_towards(&port), |i| of(&i.cfg));
     note_stall(&mut met, brake::brake_action(&port), |i| of(&i.cfg));
     note_stall(&mut met, brake::hold_action(&port), |i| of(&i.cfg));
-    let configured =
-        ["derive", "check_chunk", "check_action", "features", "brake_feasible", "brake_action", "hold_action"];
+    let configured = [
+        "derive",
+        "check_chunk",
+        "check_action",
+        "features",
+        "brake_feasible",
+        "run_towards",
+        "brake_action",
+        "hold_action",
+    ];
     met.all(configured.map(|name| format!("{name} 4 before 17")));
     note_stall(&mut met, conformal::standardise(&port), |i| Some(&i.cal));
     note_stall(&mut met, conformal::aggregate(&port), |i| Some(&i.cal));

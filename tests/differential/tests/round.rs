@@ -2,7 +2,7 @@
 //! inputs in which what a shape does not read is anything.
 
 use differential::{
-    entries::{brake as forecasts, envelope as derived, tier0 as checks},
+    entries::{brake as forecasts, envelope as derived, tier0 as checks, towards},
     exported, linked,
     port::Port,
     run::Entry,
@@ -453,6 +453,7 @@ fn what_a_shape_does_not_read() {
     held_to_the_model(checks::check_chunk_on_a_round_table, |i| &mut i.cfg);
     held_to_the_model(checks::check_action_on_a_round_table, |i| &mut i.cfg);
     held_to_the_model(forecasts::brake_feasible_on_a_round_table, |i| &mut i.cfg);
+    held_to_the_model(towards::run_towards_on_a_round_table, |i| &mut i.cfg);
     held_to_the_model(forecasts::brake_action_on_a_round_table, |i| &mut i.cfg);
     held_to_the_model(forecasts::hold_action_on_a_round_table, |i| &mut i.cfg);
 }

@@ -12,6 +12,24 @@ extern "C" {
         scale: &[f64; 192],
         derived: &mut [f64; 29],
     ) -> u64;
+    fn lictor_run_towards(
+        numbers: &[f64; 53],
+        counts: &[u64; 35],
+        center: &[f64; 192],
+        scale: &[f64; 192],
+        setpoint: *const f64,
+        setpoint_len: usize,
+        pos: *mut f64,
+        pos_len: usize,
+        vel: *mut f64,
+        vel_len: usize,
+        n: usize,
+        slacks: *mut f64,
+        slacks_len: usize,
+        count: &mut u64,
+        margin: &mut f64,
+        place: &mut u64,
+    ) -> u64;
     fn lictor_tier1_reset(
         before: &mut [f64; 512],
         header: &mut [u64; 6],
@@ -67,6 +85,41 @@ fn seen(numbers: &[u8], due: &[u8]) {
     }
 }
 
+/// The number of a run of two substeps. What it refuses leaves every place as it was but that of the place, which is 0 for a number of the table and
+/// stays for 255.
+fn run_of_two(numbers: &[f64; 53], c: &[u64; 35]) -> u64 {
+    let (setpoint, mut pos, mut vel, mut slacks) = ([1.0; 8], [0.0; 8], [0.5; 8], [7.0; 3]);
+    let (mut count, mut margin, mut place) = (7, 7.0, 7);
+    // SAFETY: the arrays are as long as include/lictor.h says, the slices are lent with their lengths, and each stands by itself.
+    let number = unsafe {
+        lictor_run_towards(
+            numbers,
+            c,
+            &[0.0; 192],
+            &[1.0; 192],
+            setpoint.as_ptr(),
+            8,
+            pos.as_mut_ptr(),
+            8,
+            vel.as_mut_ptr(),
+            8,
+            2,
+            slacks.as_mut_ptr(),
+            3,
+            &mut count,
+            &mut margin,
+            &mut place,
+        )
+    };
+    let kept = (pos, vel, slacks, margin) == ([0.0; 8], [0.5; 8], [7.0; 3], 7.0);
+    match number {
+        0 => assert!((count, place, slacks[2]) == (2, 7, 7.0) && !kept, "{c:?}"),
+        255 => assert!((count, place) == (7, 7) && kept, "{c:?}"),
+        _ => assert!((count, place) == (7, 0) && kept, "{c:?}"),
+    }
+    number
+}
+
 #[test]
 fn counts_of_any_width_are_refused_as_the_table_has_them() {
     assert!(lictor::environment_ok());
@@ -98,6 +151,7 @@ fn counts_of_any_width_are_refused_as_the_table_has_them() {
         let number = unsafe { lictor_derive(&numbers, &c, &[0.0; 192], &[1.0; 192], &mut derived) };
         assert_eq!(number, boundary::counts(&c) as u64, "{c:?}");
         assert_eq!(number != 0, derived == [7.0; 29], "{c:?}");
+        assert_eq!(number, run_of_two(&numbers, &c), "{c:?}");
         given.push(number as u8);
         by_zones[c[5].min(5) as usize].push(number as u8);
         by_shape[c[33].min(2) as usize].push(number as u8);

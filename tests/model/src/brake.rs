@@ -6,7 +6,8 @@ use crate::{
     envelope::{self, derive},
     fmath::{max, min},
     refusal::{first, judged, not_finite, shorter, when, COMPUTED, SHORT, WIDTH},
-    workspace, ActionKind, BrakeKind, BrakeOut, ChunkView, Derived, FuseConfig, Gripper, Refusal, WallMarks, MAX_POS,
+    workspace, ActionKind, BrakeKind, BrakeOut, ChunkView, Derived, FuseConfig, Gripper, Ran, Refusal, WallMarks,
+    MAX_POS,
 };
 
 const EPS: f64 = 1e-9;
@@ -17,6 +18,17 @@ struct Plant {
     p: [f64; MAX_POS],
     v: [f64; MAX_POS],
     n: usize,
+}
+
+impl Plant {
+    /// The plant that stands at p and moves with v.
+    fn at(cfg: &FuseConfig, p: &[f64], v: &[f64]) -> Self {
+        let n = cfg.dim.min(cfg.pos_dim);
+        let mut plant = Plant { p: [0.0; MAX_POS], v: [0.0; MAX_POS], n };
+        plant.p[..n].copy_from_slice(&p[..n]);
+        plant.v[..n].copy_from_slice(&v[..n]);
+        plant
+    }
 }
 
 /// Committed rows from..commit.
@@ -52,18 +64,44 @@ pub fn brake_feasible(
         not_finite(ch.data),
     ])?;
     let derived = derive(cfg)?;
-    let n = cfg.dim.min(cfg.pos_dim);
-    let mut plant = Plant { p: [0.0; MAX_POS], v: [0.0; MAX_POS], n };
-    plant.p[..n].copy_from_slice(&p0[..n]);
-    plant.v[..n].copy_from_slice(&v0[..n]);
+    let plant = Plant::at(cfg, p0, v0);
     let mut list = List { slacks, count: 0 };
     let done = match cfg.brake.kind {
         BrakeKind::PdSecondOrder => second_order(cfg, &derived, plant, &ch, from, &mut list, p0),
         _ => closed(cfg, &derived, plant, &ch, from, &mut list, p0),
     };
-    let stop_dist = done.map_err(|NotFinite| Refusal { number: COMPUTED, place: list.count + 1 })?;
-    let margin = list.slacks[..list.count].iter().fold(f64::INFINITY, |m, s| min(m, *s));
+    let stop_dist = done.map_err(|NotFinite| list.refusal())?;
+    let margin = list.margin();
     Ok(BrakeOut { count: list.count, feasible: margin >= 0.0, margin, stop_dist })
+}
+
+/// n substeps under one setpoint from a plant, with the gains of whatever brake is configured; the plant that is reached is written over the live
+/// axes of the given one. No setpoint is made here, and no stop distance.
+pub fn run_towards(
+    cfg: &FuseConfig,
+    setpoint: &[f64],
+    p: &mut [f64],
+    v: &mut [f64],
+    n: usize,
+    slacks: &mut [f64],
+) -> Result<Ran, Refusal> {
+    judged(&[
+        envelope::judge(cfg),
+        shorter(setpoint, cfg.dim),
+        shorter(p, cfg.pos_dim),
+        shorter(v, cfg.pos_dim),
+        shorter(slacks, n),
+        not_finite(setpoint),
+        not_finite(p),
+        not_finite(v),
+    ])?;
+    let derived = derive(cfg)?;
+    let mut list = List { slacks, count: 0 };
+    let plant = run(cfg, &derived, Plant::at(cfg, p, v), setpoint, n, &mut list);
+    let plant = plant.map_err(|NotFinite| list.refusal())?;
+    p[..plant.n].copy_from_slice(&plant.p[..plant.n]);
+    v[..plant.n].copy_from_slice(&plant.v[..plant.n]);
+    Ok(Ran { count: list.count, margin: list.margin() })
 }
 
 /// The lent entries and how many of them are written. What fails next has the place after those.
@@ -76,6 +114,16 @@ impl List<'_> {
     fn write(&mut self, slack: f64) {
         self.slacks[self.count] = slack;
         self.count += 1;
+    }
+
+    /// 13 at the place of what has failed.
+    fn refusal(&self) -> Refusal {
+        Refusal { number: COMPUTED, place: self.count + 1 }
+    }
+
+    /// The least of what is written, infinity for none.
+    fn margin(&self) -> f64 {
+        self.slacks[..self.count].iter().fold(f64::INFINITY, |m, s| min(m, *s))
     }
 }
 
@@ -91,7 +139,23 @@ fn substep(cfg: &FuseConfig, plant: &Plant, a: &[f64]) -> Result<Plant, NotFinit
     Ok(next)
 }
 
-/// The second-order kind: writes a slack after each substep and gives the stop distance. The setpoint is made whatever the braking steps are,
+/// n substeps under one setpoint, with a slack written after each; gives the plant that is reached.
+fn run(
+    cfg: &FuseConfig,
+    derived: &Derived,
+    mut plant: Plant,
+    setpoint: &[f64],
+    n: usize,
+    list: &mut List<'_>,
+) -> Result<Plant, NotFinite> {
+    for _ in 0..n {
+        plant = substep(cfg, &plant, setpoint)?;
+        list.write(workspace::slack(cfg, derived, plant.n, &plant.p)?);
+    }
+    Ok(plant)
+}
+
+/// The second-order kind: a run towards each row and then one towards the setpoint; gives the stop distance. The setpoint is made whatever the braking steps are,
 /// so that what is not finite in it has the place of the first substep after the rows.
 fn second_order(
     cfg: &FuseConfig,
@@ -102,21 +166,13 @@ fn second_order(
     list: &mut List<'_>,
     p0: &[f64],
 ) -> Checked {
-    let slack = |plant: &Plant| workspace::slack(cfg, derived, plant.n, &plant.p);
+    let substeps = cfg.brake.substeps as usize;
     for i in from..from + rows_of(cfg, from) {
-        for _ in 0..cfg.brake.substeps {
-            plant = substep(cfg, &plant, action(ch, i))?;
-            list.write(slack(&plant)?);
-        }
+        plant = run(cfg, derived, plant, action(ch, i), substeps, list)?;
     }
     let mut setpoint = plant.p;
     workspace::move_inside(cfg, derived, plant.n, &mut setpoint)?;
-    for _ in 0..cfg.brake.brake_steps {
-        for _ in 0..cfg.brake.substeps {
-            plant = substep(cfg, &plant, &setpoint)?;
-            list.write(slack(&plant)?);
-        }
-    }
+    plant = run(cfg, derived, plant, &setpoint, cfg.brake.brake_steps as usize * substeps, list)?;
     add(dist(&plant.p, p0, plant.n)?, 0.0)
 }
 

@@ -419,3 +419,10 @@ pub struct BrakeOut {
     pub margin: f64,
     pub stop_dist: f64,
 }
+
+/// What a run under one setpoint comes to: the substeps, and the least slack, which is infinite where there is none.
+#[derive(Clone, Copy, Debug, PartialEq)]
+pub struct Ran {
+    pub count: usize,
+    pub margin: f64,
+}

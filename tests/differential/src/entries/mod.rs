@@ -7,6 +7,7 @@ pub mod envelope;
 pub mod fmath;
 pub mod tier0;
 pub mod tier1;
+pub mod towards;
 pub mod window;
 
 use crate::{
@@ -19,6 +20,9 @@ pub fn all(port: &Port) -> Vec<Task> {
     let mut tasks = vec![
         brake::brake_feasible(port).task(),
         brake::brake_feasible_on_a_round_table(port).task(),
+        towards::run_towards(port).task(),
+        towards::run_towards_on_a_round_table(port).task(),
+        towards::run_towards_the_start(port).task(),
         tier0::check_chunk(port).task(),
         tier0::check_chunk_at_walls(port).task(),
         tier0::check_chunk_with_a_short_camera(port).task(),

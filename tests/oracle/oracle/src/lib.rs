@@ -9,11 +9,12 @@ use std::{cell::Cell, hint::black_box};
 
 use lictor_core::{ChunkError, ChunkView, ObsView};
 use lictor_detect::{brake, conformal, tier0, tier1, window};
-use lictor_watched::{flags, slacks_seen};
-use model::{BrakeOut, Calibration, ChunkBuf, FuseConfig, Scores, Tier1Rt, Trail};
+use lictor_watched::{flags, plant_reached, slacks_seen};
+use model::{BrakeKind, BrakeModel, BrakeOut, Calibration, ChunkBuf, FuseConfig, Ran, Scores, Tier1Rt, Trail};
 
 pub use carry::{calibration, chunk_view, config, derived, scores, tier1_rt};
 pub use compile::{compile, compile_calibrated, compile_with_ticks};
+pub use lictor_watched::Reached;
 
 /// The published items themselves.
 pub mod rust {
@@ -236,6 +237,33 @@ pub fn brake_feasible(
     let place = seen.iter().position(|s| s.raised).unwrap_or(seen.len()) + 1;
     let answer = BrakeOut { count: seen.len(), feasible: r.feasible, margin: r.margin, stop_dist: r.stop_dist };
     (answer, seen.iter().map(|s| s.slack).collect(), take_raised().then_some(place))
+}
+
+/// What the published forecast of the second-order kind shows of a run under one setpoint: count and margin, the slacks, the plant at the end, and
+/// the place of the first number that is not finite, its stop distance left out.
+pub struct RustRun {
+    pub answer: Ran,
+    pub slacks: Vec<f64>,
+    pub plant: Reached,
+    pub place: Option<usize>,
+}
+
+/// A row that is held for n substeps, with no braking step, is a run towards the row.
+pub fn run_towards_a_row(cfg: &FuseConfig, row: &[f64], p: &[f64], v: &[f64], n: u16) -> RustRun {
+    rust_run(cfg, row, p, v, BrakeModel { substeps: n, commit: 1, brake_steps: 0, ..cfg.brake })
+}
+
+/// n braking steps with no row left are a run towards the start moved inside.
+pub fn run_towards_the_start(cfg: &FuseConfig, row: &[f64], p: &[f64], v: &[f64], n: u16) -> RustRun {
+    rust_run(cfg, row, p, v, BrakeModel { substeps: 1, commit: 0, brake_steps: n, ..cfg.brake })
+}
+
+fn rust_run(cfg: &FuseConfig, row: &[f64], p: &[f64], v: &[f64], brake: BrakeModel) -> RustRun {
+    let cfg = FuseConfig { brake: BrakeModel { kind: BrakeKind::PdSecondOrder, ..brake }, ..*cfg };
+    let ch = model::ChunkView { seq: 0, t_emit: 0, horizon: 1, dim: cfg.dim as u16, exec_steps: 0, data: row };
+    let (r, slacks, place) = brake_feasible(&cfg, p, v, ch, 0);
+    let place = place.filter(|place| *place <= slacks.len());
+    RustRun { answer: Ran { count: r.count, margin: r.margin }, slacks, plant: plant_reached(), place }
 }
 
 pub fn brake_action(cfg: &FuseConfig, p: &[f64], v: &[f64], out: &mut [f64]) {
