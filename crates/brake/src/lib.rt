@@ -362,9 +362,9 @@ fn put_plant(end: Plant, n: usize, pos: &mut [f64], vel: &mut [f64])
 }
 
 // n substeps towards one setpoint from the given plant, with the gains of whatever brake is configured: the run that the second-order
-// brake's forecast makes towards each row and then towards its own setpoint. The slack entries are filled in order and the rest stays; the first
-// min(dim, pos_dim) numbers of position and velocity become the plant's. A computed number that isn't finite is refused with its place,
-// the entries before it being written; any other refusal, by the first number of the order that applies, writes nothing.
+// brake's forecast makes towards each row and then towards its own setpoint. The slack entries are filled in order and the rest stays;
+// the first min(dim, pos_dim) numbers of position and velocity become the plant's. A computed number that isn't finite is refused with
+// its place, the entries before it being written; any other refusal, by the first number of the order that applies, writes nothing.
 pub fn run_towards(
     c: FuseConfig,
     center: &[f64; 192],

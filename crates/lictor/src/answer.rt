@@ -1,4 +1,5 @@
-// Answers, put where C reads them: the number is returned, and a refusal leaves every place as it was, but for the place that a forecast or a run names.
+// Answers, put where C reads them: the number is returned, and a refusal leaves every place as it was, but for the place that a forecast
+// or a run names.
 ghost use mathlib.Core.Path.{_≡_};
 ghost use mathlib.Core.Bool.{true};
 ghost use Rattle.bits.specs.Choice.{if_then_else_};

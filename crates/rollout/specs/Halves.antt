@@ -1,4 +1,5 @@
--- Two halves make the whole (R7.19): m substeps under one setpoint, and n more from the plant that they lead to, are m + n substeps. What is promised of legs, over the format and over the slack, and of the forecast, which is made of legs. The proofs are `proofs/Halves.antt`.
+-- Two halves make the whole (R7.19): m substeps under one setpoint, and n more from the plant that they lead to, are m + n substeps. What is promised of legs, over the format and over the
+-- slack, and of the forecast, which is made of legs. The proofs are `proofs/Halves.antt`.
 use Prim.Native.Nat.{ℕ, suc, _+_, _*_, _≤_, _<_}
 use mathlib.Core.Path.{_≡_}
 use mathlib.Core.Bool.{true, false, not, _&&_}

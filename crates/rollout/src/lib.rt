@@ -1,4 +1,5 @@
-// Runs of substeps, each of which leaves its slack: towards one setpoint, and the second-order brake, which goes through the committed rows and then holds the braking setpoint.
+// Runs of substeps, each of which leaves its slack: towards one setpoint, and the second-order brake, which goes through the committed
+// rows and then holds the braking setpoint.
 ghost use mathlib.Core.Path.{_≡_};
 ghost use mathlib.Core.Bool.{true};
 ghost use mathlib.Core.List.{List};
