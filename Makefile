@@ -6,7 +6,7 @@ PREFIX ?= /usr/local
 help:
 	@echo 'make test              passes all tests, from nothing: half an hour on two cores'
 	@echo 'make check [CRATE=..]  proves one crate and what it stands on, or all, where they changed'
-	@echo 'make cards             runs the card programs on the shipped cards, of one axis and for all axes'
+	@echo 'make cards             runs the card program on the shipped cards'
 	@echo 'make lib               makes the static library for this machine, where something changed'
 	@echo 'make install PREFIX=.. installs library, header, and files for pkg-config and CMake; DESTDIR= goes in front'
 	@echo 'make bench             times the library against the published Rust'

@@ -2,15 +2,14 @@
  * control box calls them, and what it does at each refusal.
  *
  * There are two forms. An entry (lictor_check_chunk) is a function of the archive, on flat arrays. A guard form (lictor_guard_check_chunk, at
- * the end of this file) is the same entry on one struct for the configuration with its calibration, one for a chunk and one for a card, and
- * takes a null pointer for no numbers and for no bytes. What is said of an entry holds of its guard form.
+ * the end of this file) is the same entry on one struct for the configuration with its calibration and one for a chunk, and takes a
+ * null pointer for no numbers. What is said of an entry holds of its guard form.
  *
  * Every pointer is to memory of the caller's that nothing else writes during the call; what is written overlaps nothing
  * else that is passed, and no pointer is kept. A slice is a pointer to its first number and a count of numbers. To an entry the
- * pointer is not null and is aligned for a double also where the count is 0: pass LICTOR_NONE there. A pointer to bytes, with a count of
- * bytes, is not null either, and needs no alignment. An entry that can refuse returns the number of the refusal, 0 where it accepts; a
- * refusal leaves every output as it was, save that a forecast's or a run's sets its place and, with LICTOR_COMPUTED, keeps the entries
- * before it.
+ * pointer is not null and is aligned for a double also where the count is 0: pass LICTOR_NONE there. An entry that can refuse
+ * returns the number of the refusal, 0 where it accepts; a refusal leaves every output as it was, save that a forecast's or a run's sets
+ * its place and, with LICTOR_COMPUTED, keeps the entries before it.
  *
  * Threads: the library has no state of its own and calls nothing but memcpy, memmove and memset, so that any number of threads may be
  * in it at once, each with memory of its own.
@@ -33,15 +32,14 @@
 
 #include <stddef.h>
 #include <stdint.h>
-#include <string.h>
 
 /* ---- the version of this file, and so of the archive that it was installed with */
 
 #define LICTOR_VERSION_MAJOR 0
-#define LICTOR_VERSION_MINOR 10
+#define LICTOR_VERSION_MINOR 9
 #define LICTOR_VERSION_PATCH 0
-#define LICTOR_VERSION "0.10.0"
-/* for comparisons: LICTOR_VERSION_NUMBER >= 1000 is 0.10.0 or later */
+#define LICTOR_VERSION "0.9.0"
+/* for comparisons: LICTOR_VERSION_NUMBER >= 900 is 0.9.0 or later */
 #define LICTOR_VERSION_NUMBER (LICTOR_VERSION_MAJOR * 10000 + LICTOR_VERSION_MINOR * 100 + LICTOR_VERSION_PATCH)
 
 /* ---- what a compiler is told: a result that is dropped and a null pointer are mistakes */
@@ -83,9 +81,6 @@ enum lictor_refusal {
     LICTOR_ACCEPTED = 0,
     /* dim, pos_dim, zone count, term count, feature bit, window length, trail head or trail count is out of size */
     LICTOR_SIZE = 1,
-    /* a card for all axes, and a byte or an entry of it that is not in use isn't zero bits: of lictor_read_axes_card and
-       lictor_write_axes_card alone */
-    LICTOR_UNUSED = 16,
     /* a configuration number, or one derived from it, isn't finite or is out of its range */
     LICTOR_NUMBER = 2,
     /* substeps, commit, braking steps or horizon ticks are out of range */
@@ -105,7 +100,7 @@ enum lictor_refusal {
     LICTOR_LEN_MISMATCH = 9,
     /* a chunk's width differs from dim */
     LICTOR_WIDTH = 10,
-    /* a slice is too short, or the bytes of a card are fewer than its record; a last command under LICTOR_GRIPPER_LAST_COMMAND alone */
+    /* a slice is too short; a last command under LICTOR_GRIPPER_LAST_COMMAND alone */
     LICTOR_SHORT = 11,
     /* a number of an input slice, of a trail, of held features or of scores isn't finite; of a last command
        under LICTOR_GRIPPER_LAST_COMMAND alone */
@@ -123,7 +118,6 @@ static inline const char *lictor_refusal_text(uint64_t number) {
     switch (number) {
     case LICTOR_ACCEPTED: return "accepted";
     case LICTOR_SIZE: return "a dimension, zone count, term count, feature bit, window length or trail index is out of size";
-    case LICTOR_UNUSED: return "a byte or an entry of a card that is not in use is not zero";
     case LICTOR_NUMBER: return "a configuration number is not finite or out of its range";
     case LICTOR_STEPS: return "a count of steps or ticks is out of range";
     case LICTOR_CHANNELS: return "a zone's channels are equal, past the declared ones or another's pair";
@@ -414,7 +408,7 @@ struct lictor_check_marks {
    of a round table, under either clamp code. Writes the first horizon x dim numbers of out, the marks, and the greatest speed. Where none of
    LICTOR_TRIP_SPEED, LICTOR_TRIP_CONTACT, LICTOR_TRIP_WORKSPACE and LICTOR_TRIP_REACH is raised, these numbers are the rows bit for bit as they
    came, and of the marks only trips may have a bit: LICTOR_TRIP_ACCEL and LICTOR_TRIP_JERK move no row.
-   LICTOR_MISFIT, LICTOR_SIZE, LICTOR_NUMBER to LICTOR_COMPUTED. */
+   LICTOR_MISFIT, LICTOR_SIZE to LICTOR_COMPUTED. */
 LICTOR_MUST_USE LICTOR_NOT_NULL
 uint64_t lictor_check_chunk(const struct lictor_numbers *numbers, const struct lictor_counts *counts,
                             const double center[192], const double scale[192], const double *position,
@@ -424,7 +418,7 @@ uint64_t lictor_check_chunk(const struct lictor_numbers *numbers, const struct l
 
 /* Checks one action against the one before it, without LICTOR_TRIP_ACCEL and LICTOR_TRIP_JERK; aux and the position are read as by
    lictor_check_chunk. Writes the first dim numbers of out, the marks, and the speed. Where nothing is raised, these numbers are the action bit
-   for bit as it came, and the other marks are 0. LICTOR_MISFIT, LICTOR_SIZE, LICTOR_NUMBER to LICTOR_WITHDRAWN, LICTOR_SHORT to LICTOR_COMPUTED. */
+   for bit as it came, and the other marks are 0. LICTOR_MISFIT, LICTOR_SIZE to LICTOR_WITHDRAWN, LICTOR_SHORT to LICTOR_COMPUTED. */
 LICTOR_MUST_USE LICTOR_NOT_NULL
 uint64_t lictor_check_action(const struct lictor_numbers *numbers, const struct lictor_counts *counts,
                              const double center[192], const double scale[192], const double *position,
@@ -496,7 +490,7 @@ uint64_t lictor_tier1_reset(double before[512], struct lictor_chunk_header *head
 /* The features of a tick, in the scores' f and valid; f is 0 where not valid, and z, s and fired stay. Where there isn't 0, a
    chunk came (seq to rows_count): it replaces all held features, invalid ones too, and the chunk before; else what is said
    of a chunk isn't read. The trail is only read. A position may be short: what is missing isn't shared with the action. At most four
-   external scalars are read. LICTOR_MISFIT, LICTOR_SIZE, LICTOR_NUMBER to LICTOR_WIDTH, LICTOR_NOT_FINITE, LICTOR_COMPUTED. */
+   external scalars are read. LICTOR_MISFIT, LICTOR_SIZE to LICTOR_WIDTH, LICTOR_NOT_FINITE, LICTOR_COMPUTED. */
 LICTOR_MUST_USE LICTOR_NOT_NULL
 uint64_t lictor_features(const struct lictor_numbers *numbers, const struct lictor_counts *counts,
                          const double center[192], const double scale[192], double before[512],
@@ -555,7 +549,7 @@ struct lictor_forecast_distances {
    number that isn't finite, counted from 1, and the slacks before it are written; for any other number it is 0. The second-order brake
    holds the position that the rows leave, moved inside its workspace; on a round table that is computed also where brake_steps is 0, at the
    place of the first substep after the rows.
-   LICTOR_MISFIT leaves place as it was. LICTOR_MISFIT, LICTOR_SIZE, LICTOR_NUMBER to LICTOR_COMPUTED. */
+   LICTOR_MISFIT leaves place as it was. LICTOR_MISFIT, LICTOR_SIZE to LICTOR_COMPUTED. */
 LICTOR_MUST_USE LICTOR_NOT_NULL
 uint64_t lictor_brake_feasible(const struct lictor_numbers *numbers, const struct lictor_counts *counts,
                                const double center[192], const double scale[192], const double *position,
@@ -582,7 +576,7 @@ uint64_t lictor_brake_feasible(const struct lictor_numbers *numbers, const struc
    second); with the two swapped a zero's sign may differ. Where the first is refused with LICTOR_COMPUTED the whole is at the same place, and
    where the second is at place k the whole is at m + k. A forecast may not be split so across the point where its rows end: from further on
    lictor_brake_feasible makes another setpoint, of where the arm is then, and its slacks are others.
-   LICTOR_MISFIT, LICTOR_SIZE, LICTOR_NUMBER to LICTOR_WITHDRAWN, LICTOR_SHORT to LICTOR_COMPUTED. */
+   LICTOR_MISFIT, LICTOR_SIZE to LICTOR_WITHDRAWN, LICTOR_SHORT to LICTOR_COMPUTED. */
 LICTOR_MUST_USE LICTOR_NOT_NULL
 uint64_t lictor_run_towards(const struct lictor_numbers *numbers, const struct lictor_counts *counts,
                             const double center[192], const double scale[192], const double *setpoint,
@@ -604,7 +598,7 @@ struct lictor_wall_marks {
    for every kind, and also where dim is at most pos_dim, fewer than dim numbers are LICTOR_SHORT, and any that isn't finite, read or not,
    is LICTOR_NOT_FINITE. Under LICTOR_GRIPPER_TO_ZERO last is neither judged nor read: LICTOR_NONE with 0 may be passed. Under both, last and
    out may not overlap: a caller who keeps the last row in one buffer has the next one written to another, and copies it after the call.
-   LICTOR_MISFIT, LICTOR_SIZE, LICTOR_NUMBER to LICTOR_WITHDRAWN, LICTOR_SHORT to LICTOR_COMPUTED. */
+   LICTOR_MISFIT, LICTOR_SIZE to LICTOR_WITHDRAWN, LICTOR_SHORT to LICTOR_COMPUTED. */
 LICTOR_MUST_USE LICTOR_NOT_NULL
 uint64_t lictor_brake_action(const struct lictor_numbers *numbers, const struct lictor_counts *counts,
                              const double center[192], const double scale[192], const double *position,
@@ -617,112 +611,20 @@ uint64_t lictor_brake_action(const struct lictor_numbers *numbers, const struct 
    for every kind, and also where dim is at most pos_dim, fewer than dim numbers are LICTOR_SHORT, and any that isn't finite, read or not,
    is LICTOR_NOT_FINITE. Under LICTOR_GRIPPER_TO_ZERO last is neither judged nor read: LICTOR_NONE with 0 may be passed. Under both, last and
    out may not overlap: a caller who keeps the last row in one buffer has the next one written to another, and copies it after the call.
-   LICTOR_MISFIT, LICTOR_SIZE, LICTOR_NUMBER to LICTOR_WITHDRAWN, LICTOR_SHORT to LICTOR_COMPUTED. LICTOR_COMPUTED is for a position whose
-   distance from the centre of a round table, or what is computed to move it, isn't finite: at a box it is never given. */
+   LICTOR_MISFIT, LICTOR_SIZE to LICTOR_WITHDRAWN, LICTOR_SHORT to LICTOR_COMPUTED. LICTOR_COMPUTED is for a position whose distance from the
+   centre of a round table, or what is computed to move it, isn't finite: at a box it is never given. */
 LICTOR_MUST_USE LICTOR_NOT_NULL
 uint64_t lictor_hold_action(const struct lictor_numbers *numbers, const struct lictor_counts *counts,
                             const double center[192], const double scale[192], const double *position,
                             size_t position_count, const double *last, size_t last_count, double *out, size_t out_count,
                             struct lictor_wall_marks *walls);
 
-/* ---- cards: what the desk's forecast is asked, as a record of bytes, for one axis or for all
-
-   A card has the gains, the walls, a position, a velocity and the four rows of a forecast by the second-order brake. There are two sizes,
-   LICTOR_CARD_BYTES for one axis and LICTOR_AXES_CARD_BYTES for up to eight; the desk's programs are told by their names which of them they
-   read. A record has no header. It is the fields of the struct in their order, first all numbers and then all counts, each little-endian and with
-   nothing in between; a number is the 64 bits of a double.
-
-   A card keeps its numbers as these patterns. lictor_bits and lictor_number go from a double to its pattern and back; a NaN's pattern should stay
-   a pattern, since a processor may change its bits where it is handed on as a double.
-
-   Reader and writer check sizes and what is not in use, and nothing else: LICTOR_SIZE for a dim or a pos_dim of a card for all axes out of 1..8,
-   LICTOR_UNUSED for one of its entries past the axes in use, or for one of the four bytes at its end, that isn't zero bits (a zero with its sign
-   is not), and LICTOR_SHORT for fewer bytes than the record has. Whether gains, walls and counts are usable and numbers finite is the
-   forecast's to judge: a NaN, walls that cross and 0 substeps are read and written as they are. A card for one axis is refused with LICTOR_SHORT
-   alone, and all zeros is written as zero bytes; for all axes all zeros is LICTOR_SIZE.
-
-   A refusal writes nothing, neither of the card nor of the bytes, and bytes past the record stay. Reading what was written gives the same
-   bits, and writing what was read the same bytes, by a theorem. */
-
-#define LICTOR_CARD_BYTES 96
-#define LICTOR_AXES_CARD_BYTES 552
-
-struct lictor_card_numbers {
-    uint64_t k_p, k_v, dt; /* 0.. 2: the brake's, as brake_k_p, brake_k_v and brake_dt of a configuration */
-    uint64_t lo, hi, p, v; /* 3.. 6: the walls, the position and the velocity */
-    uint64_t row[4];       /* 7..10 */
-};
-
-struct lictor_card_counts {
-    uint16_t substeps, commit, brake_steps, from;
-};
-
-struct lictor_card {
-    struct lictor_card_numbers numbers;
-    struct lictor_card_counts counts;
-};
-
-/* Entries past the axes in use are zero bits: of lo, hi, p and v from pos_dim on, and of each row from dim on. */
-struct lictor_axes_numbers {
-    uint64_t k_p, k_v, dt;             /*  0.. 2 */
-    uint64_t lo[8], hi[8], p[8], v[8]; /*  3..34 */
-    uint64_t rows[4][8];               /* 35..66 */
-};
-
-struct lictor_axes_counts {
-    uint16_t substeps, commit, brake_steps, from;
-    uint16_t dim, pos_dim; /* 1..8: how many axes a row has, and the position */
-    uint16_t unused[2];    /* the four bytes at the end, which are zero */
-};
-
-struct lictor_axes_card {
-    struct lictor_axes_numbers numbers;
-    struct lictor_axes_counts counts;
-};
-
-/* The pattern of a number. */
-LICTOR_MUST_USE
-static inline uint64_t lictor_bits(double number) {
-    uint64_t bits;
-    memcpy(&bits, &number, sizeof bits);
-    return bits;
-}
-
-/* The number of a pattern. */
-LICTOR_MUST_USE
-static inline double lictor_number(uint64_t bits) {
-    double number;
-    memcpy(&number, &bits, sizeof number);
-    return number;
-}
-
-/* Reads a card for one axis from the first LICTOR_CARD_BYTES bytes. LICTOR_SHORT. */
-LICTOR_MUST_USE LICTOR_NOT_NULL
-uint64_t lictor_read_card(const uint8_t *bytes, size_t bytes_count, struct lictor_card_numbers *numbers,
-                          struct lictor_card_counts *counts);
-
-/* Writes it over the first LICTOR_CARD_BYTES bytes. LICTOR_SHORT. */
-LICTOR_MUST_USE LICTOR_NOT_NULL
-uint64_t lictor_write_card(const struct lictor_card_numbers *numbers, const struct lictor_card_counts *counts, uint8_t *bytes,
-                           size_t bytes_count);
-
-/* Reads a card for all axes from the first LICTOR_AXES_CARD_BYTES bytes. LICTOR_SIZE, LICTOR_UNUSED; of fewer bytes nothing is read, and it
-   is LICTOR_SHORT whatever they are. */
-LICTOR_MUST_USE LICTOR_NOT_NULL
-uint64_t lictor_read_axes_card(const uint8_t *bytes, size_t bytes_count, struct lictor_axes_numbers *numbers,
-                               struct lictor_axes_counts *counts);
-
-/* Writes it over the first LICTOR_AXES_CARD_BYTES bytes. LICTOR_SIZE, LICTOR_UNUSED, LICTOR_SHORT: the card is judged before the bytes are. */
-LICTOR_MUST_USE LICTOR_NOT_NULL
-uint64_t lictor_write_axes_card(const struct lictor_axes_numbers *numbers, const struct lictor_axes_counts *counts,
-                                uint8_t *bytes, size_t bytes_count);
-
-/* ---- guard forms: the entries that take a configuration, a calibration, a chunk or a card, on one struct for each
+/* ---- guard forms: the entries that take a configuration, a calibration or a chunk, on one struct for each
 
    Where the entry is handed several arrays that belong together, its guard form is handed the struct that has them, so that no array of
    another configuration comes in between. A null pointer with a count of 0 is a slice of no numbers, as of a camera that is silent (an arm
    that has zones and no camera on purpose sets LICTOR_ABSENT_CAMERA_NO_ZONE); with any other count it is refused with LICTOR_MISFIT, save
-   that a last command is no argument under LICTOR_GRIPPER_TO_ZERO. So is a null pointer to bytes. A pointer that has no count is not null. */
+   that a last command is no argument under LICTOR_GRIPPER_TO_ZERO. A pointer that has no count is not null. */
 
 /* A configuration with its calibration. Start from all zeros, then set what the arm has. lictor_guard_derive judges it; so does every call. */
 struct lictor_config {
@@ -930,42 +832,6 @@ static inline uint64_t lictor_guard_hold_action(const struct lictor_config *conf
                               last ? last_count : 0, out ? out : &none, out_count, walls);
 }
 
-/* Whether a pointer is null and yet has bytes. */
-LICTOR_MUST_USE
-static inline int lictor_bytes_missing(const uint8_t *bytes, size_t count) { return !bytes && count > 0; }
-
-/* lictor_read_card */
-LICTOR_MUST_USE
-static inline uint64_t lictor_guard_read_card(const uint8_t *bytes, size_t bytes_count, struct lictor_card *card) {
-    const uint8_t none = 0;
-    if (lictor_bytes_missing(bytes, bytes_count)) return LICTOR_MISFIT;
-    return lictor_read_card(bytes ? bytes : &none, bytes_count, &card->numbers, &card->counts);
-}
-
-/* lictor_write_card */
-LICTOR_MUST_USE
-static inline uint64_t lictor_guard_write_card(const struct lictor_card *card, uint8_t *bytes, size_t bytes_count) {
-    uint8_t none = 0;
-    if (lictor_bytes_missing(bytes, bytes_count)) return LICTOR_MISFIT;
-    return lictor_write_card(&card->numbers, &card->counts, bytes ? bytes : &none, bytes_count);
-}
-
-/* lictor_read_axes_card */
-LICTOR_MUST_USE
-static inline uint64_t lictor_guard_read_axes_card(const uint8_t *bytes, size_t bytes_count, struct lictor_axes_card *card) {
-    const uint8_t none = 0;
-    if (lictor_bytes_missing(bytes, bytes_count)) return LICTOR_MISFIT;
-    return lictor_read_axes_card(bytes ? bytes : &none, bytes_count, &card->numbers, &card->counts);
-}
-
-/* lictor_write_axes_card */
-LICTOR_MUST_USE
-static inline uint64_t lictor_guard_write_axes_card(const struct lictor_axes_card *card, uint8_t *bytes, size_t bytes_count) {
-    uint8_t none = 0;
-    if (lictor_bytes_missing(bytes, bytes_count)) return LICTOR_MISFIT;
-    return lictor_write_axes_card(&card->numbers, &card->counts, bytes ? bytes : &none, bytes_count);
-}
-
 /* ---- the structs have nothing between their fields */
 
 #ifdef __cplusplus
@@ -986,12 +852,6 @@ LICTOR_ASSERT(lictor_forecast_distances, 2);
 LICTOR_ASSERT(lictor_wall_marks, 2);
 LICTOR_ASSERT(lictor_scores, 25);
 LICTOR_ASSERT(lictor_marks, 2);
-LICTOR_ASSERT(lictor_card_numbers, 11);
-LICTOR_ASSERT(lictor_card_counts, 1);
-LICTOR_ASSERT(lictor_card, LICTOR_CARD_BYTES / 8);
-LICTOR_ASSERT(lictor_axes_numbers, 67);
-LICTOR_ASSERT(lictor_axes_counts, 2);
-LICTOR_ASSERT(lictor_axes_card, LICTOR_AXES_CARD_BYTES / 8);
 LICTOR_ASSERT(lictor_config, 53 + 35 + 192 + 192);
 #undef LICTOR_ASSERT
 

@@ -2,7 +2,6 @@
 
 use differential::rng::Rng;
 use model::{
-    cards::{AxesCard, Card},
     AbsentCamera, BrakeModel, Calibration, ChunkBuf, ChunkView, ClampMode, ContactLimit, FuseConfig, Gripper, Scores,
     Shape, Tier1Rt, Trail, Zones, NAMED,
 };
@@ -90,16 +89,4 @@ pub fn scores() -> Scores {
     let mut sc = Scores { valid: NAMED, ..Scores::NEW };
     sc.f.copy_from_slice(&numbers(12));
     sc
-}
-
-/// A record of any numbers.
-pub fn card() -> Card {
-    let numbers = numbers(11).into_iter().flat_map(f64::to_le_bytes);
-    Card::of(&numbers.chain([2, 0, 1, 0, 1, 0, 0, 0]).collect::<Vec<_>>())
-}
-
-/// A record of any numbers, with eight axes of rows and of position.
-pub fn axes_card() -> AxesCard {
-    let numbers = numbers(67).into_iter().flat_map(f64::to_le_bytes);
-    AxesCard::of(&numbers.chain([2, 0, 1, 0, 1, 0, 0, 0, 8, 0, 8, 0, 0, 0, 0, 0]).collect::<Vec<_>>())
 }

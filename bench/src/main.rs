@@ -103,7 +103,6 @@ fn main() {
     time_bin(&port);
     tick(&port);
     judging(&port);
-    cards(&port);
 }
 
 fn root(port: &Port) {
@@ -384,21 +383,4 @@ fn judging(port: &Port) {
         let ported = port.derive.map(|_| calls(1000, move || black_box(&cfg).derive()));
         line(name, 1000, None, ported);
     }
-}
-
-/// The Rust has no cards, and so no time here.
-fn cards(port: &Port) {
-    let (one, all) = (linked::one_axis(&inputs::card()), linked::all_axes(&inputs::axes_card()));
-    let (mut to_one, mut to_all) = ([0; lictor::cards::Card::BYTES], [0; lictor::cards::AxesCard::BYTES]);
-    one.write(&mut to_one).expect("a card that is written");
-    all.write(&mut to_all).expect("a card that is written");
-    let (one_record, all_record) = (to_one, to_all);
-    let ported = port.read_card.map(|_| calls(1000, || lictor::cards::Card::read(black_box(&one_record))));
-    line("card read, one axis", 1000, None, ported);
-    let ported = port.write_card.map(|_| calls(1000, || black_box(&one).write(black_box(&mut to_one))));
-    line("card written, one axis", 1000, None, ported);
-    let ported = port.read_axes_card.map(|_| calls(1000, || lictor::cards::AxesCard::read(black_box(&all_record))));
-    line("card read, 8 axes", 1000, None, ported);
-    let ported = port.write_axes_card.map(|_| calls(1000, || black_box(&all).write(black_box(&mut to_all))));
-    line("card written, 8 axes", 1000, None, ported);
 }

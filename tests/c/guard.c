@@ -1,5 +1,5 @@
 /* Holds what the header itself computes: each guard form to its entry, on drawn arguments; null pointers; counts that the gate's types
-   cannot hold; the patterns of numbers, the texts and the version. Prints each that is otherwise. */
+   cannot hold; the texts and the version. Prints each that is otherwise. */
 #include "lictor.h"
 
 #include <math.h>
@@ -493,83 +493,17 @@ static void grippers(void) {
     }
 }
 
-/* Cards of both sizes, and the bytes about a record. */
-struct desk {
-    struct lictor_card one;
-    struct lictor_axes_card all;
-    uint8_t bytes[LICTOR_AXES_CARD_BYTES + 8];
-};
-
-/* Each guard form of a card answers and writes as its entry does; no bytes are a null pointer with a count of 0, and with any other count nothing is
-   read or written, and LICTOR_MISFIT given, before the card is judged. */
-static void cards(void) {
-    static struct desk a, b;
-    unsigned numbers[LICTOR_WITHDRAWN] = {0};
-    for (int round = 0; round < 20000; round++) {
-        const size_t lengths[] = {0, 95, 96, 97, 551, 552, 553}, at = below(8), lent = lengths[below(7)];
-        const uint16_t dim = (uint16_t)(below(30) ? 1 + below(8) : 9 * below(2)), pos_dim = (uint16_t)(below(30) ? 1 + below(8) : 9);
-        uint64_t answer;
-        memset(&a, 0, sizeof a);
-        a.one.numbers.k_p = a.all.numbers.k_p = below(UINT64_MAX), a.one.counts.from = a.all.counts.from = (uint16_t)below(65536);
-        for (size_t i = 0; i < 8; i++) {
-            if (i < pos_dim) a.all.numbers.lo[i] = a.all.numbers.hi[i] = a.all.numbers.p[i] = a.all.numbers.v[i] = lictor_bits(number());
-            for (size_t k = 0; k < 4 && i < dim; k++) a.all.numbers.rows[k][i] = lictor_bits(number());
-        }
-        a.all.counts.dim = dim, a.all.counts.pos_dim = pos_dim;
-        if (below(8) == 0) a.all.counts.unused[below(2)] = (uint16_t)(1 + below(65535));
-        if (below(8) == 0) a.all.numbers.rows[below(4)][7] = lictor_bits(-0.0);
-        if (below(8) == 0) a.all.numbers.v[7] = lictor_bits(-0.0);
-        b = a;
-#define SAME_CARD(entry, form)                                                \
-    do {                                                                      \
-        answer = (entry);                                                     \
-        const uint64_t number_of_b = (form);                                  \
-        EXPECT(answer == number_of_b && memcmp(&a, &b, sizeof a) == 0);       \
-        if (answer < LICTOR_WITHDRAWN) numbers[answer]++;                     \
-    } while (0)
-        SAME_CARD(lictor_write_card(&a.one.numbers, &a.one.counts, a.bytes + at, lent), lictor_guard_write_card(&b.one, b.bytes + at, lent));
-        a.one.numbers.k_p = b.one.numbers.k_p = 7;
-        SAME_CARD(lictor_read_card(a.bytes + at, lent, &a.one.numbers, &a.one.counts), lictor_guard_read_card(b.bytes + at, lent, &b.one));
-        SAME_CARD(lictor_write_axes_card(&a.all.numbers, &a.all.counts, a.bytes + at, lent), lictor_guard_write_axes_card(&b.all, b.bytes + at, lent));
-        /* a record that no writer has judged */
-        if (below(2)) memcpy(a.bytes + at, &a.all, sizeof a.all), memcpy(b.bytes + at, &b.all, sizeof b.all);
-        a.all.counts.dim = b.all.counts.dim = 7;
-        SAME_CARD(lictor_read_axes_card(a.bytes + at, lent, &a.all.numbers, &a.all.counts), lictor_guard_read_axes_card(b.bytes + at, lent, &b.all));
-#undef SAME_CARD
-    }
-    EXPECT(numbers[LICTOR_ACCEPTED] > 1000 && numbers[LICTOR_SIZE] > 1000 && numbers[LICTOR_UNUSED] > 1000 && numbers[LICTOR_SHORT] > 1000);
-
-    memset(&a, 0, sizeof a), b = a;
-    EXPECT(lictor_guard_read_card(NULL, 0, &a.one) == LICTOR_SHORT && lictor_guard_write_card(&a.one, NULL, 0) == LICTOR_SHORT);
-    EXPECT(lictor_guard_read_axes_card(NULL, 0, &a.all) == LICTOR_SHORT && lictor_guard_write_axes_card(&a.all, NULL, 0) == LICTOR_SIZE);
-    a.all.counts.dim = a.all.counts.pos_dim = b.all.counts.dim = b.all.counts.pos_dim = 1;
-    EXPECT(lictor_guard_write_axes_card(&a.all, NULL, 0) == LICTOR_SHORT);
-    a.all.counts.unused[1] = b.all.counts.unused[1] = 1;
-    EXPECT(lictor_guard_write_axes_card(&a.all, NULL, 0) == LICTOR_UNUSED);
-    for (int i = 0; i < 3; i++) {
-        const size_t counts[3] = {1, LICTOR_AXES_CARD_BYTES, SIZE_MAX};
-        EXPECT(lictor_guard_read_card(NULL, counts[i], &a.one) == LICTOR_MISFIT && lictor_guard_write_card(&a.one, NULL, counts[i]) == LICTOR_MISFIT);
-        EXPECT(lictor_guard_read_axes_card(NULL, counts[i], &a.all) == LICTOR_MISFIT);
-        EXPECT(lictor_guard_write_axes_card(&a.all, NULL, counts[i]) == LICTOR_MISFIT);
-    }
-    EXPECT(memcmp(&a, &b, sizeof a) == 0);
-    /* a number and its pattern; a zero has its sign */
-    EXPECT(lictor_bits(1.5) == UINT64_C(0x3ff8000000000000) && lictor_bits(-0.0) == UINT64_C(1) << 63 && lictor_bits(0.0) == 0);
-    EXPECT(lictor_number(UINT64_C(0xc000000000000000)) == -2.0 && lictor_bits(lictor_number(1)) == 1);
-    EXPECT(lictor_number(UINT64_C(0x7ff0000000000000)) == INFINITY);
-}
-
 /* Each number has a text of its own, and the version's parts agree. */
 static void words(void) {
     const char *unknown = lictor_refusal_text(14);
     char version[32];
     for (uint64_t i = 0; i < 300; i++) {
-        const int known = i <= LICTOR_COMPUTED || i == LICTOR_SHAPE || i == LICTOR_UNUSED || i == LICTOR_WITHDRAWN || i == LICTOR_MISFIT;
+        const int known = i <= LICTOR_COMPUTED || i == LICTOR_SHAPE || i == LICTOR_WITHDRAWN || i == LICTOR_MISFIT;
         EXPECT((strcmp(lictor_refusal_text(i), unknown) != 0) == known);
         for (uint64_t j = 0; known && j < i; j++) EXPECT(strcmp(lictor_refusal_text(i), lictor_refusal_text(j)) != 0);
     }
     snprintf(version, sizeof version, "%d.%d.%d", LICTOR_VERSION_MAJOR, LICTOR_VERSION_MINOR, LICTOR_VERSION_PATCH);
-    EXPECT(strcmp(version, LICTOR_VERSION) == 0 && LICTOR_VERSION_NUMBER >= 1000);
+    EXPECT(strcmp(version, LICTOR_VERSION) == 0 && LICTOR_VERSION_NUMBER >= 900);
 }
 
 int main(void) {
@@ -581,7 +515,6 @@ int main(void) {
     zones();
     tables();
     grippers();
-    cards();
     words();
     puts(failed ? "guard forms: failed" : "guard forms: as expected");
     return failed;

@@ -93,15 +93,6 @@ static void gate(void) {
     if (lictor_trip(center, scale, 1.0, 0xf7f, 8, terms, &s, &m, &trips)) abort();
 }
 
-static void cards(void) {
-    struct lictor_card one;
-    struct lictor_axes_card all;
-    uint8_t bytes[LICTOR_AXES_CARD_BYTES];
-    memset(&one, 0, sizeof one), memset(&all, 0, sizeof all), all.counts.dim = all.counts.pos_dim = 1;
-    if (lictor_guard_write_card(&one, bytes, sizeof bytes) || lictor_guard_read_card(bytes, sizeof bytes, &one)) abort();
-    if (lictor_guard_write_axes_card(&all, bytes, sizeof bytes) || lictor_guard_read_axes_card(bytes, sizeof bytes, &all)) abort();
-}
-
 static unsigned char *top;
 
 static void *run(void *call) {
@@ -135,7 +126,7 @@ int main(void) {
         {"lictor_tier1_new", new_state}, {"lictor_features", features}, {"trail", trail}, {"gate", gate},
         {"lictor_tier1_reset", reset}, {"lictor_check_chunk", check_chunk}, {"lictor_check_action", check_action},
         {"lictor_brake_feasible", forecast}, {"lictor_run_towards", towards}, {"lictor_brake_action", brake},
-        {"lictor_hold_action", hold}, {"lictor_derive", derive}, {"lictor_fill", fill}, {"cards", cards},
+        {"lictor_hold_action", hold}, {"lictor_derive", derive}, {"lictor_fill", fill},
     };
     size_t most = 0, needs[sizeof calls / sizeof *calls] = {0};
     const char *largest = "";

@@ -1,14 +1,14 @@
-"""The lines of the card programs, and what they mean: to whoever has the line alone (explain), and with the card at hand (ask)."""
+"""The lines of the card program, and what they mean: to whoever has the line alone (explain), and with the card at hand (ask)."""
 import math
 import re
+import struct
 from collections import namedtuple
 
-from desk import fields, patterns, programs, records, text
+from desk import fields, text
 from desk.trouble import Trouble
 
 REFUSALS = {
-    1: 'a size is out of range: dim or pos_dim is not 1 to 8',
-    16: 'a part of the record that this card does not use is not zero: an entry of lo, hi, p or v past pos_dim, one of a row past dim, or the last four bytes',
+    1: 'a size is out of range',
     2: 'a number of the configuration is not finite or out of range: k_p below 0, k_v or dt not above 0, or lo above hi',
     3: 'substeps is not 1 to 64, commit is over 64, or (commit + brake_steps) x substeps is over 4,096',
     4: 'the channels of a zone do not fit',
@@ -32,12 +32,12 @@ Answer = namedtuple('Answer', 'number count margin stop')
 
 def number(digits):
     """The number whose bits a line shows."""
-    return patterns.value(int(digits, 16))
+    return struct.unpack('>d', bytes.fromhex(digits))[0]
 
 
 def digits(x):
     """The bits of a number, as a line shows them."""
-    return f'{patterns.of(x):016x}'
+    return struct.pack('>d', x).hex()
 
 
 def answer_of(line):
@@ -50,23 +50,12 @@ def answer_of(line):
     return Answer(int(found['number']), int(found['count']), None, None)
 
 
-def told(program, line):
-    """The answer of a line that a program gave, or Trouble."""
+def told(line):
+    """The answer of a line that the program gave, or Trouble."""
     try:
         return answer_of(line)
     except ValueError:
-        raise Trouble(f'tools/card: the program {program} gave a line that is none: {text.shown(line)}')
-
-
-def asked(cards):
-    """The answers to cards, in their order: each program is asked once, for the cards of its form."""
-    found = [None] * len(cards)
-    for form in fields.FORMS:
-        mine = [at for at, card in enumerate(cards) if card.form is form]
-        lines = programs.lines(form.program, b''.join(records.packed(cards[at]) for at in mine), len(mine)) if mine else []
-        for at, line in zip(mine, lines):
-            found[at] = told(form.program, line)
-    return found
+        raise Trouble(f'tools/card: the program forecast gave a line that is none: {text.shown(line)}')
 
 
 def refused(answer):
@@ -119,36 +108,15 @@ def verdict(answer, exactly=False):
     return f'{head}: {least} {shown(answer.margin, exactly)} m; stop distance {shown(answer.stop, exactly)} m'
 
 
-def outside(card):
-    """Where the arm stands outside its box, a line for each wall that it is beyond."""
-    found = []
-    for axis in range(card.values.get('pos_dim', 1)):
-        beside = fields.on_axis(card, axis)
-        for wall, beyond in (('lo', beside['p'] < beside['lo']), ('hi', beside['p'] > beside['hi'])):
-            if beyond:
-                where = ('' if card.form is fields.ONE_AXIS else f'axis {axis}: ') + f'p = {text.exact(beside["p"])}, {wall} = {text.exact(beside[wall])}'
-                found.append(f'the arm stands outside its box now ({where}): the forecast does not look at that')
-    return found
-
-
-def not_looked_at(card):
-    """The axes that have rows and no walls, or walls and no rows, as a line to say."""
-    dim, pos_dim = card.values.get('dim', 1), card.values.get('pos_dim', 1)
-    if dim == pos_dim:
-        return []
-    first, last = min(dim, pos_dim), max(dim, pos_dim) - 1
-    lacking = f'no walls (pos_dim is {pos_dim})' if pos_dim < dim else f'no rows (dim is {dim})'
-    if first == last:
-        return [f'axis {first} has {lacking}: the forecast does not look at it']
-    return [f'axes {first} to {last} have {lacking}: the forecast does not look at them']
-
-
 def notes(card, answer):
     """What the line does not say: where a refused card is out of its ranges, and what the forecast does not look at."""
     if answer.number == 13:
-        left = fields.substeps_left(card.values)
+        left = fields.substeps_left(card)
         where = f'substep {answer.count + 1:,} of {left:,}' if answer.count < left else 'the stop distance'
         return [f'{where} is the first to overflow: the numbers of the card are far too large or too small']
     if answer.number:
-        return [f'{fields.label(card.form, field, axis)} = {text.exact(value)}: accepted is {field.range}' for field, axis, value in fields.out_of_range(card)]
-    return outside(card) + not_looked_at(card)
+        return [f'{field.name} = {text.exact(value)}: accepted is {field.range}' for field, value in fields.out_of_range(card)]
+    for wall, beyond in (('lo', card['p'] < card['lo']), ('hi', card['p'] > card['hi'])):
+        if beyond:
+            return [f'the arm stands outside its box now (p = {text.exact(card["p"])}, {wall} = {text.exact(card[wall])}): the forecast does not look at that']
+    return []

@@ -3,19 +3,10 @@ import os
 import signal
 import sys
 
-from desk import answers, cards, fields, plot, records, svg, text, tries, unpacking
+from desk import answers, cards, fields, plot, programs, svg, text, tries
 from desk.trouble import Trouble
 
-# the options of each command, with what is to be named after one
-OPTIONS = {
-    'ask': {'--exact': ''},
-    'plot': {'--exact': '', '--ascii': '', '--svg': 'a file name'},
-    'pack': {},
-    'unpack': {'--record': "a record's number", '--into': 'the name of a folder'},
-    'explain': {},
-    'try': {},
-}
-SIZES = {str(form.size): form for form in fields.FORMS}
+OPTIONS = {'ask': {'--exact': 0}, 'plot': {'--exact': 0, '--ascii': 0, '--svg': 1}, 'pack': {}, 'explain': {}, 'try': {}}
 
 
 def taken(command, words):
@@ -33,7 +24,7 @@ def taken(command, words):
         elif not OPTIONS[command][word]:
             options[word] = True
         elif not words:
-            raise Trouble(f'tools/card: {word} needs {OPTIONS[command][word]} after it')
+            raise Trouble(f'tools/card: {word} needs a file name after it')
         else:
             options[word] = words.pop(0)
     return options, rest
@@ -52,7 +43,8 @@ def say(path, card, answer, exactly):
 
 def ask(paths, exactly):
     read = cards.read_all(paths)
-    found = answers.asked(read)
+    lines = programs.lines('forecast', b''.join(map(cards.packed, read)), len(read))
+    found = [answers.told(line) for line in lines]
     for path, card, answer in zip(paths, read, found):
         say(path, card, answer, exactly)
     if len(found) > 1:
@@ -70,7 +62,7 @@ def utf8():
 
 def draw(path, options):
     card = cards.read_all([path])[0]
-    course = plot.course(card)
+    course = plot.course(card, cards.packed(card))
     say(path, card, course.answer, '--exact' in options)
     if course.slacks:
         print('\n'.join(plot.picture(course, '--ascii' in options or not utf8())))
@@ -108,38 +100,18 @@ def explain():
         try:
             line = raw.decode('ascii').rstrip()
         except UnicodeDecodeError:
-            raise Trouble('tools/card: standard input is no text: explain reads lines, and packed records go to tools/forecast or tools/forecast_axes first')
+            raise Trouble('tools/card: standard input is no text: explain reads lines, and packed records go to tools/forecast first')
         meaning = answers.explained(line)
         print(f'{line}\n    {meaning}')
         if line.split()[1] == '14':
-            complain('tools/card: the last record is cut off; if it was a text card that the program was given, use tools/card ask FILE; '
-                     'records of 96 bytes are for tools/forecast, and those of 552 for tools/forecast_axes')
+            complain('tools/card: the last record is cut off; if it was a text card that the program was given, use tools/card ask FILE')
     if not number:
         raise Trouble('tools/card: no line came: whatever stands before explain gave none')
     return 0
 
 
 def pack(paths):
-    read = cards.read_all(paths)
-    if any(card.form is not read[0].form for card in read):
-        raise Trouble(*(f'{path}: this is {card.form.words}, {card.form.size} bytes' for path, card in zip(paths, read)),
-                      'tools/card: pack takes cards of one size at a time: each program reads records of its own size')
-    sys.stdout.buffer.write(b''.join(map(records.packed, read)))
-    return 0
-
-
-def unpack(words, options):
-    if len(words) != 2 or words[0] not in SIZES:
-        path = words[-1] if words and words[-1] not in SIZES else 'FILE'
-        raise Trouble(f'tools/card: unpack takes the size of the records and one file, which does not tell it: tools/card unpack 552 {path}, or 96 where cards have one axis')
-    if len(options) == 2:
-        raise Trouble('tools/card: unpack takes --record or --into, not both')
-    form, path = SIZES[words[0]], words[1]
-    made = unpacking.texts(path, form, options.get('--record'))
-    if '--into' in options:
-        print(unpacking.put_into(options['--into'], made))
-    else:
-        print(unpacking.alone(path, form, made), end='')
+    sys.stdout.buffer.write(b''.join(map(cards.packed, cards.read_all(paths))))
     return 0
 
 
@@ -176,8 +148,6 @@ def command(usage, words):
         return ask(rest, '--exact' in options)
     if name == 'plot':
         return draw(rest[0], options)
-    if name == 'unpack':
-        return unpack(rest, options)
     return pack(rest) if name == 'pack' else explain() if name == 'explain' else attempt(rest)
 
 
@@ -203,7 +173,7 @@ def let_go():
 
 
 def main(usage, words):
-    usage = f'{usage.strip()}\n\n{fields.table()}'
+    usage = f'{usage.strip()}\n\n{fields.table()}\n\n{fields.UNITS}'
     if sys.stdout is None:
         complain('tools/card: standard output is closed: there is nowhere to write the answer')
         return 2

@@ -5,7 +5,7 @@ The slacks are those that the proved program `slacks` writes; here they are only
 import re
 from collections import namedtuple
 
-from desk import answers, fields, programs, records, text
+from desk import answers, fields, programs, text
 from desk.trouble import Trouble
 
 # a line of the program slacks
@@ -14,20 +14,15 @@ LINE = re.compile('1 (?P<number>[0-9]+) (?P<count>[0-9]+)(?P<slacks>(?: [0-9a-f]
 Course = namedtuple('Course', 'card answer slacks committed')
 
 
-def course(card):
-    """A card's slacks as the library gives them, held to the forecast's own line. The program slacks takes cards for all axes."""
-    answer = answers.asked([card])[0]
-    found = LINE.fullmatch(programs.lines('slacks', records.packed(records.widened(card)), 1)[0])
+def course(card, record):
+    """A card's slacks as the library gives them, held to the forecast's own line."""
+    answer = answers.told(programs.lines('forecast', record, 1)[0])
+    found = LINE.fullmatch(programs.lines('slacks', record, 1)[0])
     slacks = [answers.number(bits) for bits in found['slacks'].split()] if found else []
     agree = found and (int(found['number']), int(found['count']), len(slacks)) == (answer.number, answer.count, answer.count)
     if not agree or (answer.number == 0 and slacks and min(slacks) != answer.margin):
-        raise Trouble(f'tools/card: the programs slacks and {card.form.program} differ about this card: run make cards')
-    return Course(card, answer, slacks, min(len(slacks), fields.committed_substeps(card.values)))
-
-
-def substep_length(c):
-    """The words for the substeps under a picture."""
-    return f'substep, each {text.readable(fields.on_axis(c.card, 0)["dt"])} s'
+        raise Trouble('tools/card: the programs slacks and forecast differ about this card: run make cards')
+    return Course(card, answer, slacks, min(len(slacks), fields.committed_substeps(card)))
 
 
 def least(c):
@@ -117,7 +112,7 @@ def picture(c, plain):
     lines.append(pad + spans(c, wide, groups, sign['bar']))
     lines.append(pad + ' ' * (wide // 2 + 1) + '1' + f'{len(c.slacks):,}'.rjust(wide * (len(groups) - 1)) * (len(groups) > 1))
     share = '' if len(c.slacks) <= WIDTH else f'; a column is the least of {len(groups[0]):,}'
-    lines.append(f'{pad} {substep_length(c)}{share}')
+    lines.append(f'{pad} substep, each {text.readable(c.card["dt"])} s{share}')
     lines.append(f'{pad} {sign["committed"]} committed  {sign["braking"]} braking')
     lines.append(f'{pad} {sign["least"]} {least_words(c)}')
     return lines

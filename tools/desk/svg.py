@@ -79,8 +79,8 @@ def legend(c):
         (510, '<rect x="-6" y="-10" width="18" height="12" fill="url(#outside)" stroke="#777"/>', 'outside the box'),
     ]
     return [
-        words(LEFT + ACROSS / 2, TOP + DOWN + 38, plot.substep_length(c), '', 'middle'),
-        f'<text transform="translate(16 {TOP + DOWN / 2}) rotate(-90)" text-anchor="middle">slack (m): room to the nearest wall</text>',
+        words(LEFT + ACROSS / 2, TOP + DOWN + 38, f'substep, each {text.readable(c.card["dt"])} s', '', 'middle'),
+        f'<text transform="translate(16 {TOP + DOWN / 2}) rotate(-90)" text-anchor="middle">slack (m): room to the nearer wall</text>',
         *(f'<g transform="translate({LEFT + across} {y})">{sign}{words(17, 0, meaning, "small")}</g>' for across, sign, meaning in signs),
     ]
 
@@ -93,11 +93,8 @@ def name_of(path):
 
 def picture(path, c):
     """The whole file, for the card of this name."""
-    said = [line for whole in (answers.verdict(c.answer), *answers.notes(c.card, c.answer)) for line in textwrap.wrap(whole, 96)]
-    if not c.slacks:
-        said.append('there is no slack to draw')
-    elif len(said) > 3:
-        said[2:] = [f'.. and {len(said) - 2} lines more: tools/card ask has them']
+    said = textwrap.wrap(answers.verdict(c.answer), 96) + answers.notes(c.card, c.answer)
+    said = said[:3] if c.slacks else said + ['there is no slack to draw']
     head = [
         f'<svg xmlns="http://www.w3.org/2000/svg" viewBox="0 0 {WIDE} {HIGH}" width="{WIDE}" height="{HIGH}">',
         f'<title>{escape(name_of(path))}: slack over substeps</title>',

@@ -3,11 +3,7 @@ import difflib
 import math
 import re
 
-from desk import patterns
-
 NUMBER = re.compile(r'[+-]?(?:(?:[0-9]+\.?[0-9]*|\.[0-9]+)(?:e[+-]?[0-9]+)?|inf|infinity|nan)', re.I | re.A)
-# the 64 bits of a number
-BITS = re.compile('0x[0-9a-f]{16}', re.I | re.A)
 COUNT = re.compile('[+-]?[0-9]{1,20}')
 # digits in threes, with a comma that may stand for thousands as well as for a point
 THREES = re.compile('[+-]?[0-9]{1,3}(?:,[0-9]{3})+')
@@ -67,27 +63,11 @@ def number(name, value):
     return found
 
 
-def pattern(name, value):
-    """The pattern of the number that is typed, in decimal or as its bits, or ValueError with what is wrong."""
-    if BITS.fullmatch(value):
-        return int(value, 16)
-    if value[:2].lower() == '0x':
-        raise ValueError(f'{name} is no number: {shown(value)} (the bits of a number are 0x and 16 digits of 0-9 and a-f, as in 0x3ff0000000000000)')
-    return patterns.of(number(name, value))
-
-
-def typed(bits):
-    """A number as it is typed to give this pattern: the shortest digits, or the bits where no digits give it."""
-    x = patterns.value(bits)
-    digits = '-0.0' if x == 0 and bits else exact(x)
-    return digits if pattern('', digits) == bits else f'0x{bits:016x}'
-
-
-def count(name, value, largest=LARGEST_COUNT, least=0):
+def count(name, value, largest=LARGEST_COUNT):
     """The whole number that is typed, or ValueError."""
-    if COUNT.fullmatch(value) and least <= int(value) <= largest:
+    if COUNT.fullmatch(value) and 0 <= int(value) <= largest:
         return int(value)
-    raise ValueError(f'{name} is not a whole number from {least} to {largest:,}: {shown(value)}{count_hint(value)}')
+    raise ValueError(f'{name} is not a whole number from 0 to {largest:,}: {shown(value)}{count_hint(value)}')
 
 
 def did_you_mean(word, names):

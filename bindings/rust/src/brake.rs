@@ -74,7 +74,7 @@ impl WallMarks {
 ///
 /// # Errors
 ///
-/// [`Size`](crate::Refusal::Size), [`Number`](crate::Refusal::Number) to [`Computed`](crate::Refusal::Computed), the last with its place.
+/// [`Size`](crate::Refusal::Size) to [`Computed`](crate::Refusal::Computed), the last with its place.
 pub fn brake_feasible(
     c: &Config,
     pos: &[f64],
@@ -151,9 +151,9 @@ pub fn brake_feasible(
 ///
 /// # Errors
 ///
-/// [`Size`](crate::Refusal::Size), [`Number`](crate::Refusal::Number) to [`Withdrawn`](crate::Refusal::Withdrawn);
-/// [`Short`](crate::Refusal::Short) for a setpoint below dim, a position or a velocity below `pos_dim`, and slacks below `n`;
-/// [`NotFinite`](crate::Refusal::NotFinite) for any number of the first three, read or not; [`Computed`](crate::Refusal::Computed) with its place.
+/// [`Size`](crate::Refusal::Size) to [`Withdrawn`](crate::Refusal::Withdrawn); [`Short`](crate::Refusal::Short) for a setpoint below dim, a
+/// position or a velocity below `pos_dim`, and slacks below `n`; [`NotFinite`](crate::Refusal::NotFinite) for any number of the first three, read
+/// or not; [`Computed`](crate::Refusal::Computed) with its place.
 pub fn run_towards(
     c: &Config,
     setpoint: &[f64],
@@ -235,8 +235,8 @@ pub fn run_towards(
 ///
 /// # Errors
 ///
-/// [`Size`](crate::Refusal::Size), [`Number`](crate::Refusal::Number) to [`Withdrawn`](crate::Refusal::Withdrawn),
-/// [`Short`](crate::Refusal::Short) to [`Computed`](crate::Refusal::Computed).
+/// [`Size`](crate::Refusal::Size) to [`Withdrawn`](crate::Refusal::Withdrawn), [`Short`](crate::Refusal::Short) to
+/// [`Computed`](crate::Refusal::Computed).
 pub fn brake_action(c: &Config, pos: &[f64], vel: &[f64], last: &[f64], out: &mut [f64]) -> Answer<WallMarks> {
     let mut walls = [0; 2];
     // SAFETY: the arrays and slices are live; `out` is lent to us alone, and the place is ours.

@@ -4,8 +4,7 @@
 //!
 //! A control box makes a [`Config`](config::Config) once and lends it to every call. `docs/INTEGRATION.md` has the order of the calls in
 //! a tick and what to do at each [`Refusal`]; `examples/tick.rs` is a whole tick, `examples/calm.rs` shows which rows the checks leave as
-//! they came, `examples/halves.rs` what of a forecast may be run in two halves, and `examples/cards.rs` how a box writes a card for the desk. The
-//! shortest question:
+//! they came, and `examples/halves.rs` what of a forecast may be run in two halves. The shortest question:
 //!
 //! ```
 //! use lictor::{brake, chunk::ChunkView, config::{BrakeKind, BrakeModel, Config}};
@@ -51,7 +50,6 @@
 extern crate std;
 
 pub mod brake;
-pub mod cards;
 pub mod chunk;
 pub mod config;
 pub mod conformal;

@@ -306,13 +306,4 @@ extern "C" {
         trips: &mut u64,
     ) -> u64;
     pub fn lictor_time_bin(t: u32, horizon_ticks: u32, bin: &mut u64) -> u64;
-    pub fn lictor_read_card(bytes: *const u8, bytes_len: usize, numbers: &mut [u64; 11], counts: &mut [u16; 4]) -> u64;
-    pub fn lictor_write_card(numbers: &[u64; 11], counts: &[u16; 4], bytes: *mut u8, bytes_len: usize) -> u64;
-    pub fn lictor_read_axes_card(
-        bytes: *const u8,
-        bytes_len: usize,
-        numbers: &mut [u64; 67],
-        counts: &mut [u16; 8],
-    ) -> u64;
-    pub fn lictor_write_axes_card(numbers: &[u64; 67], counts: &[u16; 8], bytes: *mut u8, bytes_len: usize) -> u64;
 }

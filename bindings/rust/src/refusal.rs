@@ -16,9 +16,6 @@ use core::{error::Error, fmt};
 pub enum Refusal {
     /// 1: dim, `pos_dim`, a zone count, a term count, a feature bit, a window length, a trail's head or a trail's count is out of size.
     Size,
-    /// 16: a card for all axes, and a byte or an entry of it that is not in use is not zero bits. Given by
-    /// [`AxesCard`](crate::cards::AxesCard) alone.
-    Unused,
     /// 2: a configuration number, or one derived from it, is not finite or is out of its range.
     Number,
     /// 3: substeps, commit, braking steps or horizon ticks are out of range.
@@ -41,8 +38,7 @@ pub enum Refusal {
     LenMismatch,
     /// 10: a chunk's width differs from the configuration's dim.
     Width,
-    /// 11: a slice is too short, or the bytes of a card are fewer than its record; a last command under
-    /// [`Gripper::LastCommand`](crate::config::Gripper::LastCommand) alone.
+    /// 11: a slice is too short; a last command under [`Gripper::LastCommand`](crate::config::Gripper::LastCommand) alone.
     Short,
     /// 12: a number of an input slice, of a trail, of held features or of scores is not finite; of a last command under
     /// [`Gripper::LastCommand`](crate::config::Gripper::LastCommand) alone.
@@ -67,9 +63,8 @@ pub type Answer<T> = Result<T, Refusal>;
 
 impl Refusal {
     /// The refusals that have a number of their own, in the order of judging, the boundary's last; a place is 0.
-    pub const ALL: [Self; 17] = [
+    pub const ALL: [Self; 16] = [
         Self::Size,
-        Self::Unused,
         Self::Number,
         Self::Steps,
         Self::Channels,
@@ -96,7 +91,6 @@ impl Refusal {
     pub const fn number(self) -> u8 {
         match self {
             Self::Size => 1,
-            Self::Unused => 16,
             Self::Number => 2,
             Self::Steps => 3,
             Self::Channels => 4,
@@ -141,7 +135,6 @@ impl Refusal {
             Self::Size => {
                 "a dimension, zone count, term count, feature bit, window length or trail index is out of size"
             }
-            Self::Unused => "a byte or an entry of a card that is not in use is not zero",
             Self::Number => "a configuration number is not finite or out of its range",
             Self::Steps => "a count of steps or ticks is out of range",
             Self::Channels => "a zone's channels are equal, past the declared ones or another's pair",

@@ -103,7 +103,7 @@ impl Tier0Out {
 ///
 /// # Errors
 ///
-/// [`Size`](crate::Refusal::Size), [`Number`](crate::Refusal::Number) to [`Computed`](crate::Refusal::Computed).
+/// [`Size`](crate::Refusal::Size) to [`Computed`](crate::Refusal::Computed).
 pub fn check_chunk(c: &Config, pos: &[f64], aux: &[f64], ch: ChunkView<'_>, out: &mut [f64]) -> Answer<Tier0Out> {
     let (mut marks, mut peak_speed) = ([0; 4], 0.0);
     // SAFETY: the arrays and slices are live; `out` is lent to us alone, and the places are ours.
@@ -151,8 +151,8 @@ pub fn check_chunk(c: &Config, pos: &[f64], aux: &[f64], ch: ChunkView<'_>, out:
 ///
 /// # Errors
 ///
-/// [`Size`](crate::Refusal::Size), [`Number`](crate::Refusal::Number) to [`Withdrawn`](crate::Refusal::Withdrawn),
-/// [`Short`](crate::Refusal::Short) to [`Computed`](crate::Refusal::Computed).
+/// [`Size`](crate::Refusal::Size) to [`Withdrawn`](crate::Refusal::Withdrawn), [`Short`](crate::Refusal::Short) to
+/// [`Computed`](crate::Refusal::Computed).
 pub fn check_action(
     c: &Config,
     pos: &[f64],

@@ -119,8 +119,8 @@ struct Parts<'a> {
 ///
 /// # Errors
 ///
-/// [`Size`](crate::Refusal::Size), [`Number`](crate::Refusal::Number) to [`Width`](crate::Refusal::Width),
-/// [`NotFinite`](crate::Refusal::NotFinite), [`Computed`](crate::Refusal::Computed).
+/// [`Size`](crate::Refusal::Size) to [`Width`](crate::Refusal::Width), [`NotFinite`](crate::Refusal::NotFinite),
+/// [`Computed`](crate::Refusal::Computed).
 pub fn features(
     c: &Config,
     rt: &mut Tier1,

@@ -8,7 +8,7 @@ use mathlib.Core.List.{List, [], ◌∷◌, ◌++◌, append_assoc}
 use native.Mathlib.Nat.{lt_of_not-le, add-suc}
 use native.Mathlib.Decide.{dec_le}
 use native.Mathlib.Omega.{arith}
-use borrow.Author.Tests.{eqb_true, eqb-false, le-ltb, not-false}
+use borrow.Author.Tests.{eqb-true, eqb-false, le-ltb, not-false}
 use lib.Dec.{eqb}
 use lib.ListN.{length, take, drop, replicate}
 use lib.Seq.{take_at}
@@ -92,7 +92,7 @@ module _ (x : RunCall) where
   free_by a e n = go (eqb (refusal judged) 0) refl
     where
       go : (b : Bool) → eqb (refusal judged) 0 ≡ b → refusal judged ≡ 0
-      go true z = eqb_true (refusal judged) 0 z
+      go true z = eqb-true (refusal judged) 0 z
       go false z =
           let h = eqb-false (refusal judged) 0 z in
           let is : refusal judged ≡ number_in a = ap number_in (sym (barred h) ∙ e) in
@@ -227,7 +227,7 @@ elsewhere : (x : RunCall) (r : Refusal) → told_by x ≡ Refused r → (r.numbe
 elsewhere x r is other = go (eqb (refusal (judged x)) 0) refl
   where
     go : (b : Bool) → eqb (refusal (judged x)) 0 ≡ b → r.place ≡ 0
-    go true z = let w = refused_there x (eqb_true (refusal (judged x)) 0 z) r is in absurd (other (ap number_in (sym is ∙ w.2)))
+    go true z = let w = refused_there x (eqb-true (refusal (judged x)) 0 z) r is in absurd (other (ap number_in (sym is ∙ w.2)))
     go false z = ap place_in (sym is ∙ barred x (eqb-false (refusal (judged x)) 0 z))
 
 exact : (x : RunCall) → ExactlyThere x

@@ -5,7 +5,7 @@ use mathlib.Core.Bool.{Bool, true, false, not, ◌||◌}
 use mathlib.Core.List.{List, [], ◌∷◌, ◌++◌}
 use native.Mathlib.Nat.{le_trans, mul-le-mul_right}
 use native.Mathlib.Omega.{arith}
-use borrow.Author.Tests.{eqb_true, eqb-false, ne_eqb, ltb-false, not-false}
+use borrow.Author.Tests.{eqb-true, eqb-false, ne_eqb, ltb-false, not-false}
 use lib.Dec.{eqb, ltb}
 use lib.ListN.{length}
 use lib.Ieee.{Float, Format}
@@ -111,7 +111,7 @@ module _ (f : Format) (c : FuseConfig) (tabs : Tables) (p v rows : List Float) (
         record {
           narrow = dim_most f c tabs fit;
           moves = omega (arith, dim_least f c tabs fit, pos_dim_least f c tabs fit);
-          wide = eqb_true k.dim c.dim (not-false (eqb k.dim c.dim) a.0);
+          wide = eqb-true k.dim c.dim (not-false (eqb k.dim c.dim) a.0);
           rowed = omega (arith, sized.some_rows);
           there = sized.all_there;
           parted = substeps_least f c tabs fit;

@@ -7,7 +7,7 @@ use mathlib.Core.List.{List, ◌++◌}
 use mathlib.Core.Logic.{◌⊎◌, inl, inr}
 use native.Mathlib.Nat.{add-zero, le_trans, mul-le-mul_right}
 use native.Mathlib.Omega.{arith}
-use borrow.Author.Tests.{eqb_true, eqb-false}
+use borrow.Author.Tests.{eqb-true, eqb-false}
 use lib.Dec.{T, eqb}
 use lib.ListN.{length}
 use lib.Ieee.{Float, binary64, inf, lt, le, fits}
@@ -75,7 +75,7 @@ module _ (x : Call) where
   free only = go (eqb (refusal before) 0) refl
     where
       go : (b : Bool) → eqb (refusal before) 0 ≡ b → refusal before ≡ 0
-      go true e = eqb_true (refusal before) 0 e
+      go true e = eqb-true (refusal before) 0 e
       go false e =
           let a = refused binary64 x.config x.tables x.position x.velocity x.rows x.header x.from x.lent refl (eqb-false (refusal before) 0 e) refl in
           absurd (never 13 before (λ o. omega arith) refl (only (refused_for (refusal before)) (sym a.gives)))

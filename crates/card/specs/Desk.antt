@@ -1,5 +1,5 @@
--- What the contracts of `card::desk` cite: the configuration of a card (R9.2), the forecast of a card of one axis by the brake's rule, and what the desk is answered.
-use Rattle.std.specs.Prelude.{ℕ, ◌-◌, false, List, [], ◌∷◌, eqb, get_or, replicate, Float}
+-- What the contracts of `card::desk` cite: the configuration of a card (R9.2), its forecast by the brake's rule, and what the desk is answered.
+use Rattle.std.specs.Prelude.{ℕ, ◌-◌, false, List, [], ◌∷◌, eqb, replicate, Float}
 use Rattle.std.specs.Float.{binary64}
 use Rattle.std.specs.Float.Ieee.{of_bits, to_bits}
 use Rattle.refusal.specs.Order.{computed, number_of}
@@ -25,7 +25,7 @@ use Rattle.workspace.specs.declared.Shape.TheVariants as shapes
 use Rattle.brake.specs.Answer.{forecast_answer, forecast_slacks}
 use Rattle.brake.specs.declared.BrakeOut.{BrakeOut}
 use Rattle.brake.specs.declared.BrakeOut.TheVariants.{Accepted, Refused}
-use Rattle.records.specs.declared.card.Card.{Card}
+use Rattle.card.specs.declared.record.Card.{Card}
 use Rattle.card.specs.declared.desk.Answer.{Answer}
 
 -- a card's number, whose pattern it keeps
@@ -50,43 +50,31 @@ limits_of = record { dt = 1!; v_max = 1!; a_max = 1!; j_max = 1!; reach_max = 1!
 unfoldable pub norm_of : Norm
 norm_of = record { center = replicate 8 1!; scale = replicate 8 1! }
 
--- a number of a card of one axis, by its place in the record
-abbrev pub num_of : Card → ℕ → Float
-num_of c i = num (get_or c.numbers i 0)
-
-abbrev pub count_at : Card → ℕ → ℕ
-count_at c i = get_or c.counts i 0
-
--- the walls of its axis; what is past it is not read
 unfoldable pub walls_of : Card → Box
-walls_of c = record { lo = num_of c 3 ∷ replicate 7 (num 0); hi = num_of c 4 ∷ replicate 7 (num 0) }
+walls_of c = record { lo = replicate 8 (num c.lo); hi = replicate 8 (num c.hi) }
 
--- the gains, each as its bits, and the counts
-unfoldable pub brake_with : ℕ → ℕ → ℕ → ℕ → ℕ → ℕ → BrakeModel
-brake_with kp kv dt substeps commit braking = record {
-  kind = PdSecondOrder (num kp) (num kv) (num dt);
-  substeps = record { 0 = substeps };
-  commit = record { 0 = commit };
-  brake_steps = record { 0 = braking };
+unfoldable pub brake_of : Card → BrakeModel
+brake_of c = record {
+  kind = PdSecondOrder (num c.k_p) (num c.k_v) (num c.dt);
+  substeps = record { 0 = c.substeps };
+  commit = record { 0 = c.commit };
+  brake_steps = record { 0 = c.brake_steps };
   react_ticks = 1;
 }
 
-abbrev pub brake_of : List ℕ → List ℕ → BrakeModel
-brake_of numbers counts = brake_with (get_or numbers 0 0) (get_or numbers 1 0) (get_or numbers 2 0) (get_or counts 0 0) (get_or counts 1 0) (get_or counts 2 0)
-
--- the PD brake, no zone, no calibration, nothing armed
-unfoldable pub config_with : ℕ → ℕ → Box → BrakeModel → FuseConfig
-config_with dim pos-dim walls brake = record {
+-- one axis, the PD brake, no zone, no calibration, nothing armed
+unfoldable pub config_of : Card → FuseConfig
+config_of c = record {
   kind = EePosition;
-  dim = dim;
-  pos_dim = pos-dim;
+  dim = 1;
+  pos_dim = 1;
   limits = limits_of;
   norm = norm_of;
-  walls = walls;
+  walls = walls_of c;
   shape = shapes.Box;
   zones = no_zones;
   absent_camera = Slow;
-  brake = brake;
+  brake = brake_of c;
   gripper = ToZero;
   clamp = Off;
   armed = 0;
@@ -96,24 +84,20 @@ config_with dim pos-dim walls brake = record {
   horizon_ticks = 1;
 }
 
--- a card of one axis has one
-unfoldable pub config_of : Card → FuseConfig
-config_of c = config_with 1 1 (walls_of c) (brake_of c.numbers c.counts)
-
 -- ---- the forecast, on a horizon of 4
 
 abbrev pub rows_of : Card → List Float
-rows_of c = num_of c 7 ∷ num_of c 8 ∷ num_of c 9 ∷ num_of c 10 ∷ []
+rows_of c = num c.row0 ∷ num c.row1 ∷ num c.row2 ∷ num c.row3 ∷ []
 
--- four rows of so many numbers, one of them to be executed
-abbrev pub four_rows : ℕ → Header
-four_rows dim = record { seq = 0; t_emit = 0; horizon = 4; dim = dim; exec_steps = 1 }
+-- one of them to be executed
+abbrev pub four_rows : Header
+four_rows = record { seq = 0; t_emit = 0; horizon = 4; dim = 1; exec_steps = 1 }
 
 unfoldable pub outcome_of : Card → ℕ → BrakeOut
-outcome_of c room = forecast_answer binary64 (config_of c) tables_of (num_of c 5 ∷ []) (num_of c 6 ∷ []) (rows_of c) (four_rows 1) (count_at c 3) room
+outcome_of c room = forecast_answer binary64 (config_of c) tables_of (num c.p ∷ []) (num c.v ∷ []) (rows_of c) four_rows c.from room
 
 unfoldable pub slacks_of : Card → List Float → List Float
-slacks_of c l = forecast_slacks binary64 (config_of c) tables_of (num_of c 5 ∷ []) (num_of c 6 ∷ []) (rows_of c) (four_rows 1) (count_at c 3) l
+slacks_of c l = forecast_slacks binary64 (config_of c) tables_of (num c.p ∷ []) (num c.v ∷ []) (rows_of c) four_rows c.from l
 
 -- ---- the answer
 

@@ -1,7 +1,5 @@
-pub mod Sizes
+pub mod Record
 pub mod Desk
-pub mod Axes
-pub mod Answers
 pub mod Text
 pub mod Block
 pub mod Worked

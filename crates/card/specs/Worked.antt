@@ -1,7 +1,5 @@
--- The example of the card program (R9.5), its 298 bytes and the four lines that they are answered; and one of the program for all axes (R9.7).
-use Rattle.std.specs.Prelude.{List, [], ◌∷◌, ◌++◌, ℕ, replicate}
-use Rattle.records.specs.Axes.{axes_record_of}
-use Rattle.records.specs.declared.axes.AxesCard.{AxesCard}
+-- The example of the card program (R9.5): its 298 bytes, and the four lines that they are answered.
+use Rattle.std.specs.Prelude.{List, [], ◌∷◌, ◌++◌, ℕ}
 
 abbrev F1 : List ℕ
 F1 = 0 ∷ 0 ∷ 0 ∷ 0 ∷ 0 ∷ 0 ∷ 0 ∷ 64 ∷ 0 ∷ 0 ∷ 0 ∷ 0 ∷ 0 ∷ 0 ∷ 240 ∷ 63 ∷ 0 ∷ 0 ∷ 0 ∷ 0 ∷ 0 ∷ 0 ∷ 224 ∷ 63 ∷ 0 ∷ 0 ∷ 0 ∷ 0 ∷ 0 ∷ 0 ∷ 240 ∷ 191 ∷ 0 ∷ 0 ∷ 0 ∷ 0 ∷ 0 ∷ 0 ∷ 0 ∷ 64 ∷ 0 ∷ 0 ∷ 0 ∷ 0 ∷ 0 ∷ 0 ∷ 0 ∷ 0 ∷ 0 ∷ 0 ∷ 0 ∷ 0 ∷ 0 ∷ 0 ∷ 0 ∷ 0 ∷ 0 ∷ 0 ∷ 0 ∷ 0 ∷ 0 ∷ 0 ∷ 240 ∷ 63 ∷ 0 ∷ 0 ∷ 0 ∷ 0 ∷ 0 ∷ 0 ∷ 240 ∷ 63 ∷ 0 ∷ 0 ∷ 0 ∷ 0 ∷ 0 ∷ 0 ∷ 240 ∷ 63 ∷ 0 ∷ 0 ∷ 0 ∷ 0 ∷ 0 ∷ 0 ∷ 240 ∷ 63 ∷ 2 ∷ 0 ∷ 1 ∷ 0 ∷ 1 ∷ 0 ∷ 0 ∷ 0 ∷ []
@@ -37,51 +35,3 @@ line_4 = 52 ∷ 32 ∷ 49 ∷ 52 ∷ 32 ∷ 48 ∷ 32 ∷ 45 ∷ 32 ∷ 45 ∷ 1
 
 abbrev pub output : List ℕ
 output = line_1 ++ line_2 ++ line_3 ++ line_4
-
--- ---- all axes: F1 on two, with the high wall of axis 1 where F2 has it, so that the least slack is F2's
-
-abbrev zeros : ℕ → List ℕ
-zeros n = replicate n 0
-
--- F1's row on two axes
-abbrev row : List ℕ
-row = 0x3ff0_0000_0000_0000 ∷ 0x3ff0_0000_0000_0000 ∷ zeros 6
-
--- lo on the third axis is not used: it has these bits, and dim is given
-abbrev on_two_axes : ℕ → ℕ → AxesCard
-on_two_axes unused dim = record {
-  numbers =
-      (0x4000_0000_0000_0000 ∷ 0x3ff0_0000_0000_0000 ∷ 0x3fe0_0000_0000_0000 ∷ [])
-      ++ (0xbff0_0000_0000_0000 ∷ 0xbff0_0000_0000_0000 ∷ unused ∷ zeros 5)
-      ++ (0x4000_0000_0000_0000 ∷ 0x3ff0_0000_0000_0000 ∷ zeros 6)
-      ++ zeros 16
-      ++ row
-      ++ row
-      ++ row
-      ++ row;
-  counts = 2 ∷ 1 ∷ 1 ∷ 0 ∷ dim ∷ 2 ∷ 0 ∷ 0 ∷ [];
-}
-
--- as it is, with the sign bit of an unused entry set, with dim 9, and ten bytes more
-abbrev pub axes_input : List ℕ
-axes_input =
-    axes_record_of (on_two_axes 0 2) ++ axes_record_of (on_two_axes 0x8000_0000_0000_0000 2) ++ axes_record_of (on_two_axes 0 9) ++ rest
-
--- 1 0 4 bfd0000000000000 3ffc48c6001f0ac0
-abbrev axes_line_1 : List ℕ
-axes_line_1 = 49 ∷ 32 ∷ 48 ∷ 32 ∷ 52 ∷ 32 ∷ 98 ∷ 102 ∷ 100 ∷ 48 ∷ 48 ∷ 48 ∷ 48 ∷ 48 ∷ 48 ∷ 48 ∷ 48 ∷ 48 ∷ 48 ∷ 48 ∷ 48 ∷ 48 ∷ 32 ∷ 51 ∷ 102 ∷ 102 ∷ 99 ∷ 52 ∷ 56 ∷ 99 ∷ 54 ∷ 48 ∷ 48 ∷ 49 ∷ 102 ∷ 48 ∷ 97 ∷ 99 ∷ 48 ∷ 10 ∷ []
-
--- 2 16 0 - -
-abbrev axes_line_2 : List ℕ
-axes_line_2 = 50 ∷ 32 ∷ 49 ∷ 54 ∷ 32 ∷ 48 ∷ 32 ∷ 45 ∷ 32 ∷ 45 ∷ 10 ∷ []
-
--- 3 1 0 - -
-abbrev axes_line_3 : List ℕ
-axes_line_3 = 51 ∷ 32 ∷ 49 ∷ 32 ∷ 48 ∷ 32 ∷ 45 ∷ 32 ∷ 45 ∷ 10 ∷ []
-
--- 4 14 0 - -
-abbrev axes_line_4 : List ℕ
-axes_line_4 = 52 ∷ 32 ∷ 49 ∷ 52 ∷ 32 ∷ 48 ∷ 32 ∷ 45 ∷ 32 ∷ 45 ∷ 10 ∷ []
-
-abbrev pub axes_output : List ℕ
-axes_output = axes_line_1 ++ axes_line_2 ++ axes_line_3 ++ axes_line_4

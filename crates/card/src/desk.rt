@@ -1,9 +1,10 @@
-// A card as a configuration, the forecast of a card of one axis, and what the desk is answered.
+// A card as a configuration, its forecast, and what the desk is answered.
 ghost use Rattle.std.specs.Prelude.{◌≡◌, ◌-◌, length, replicate};
 ghost use Rattle.checked.specs.Constants.{1! };
 ghost use Rattle.envelope.specs.Slots.{no_zones};
-ghost use Rattle.card.specs.Desk.{calibration_of, brake_with, walls_of, limits_of, norm_of, config_with, config_of, outcome_of, slacks_of, count_of, answer_for};
+ghost use Rattle.card.specs.Desk.{calibration_of, brake_of, walls_of, limits_of, norm_of, config_of, outcome_of, slacks_of, count_of, answer_for};
 
+use crate::record::Card;
 use brake::BrakeOut;
 use chunk::Header;
 use conformal::{Calibration, GateSpec};
@@ -11,7 +12,6 @@ use envelope::{
     AbsentCamera, ActionKind, Box, BrakeKind, BrakeModel, ClampMode, Contact, ControlSteps,
     FuseConfig, Gripper, Limits, Norm, Substeps, ZoneSlot, Zones,
 };
-use records::Card;
 use refusal::Refusal;
 use words::{float_of, pattern};
 use workspace::Shape;
@@ -23,13 +23,6 @@ pub struct Answer {
     pub count: u64,
     pub margin: u64,
     pub stop: u64,
-}
-
-// A count as a size.
-pub(crate) fn size(n: u16) -> usize
-    ensures { result ≡ n }
-{
-    n as usize
 }
 
 // ---- the configuration
@@ -68,37 +61,30 @@ fn norm() -> Norm
     }
 }
 
-// The box of a card of one axis; what is past it is not read.
+// The card's box.
 fn walls(c: Card) -> Box
     ensures { result ≡ walls_of c }
 {
-    let lo = float_of(c.numbers[Card::LO]);
-    let hi = float_of(c.numbers[Card::HI]);
+    let lo = float_of(c.lo);
+    let hi = float_of(c.hi);
     Box {
-        lo: [lo, 0.0, 0.0, 0.0, 0.0, 0.0, 0.0, 0.0],
-        hi: [hi, 0.0, 0.0, 0.0, 0.0, 0.0, 0.0, 0.0],
+        lo: [lo; 8],
+        hi: [hi; 8],
     }
 }
 
-// A card's gains, each as its bits, and its counts.
-pub(crate) fn brake(
-    k_p: u64,
-    k_v: u64,
-    dt: u64,
-    substeps: u16,
-    commit: u16,
-    brake_steps: u16,
-) -> BrakeModel
-    ensures { result ≡ brake_with k_p k_v dt substeps commit brake_steps }
+// The card's gains and counts.
+fn brake(c: Card) -> BrakeModel
+    ensures { result ≡ brake_of c }
 {
-    let k_p = float_of(k_p);
-    let k_v = float_of(k_v);
-    let dt = float_of(dt);
+    let k_p = float_of(c.k_p);
+    let k_v = float_of(c.k_v);
+    let dt = float_of(c.dt);
     BrakeModel {
         kind: BrakeKind::PdSecondOrder { k_p, k_v, dt },
-        substeps: Substeps(substeps),
-        commit: ControlSteps(commit),
-        brake_steps: ControlSteps(brake_steps),
+        substeps: Substeps(c.substeps),
+        commit: ControlSteps(c.commit),
+        brake_steps: ControlSteps(c.brake_steps),
         react_ticks: 1,
     }
 }
@@ -115,23 +101,20 @@ fn no_zones() -> Zones
     }
 }
 
-// The configuration with these sizes, box and brake: PD, nothing armed, and every other number 1.0, save the margin, 0.
-pub(crate) fn configure_with(
-    dim: usize,
-    pos_dim: usize,
-    walls: Box,
-    brake: BrakeModel,
-) -> FuseConfig
-    ensures { result ≡ config_with dim pos_dim walls brake }
+// The configuration of a card: one axis, PD, nothing armed, and every number that the card does not give 1.0, save the margin, 0.
+pub fn configure(c: Card) -> FuseConfig
+    ensures { result ≡ config_of c }
 {
     let limits = limits();
     let norm = norm();
+    let walls = walls(c);
     let zones = no_zones();
+    let brake = brake(c);
     let calib = calibration();
     FuseConfig {
         kind: ActionKind::EePosition,
-        dim,
-        pos_dim,
+        dim: 1,
+        pos_dim: 1,
         limits,
         norm,
         walls,
@@ -149,48 +132,29 @@ pub(crate) fn configure_with(
     }
 }
 
-// The configuration of a card of one axis.
-pub fn configure(c: Card) -> FuseConfig
-    ensures { result ≡ config_of c }
-{
-    let n = c.numbers;
-    let k = c.counts;
-    let walls = walls(c);
-    let brake = brake(
-        n[Card::K_P],
-        n[Card::K_V],
-        n[Card::DT],
-        k[Card::SUBSTEPS],
-        k[Card::COMMIT],
-        k[Card::BRAKE_STEPS],
-    );
-    configure_with(1, 1, walls, brake)
-}
-
 // ---- the forecast
 
 // Either table of the calibration.
-pub(crate) fn table() -> [f64; 192]
+fn table() -> [f64; 192]
     ensures { result ≡ replicate 192 1! }
 {
     [1.0; 192]
 }
 
-// The forecast of a card of one axis: four rows of one number, one of them to be executed.
+// The forecast of a card: four rows of one number, one of them to be executed.
 pub fn run(c: Card, slack: &mut [f64]) -> BrakeOut
     ensures { (result ≡ outcome_of c (length slack.old)) × (slack.new ≡ slacks_of c slack.old) }
 {
     let config = configure(c);
     let table = table();
-    let n = c.numbers;
-    let p = [float_of(n[Card::P])];
-    let v = [float_of(n[Card::V])];
-    let r0 = float_of(n[Card::ROWS]);
-    let r1 = float_of(n[Card::ROWS + 1]);
-    let r2 = float_of(n[Card::ROWS + 2]);
-    let r3 = float_of(n[Card::ROWS + 3]);
+    let p = [float_of(c.p)];
+    let v = [float_of(c.v)];
+    let r0 = float_of(c.row0);
+    let r1 = float_of(c.row1);
+    let r2 = float_of(c.row2);
+    let r3 = float_of(c.row3);
     let rows = [r0, r1, r2, r3];
-    let from = size(c.counts[Card::FROM]);
+    let from = c.from as usize;
     let header = Header {
         seq: 0,
         t_emit: 0,

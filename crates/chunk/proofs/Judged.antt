@@ -4,7 +4,7 @@ use mathlib.Core.Path.{◌≡◌}
 use mathlib.Core.Bool.{true, false, not}
 use mathlib.Core.List.{List, [], ◌∷◌}
 use native.Mathlib.Nat.{mul-le-mul, pos_of_ne-zero}
-use borrow.Author.Tests.{eqb_true, eqb-false, ltb-false, not-false}
+use borrow.Author.Tests.{eqb-true, eqb-false, ltb-false, not-false}
 use lib.Dec.{eqb}
 use lib.Ieee.{Float}
 use lib.ListN.{length}
@@ -40,7 +40,7 @@ sizes_accepted k n z =
       not_long = ltb-false 64 h (passed tooLong);
       not_wide = ltb-false 8 d (passed tooWide);
       exec_inside = ltb-false h k.exec_steps (passed execExceedsHorizon);
-      all_there = eqb_true n (h * d) (not-false (eqb n (h * d)) (passed lenMismatch));
+      all_there = eqb-true n (h * d) (not-false (eqb n (h * d)) (passed lenMismatch));
     }
 
 -- an accepted lent chunk has accepted sizes and finite numbers

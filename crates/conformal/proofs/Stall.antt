@@ -4,7 +4,7 @@ use mathlib.Core.Path.{◌≡◌, refl, ap, ◌∙◌}
 use mathlib.Core.Bool.{Bool, true, false, ◌||◌, false≢true}
 use mathlib.Core.List.{List}
 use native.Mathlib.Omega.{arith}
-use borrow.Author.Tests.{lt-leb, leb-true, eq-eqb, eqb_true, not-true, not-false, leb-false, ltb-true}
+use borrow.Author.Tests.{lt-leb, leb-true, eq-eqb, eqb-true, not-true, not-false, leb-false, ltb-true}
 use lib.Dec.{leb, ltb, eqb}
 use lib.ListN.{get_or}
 use lib.Ieee.{Float, Format}
@@ -52,7 +52,7 @@ answered : (n : ℕ) (b c : Bool) → verdict n b ≡ Trips c → n ≡ 0
 answered n b c e = go (eqb n 0) refl e
   where
     go : (none : Bool) → eqb n 0 ≡ none → (if none then Trips b else Refused (refused_for n)) ≡ Trips c → n ≡ 0
-    go true z h = eqb_true n 0 z
+    go true z h = eqb-true n 0 z
     go false z h = absurd (false≢true (ap told h))
 
 module _ (cal : Calibration) (t : Tables) (sc : Scores) where

@@ -2,7 +2,7 @@
 use mathlib.Core.Path.{◌≡◌}
 use mathlib.Core.Bool.{true}
 use Prim.Native.Nat.{ℕ, ◌*◌, ◌≤◌}
-use borrow.Author.Tests.{leb-true, eqb_true, le-leb, eq-eqb}
+use borrow.Author.Tests.{leb-true, eqb-true, le-leb, eq-eqb}
 use Rattle.checked.specs.Each.{every, every_from}
 use Rattle.checked.proofs.Each.{every_at}
 use Rattle.course.specs.declared.Course.{Course}
@@ -20,7 +20,7 @@ shape_of c len h = record {
   axes = leb-true _ _ (every_at _ 0 h);
   within = leb-true _ _ (every_at _ 1 h);
   rowed = leb-true _ _ (every_at _ 2 h);
-  there = eqb_true _ _ (every_at _ 3 h);
+  there = eqb-true _ _ (every_at _ 3 h);
 }
 
 pub is_shaped : (c : Course) (len : ℕ) → Shape c len → shaped c len ≡ true

@@ -4,7 +4,7 @@ use mathlib.Core.Path.{◌≡◌, refl, sym, ap, ◌∙◌}
 use mathlib.Core.Bool.{Bool, true, false, not, ◌&&◌, ◌||◌, and-true, and-false}
 use mathlib.Core.List.{List}
 use native.Mathlib.Omega.{arith}
-use borrow.Author.Tests.{eqb_true, eq-eqb, ltb-true, leb-true, le-leb, lt-leb, not-true}
+use borrow.Author.Tests.{eqb-true, eq-eqb, ltb-true, leb-true, le-leb, lt-leb, not-true}
 use lib.Dec.{eqb, leb, ltb}
 use lib.Ieee.{Float, Format, add, sub, div}
 use Rattle.refusal.specs.Order.{refusal}
@@ -97,8 +97,8 @@ module _ (f : Format) (c : FuseConfig) (n : Norm) (w : walls.Box) (same : AgreeW
 pair_told : (radius speed wide fast : Float) (i j k l : ℕ) → PairsTold radius speed wide fast i j k l
 pair_told radius speed wide fast i j k l = record {
   repeated = λ first second. eq-eqb i k first &&≡ eq-eqb j l second;
-  same_first = λ e. eqb_true i k (and_left (eqb i k) (eqb j l) e);
-  same_second = λ e. eqb_true j l (and_right (eqb i k) (eqb j l) e);
+  same_first = λ e. eqb-true i k (and_left (eqb i k) (eqb j l) e);
+  same_second = λ e. eqb-true j l (and_right (eqb i k) (eqb j l) e);
 }
 
 module _ (z : Zones) (aux : ℕ) where

@@ -1,2 +1,3 @@
--- What the program promises of its own numbers.
-pub mod Buffers
+-- Laws that the proofs of several functions cite.
+pub mod Numbers
+pub mod Promises

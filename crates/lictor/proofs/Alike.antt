@@ -3,7 +3,7 @@ use Prim.Native.Nat.{ℕ}
 use mathlib.Core.Path.{◌≡◌, sym, ap, ◌∙◌, refl}
 use mathlib.Core.Bool.{Bool, true, false, ◌&&◌}
 use mathlib.Core.List.{List}
-use borrow.Author.Tests.{eqb_true, le-leb}
+use borrow.Author.Tests.{eqb-true, le-leb}
 use lib.ListN.{length}
 use lib.Ieee.{Float, binary64}
 use lib.Dec.{eqb}
@@ -57,7 +57,7 @@ filled_so d k rows {n} {m} {h₀} {h} en put = go (eqb n 0) refl
   where
     go : (none : Bool) → eqb n 0 ≡ none → FilledGiven (fill_of (bare d k) k rows) n d m h₀ h
     go true z =
-        let zero_is = eqb_true n 0 z in
+        let zero_is = eqb-true n 0 z in
         let fits = le-leb (length rows) 512 (accepted_fits (lent_accepted rows k (sym en ∙ zero_is)).0) in
         let judged : eqb (refusal (lent_reasons rows k)) 0 ≡ true = ap (λ (x : ℕ). eqb x 0) (sym en) ∙ z in
         record { number = zero_is ∙ rw judged; numbers = put.0 ∙ rw (z, judged, fits); header = put.1 ∙ rw (z, judged) }

@@ -1,4 +1,3 @@
 pub mod Answer
 pub mod Asked
 pub mod Environment
-pub mod Cards

@@ -27,7 +27,6 @@ use window::Window;
 
 mod answer;
 pub mod braking;
-pub mod cards;
 pub mod checks;
 pub mod scoring;
 

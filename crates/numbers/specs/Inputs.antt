@@ -31,8 +31,8 @@ use Rattle.tier0.specs.declared.Tier0Out.{Tier0Out}
 use Rattle.tier0.specs.declared.Tier0Out.TheVariants as check
 use Rattle.brake.specs.declared.BrakeOut.{BrakeOut}
 use Rattle.brake.specs.declared.BrakeOut.TheVariants as forecast
-use Rattle.records.specs.declared.card.Card.{Card}
-use Rattle.card.specs.Desk.{tables_of, num, norm_of, brake_of, calibration_of, outcome_of, slacks_of}
+use Rattle.card.specs.declared.record.Card.{Card}
+use Rattle.card.specs.Desk.{tables_of, num, norm_of, walls_of, brake_of, calibration_of, outcome_of, slacks_of}
 
 -- ---- numbers, flags and refusals as counts
 
@@ -54,15 +54,24 @@ abbrev pub 1! : ℕ
 abbrev pub 2! : ℕ
 2! = 0x4000_0000_0000_0000
 
--- -1
-abbrev low : ℕ
-low = 0xbff0_0000_0000_0000
-
 -- F1 with another start, high wall, row to start from and number of braking steps
 abbrev pub card : ℕ → ℕ → ℕ → ℕ → Card
 card p hi from brake = record {
-  numbers = 2! ∷ 1! ∷ 0x3fe0_0000_0000_0000 ∷ low ∷ hi ∷ p ∷ 0 ∷ 1! ∷ 1! ∷ 1! ∷ 1! ∷ [];
-  counts = 2 ∷ 1 ∷ brake ∷ from ∷ [];
+  k_p = 2!;
+  k_v = 1!;
+  dt = 0x3fe0_0000_0000_0000;
+  lo = 0xbff0_0000_0000_0000;
+  hi = hi;
+  p = p;
+  v = 0;
+  row0 = 1!;
+  row1 = 1!;
+  row2 = 1!;
+  row3 = 1!;
+  substeps = 2;
+  commit = 1;
+  brake_steps = brake;
+  from = from;
 }
 
 -- count, margin, whether it is feasible, stop distance
@@ -92,11 +101,11 @@ plane = record {
   pos_dim = 2;
   limits = record { dt = one; v_max = num 0x4014_0000_0000_0000; a_max = one; j_max = one; reach_max = one; margin = +0 };
   norm = norm_of;
-  walls = record { lo = replicate 8 (num low); hi = replicate 8 (num 2!) };
+  walls = walls_of (card 0 2! 0 1);
   shape = Box;
   zones = no_zones;
   absent_camera = Slow;
-  brake = brake_of (card 0 2! 0 1).numbers (card 0 2! 0 1).counts;
+  brake = brake_of (card 0 2! 0 1);
   gripper = ToZero;
   clamp = Project;
   armed = SPEED;

@@ -1,7 +1,7 @@
 // The numbers on the wall (R10.7) that are run, as the proved code gives them. The proved ones are one theorem, specs/Table.antt.
+use card::Card;
 use conformal::TimeBin;
 use libc::STDOUT_FILENO;
-use records::Card;
 
 // The bin of tick t on a horizon of 200, or 16 where there is none.
 fn bin_of(t: u32) -> u64 {
@@ -15,11 +15,22 @@ fn bin_of(t: u32) -> u64 {
 fn number_of(brake_steps: u16) -> u64 {
     let one = 0x3ff0_0000_0000_0000;
     let two = 0x4000_0000_0000_0000;
-    let half = 0x3fe0_0000_0000_0000;
-    let low = 0xbff0_0000_0000_0000;
     let card = Card {
-        numbers: [two, one, half, low, two, 0, 0, one, one, one, one],
-        counts: [64, 64, brake_steps, 0],
+        k_p: two,
+        k_v: one,
+        dt: 0x3fe0_0000_0000_0000,
+        lo: 0xbff0_0000_0000_0000,
+        hi: two,
+        p: 0,
+        v: 0,
+        row0: one,
+        row1: one,
+        row2: one,
+        row3: one,
+        substeps: 64,
+        commit: 64,
+        brake_steps,
+        from: 0,
     };
     let unread = [1.0; 192];
     let compiled = envelope::compile(card::configure(card), &unread, &unread);

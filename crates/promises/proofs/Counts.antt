@@ -5,7 +5,7 @@ use mathlib.Core.Bool.{Bool, true, false, not, ◌&&◌, ◌||◌, and-false}
 use mathlib.Core.List.{List}
 use native.Mathlib.Omega.{arith}
 use native.Mathlib.Nat.{min-eq_left, min-eq_right, mul-le-mul_left}
-use borrow.Author.Tests.{ltb-true, ltb-false, leb-true, leb-false, eqb_true, eqb-false, lt-ltb, le-ltb, le-leb, lt-leb, eq-eqb, ne_eqb}
+use borrow.Author.Tests.{ltb-true, ltb-false, leb-true, leb-false, eqb-true, eqb-false, lt-ltb, le-ltb, le-leb, lt-leb, eq-eqb, ne_eqb}
 use lib.Dec.{leb, ltb, eqb}
 use lib.Ieee.{Float}
 use Rattle.refusal.specs.Order.{refusal}
@@ -51,7 +51,7 @@ under : (x m k : ℕ) → k ≤ m → ltb (min x m) k ≡ ltb x k
 under x m k h = under_by x m k (ltb x k) h refl
 
 none_by : (x m : ℕ) (b : Bool) → 0 < m → eqb x 0 ≡ b → eqb (min x m) 0 ≡ b
-none_by x m true h e = let q = eqb_true x 0 e in eq-eqb (min x m) 0 (omega (arith, q, h))
+none_by x m true h e = let q = eqb-true x 0 e in eq-eqb (min x m) 0 (omega (arith, q, h))
 none_by x m false h e = ne_eqb (min x m) 0 (λ p. eqb-false x 0 e (omega (arith, p, h)))
 
 none : (x m : ℕ) → 0 < m → eqb (min x m) 0 ≡ eqb x 0
@@ -196,15 +196,15 @@ module _ (z w : Zones) (aux : ℕ) (r s : ℕ → Float) (i j : ℕ → ℕ) (ma
   unfolding zones_fit
   zones_alike = go (all held (counted w)) refl
     where
-      one_refused : (k : ℕ) → k < counted w → held k ≡ false → zones_fit z aux ≡ zones_fit w aux
-      one_refused k l e =
+      one-refused : (k : ℕ) → k < counted w → held k ≡ false → zones_fit z aux ≡ zones_fit w aux
+      one-refused k l e =
           let no = over k l e in
           all_fails (λ (m : ℕ). channels_ok (zone_at z m) aux && pair_is_own z m) (counted z) k (rw many l) (rw (one_by_one k l, no))
           ∙ sym (all_fails (λ (m : ℕ). channels_ok (zone_at w m) aux && pair_is_own w m) (counted w) k l (rw no))
 
       go : (b : Bool) → all held (counted w) ≡ b → zones_fit z aux ≡ zones_fit w aux
       go true e = (same_judged w aux z many (λ k l. whole_channels k l (all_at held (counted w) e k l))).1
-      go false e = let one = all_fails_at held (counted w) e in one_refused one.0 one.1 one.2
+      go false e = let one = all_fails_at held (counted w) e in one-refused one.0 one.1 one.2
 
 module _ (n : List Float) (c : List ℕ) where
   cut_to : (k : ℕ) → k < min (count c 5) 4 → zone_at (zones_of n c) k ≡ Zone (channel_of (first_at c k) (second_at c k)) (channel_of (second_at c k) (first_at c k)) (radius_at n k) (speed_at n k)

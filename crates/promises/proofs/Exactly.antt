@@ -5,7 +5,7 @@ use mathlib.Core.Path.{◌≡◌, refl, sym, ap, ◌∙◌}
 use mathlib.Core.Bool.{Bool, true, false, not, ◌||◌}
 use mathlib.Core.List.{List, [], ◌∷◌, ◌++◌}
 use native.Mathlib.Omega.{arith}
-use borrow.Author.Tests.{eqb_true, ne_eqb}
+use borrow.Author.Tests.{eqb-true, ne_eqb}
 use lib.Dec.{eqb, ltb}
 use lib.Ieee.{Float, Format, binary64}
 use lib.ListN.{length}
@@ -46,10 +46,6 @@ use Rattle.workspace.specs.declared.WallMasks.{WallMasks}
 use Rattle.brake.specs.Answer.{plan, lent_judged, last_unfit, row_lent, placed_or, outcome, decided_at, sent_at, forecast_refusal, forecast_answer, brake_sent, brake_refusal, brake_answer, hold_sent, hold_refusal, hold_answer}
 use Rattle.brake.specs.declared.Ran.TheVariants as ran
 use Rattle.brake.specs.Towards.{ran_to, running, run_lent, run_refusal, run_answer}
-use Rattle.records.specs.declared.card.Card.{Card}
-use Rattle.records.specs.declared.axes.AxesCard.{AxesCard}
-use Rattle.records.specs.Card.{buffer_judged, read_of, write_number}
-use Rattle.records.specs.Axes.{read_judged, axes_read_of, write_judged, axes_write_number}
 use Rattle.lictor.specs.Answer.{number_of as number_in, mask_number, count_number, emptiness_number, verdict_number, bin_number, check_number, forecast_number, ran_number, sent_number}
 
 -- n is the number of a call to which these reasons apply
@@ -208,8 +204,8 @@ module _ {A : Type 0} (number : A → ℕ) (refused : Refusal → A) (answer : A
   placed_told t n fine fails = go (eqb n 0) (eqb n 13) refl refl
     where
       go : (z f : Bool) → eqb n 0 ≡ z → eqb n 13 ≡ f → number (if z || f then placed_or refused answer t else refused (refused_for n)) ≡ n
-      go true f a b = let e = eqb_true n 0 a in rw (opposite (eqb (place_of t) 0) (fine e)) (accepts ∙ sym e)
-      go false true a b = let e = eqb_true n 13 b in rw (opposite (eqb (place_of t) 0) (fails e)) (refuses _ ∙ sym e)
+      go true f a b = let e = eqb-true n 0 a in rw (opposite (eqb (place_of t) 0) (fine e)) (accepts ∙ sym e)
+      go false true a b = let e = eqb-true n 13 b in rw (opposite (eqb (place_of t) 0) (fails e)) (refuses _ ∙ sym e)
       go false false a b = refuses _
 
 module _ (c : FuseConfig) (tabs : Tables) (p v rows : List Float) (k : Header) (from room : ℕ) where
@@ -270,21 +266,3 @@ trip_exactly cal tabs sc = exactly _ (chosen verdict_number (refusal (scores_jud
 pub time_bin_exactly : (t horizon : ℕ) → Exactly (bin_number (time_bin_of t horizon)) (among (steps when eqb horizon 0 ∷ []))
 unfolding bin_number time_bin_of
 time_bin_exactly t horizon = exactly _ (chosen bin_number (refusal (steps when eqb horizon 0 ∷ [])) _ _ refl refl)
-
--- ---- records (R9)
-
-pub read_card_exactly : (l : List ℕ) (was : Card) → Exactly (read_of l was).number (among (short when ltb (length l) 96 ∷ []))
-unfolding read_of
-read_card_exactly l was = exactly _ refl
-
-pub write_card_exactly : (room : ℕ) → Exactly (write_number room) (among (short when ltb room 96 ∷ []))
-unfolding write_number
-write_card_exactly room = exactly _ refl
-
-pub read_axes_card_exactly : (l : List ℕ) (was : AxesCard) → Exactly (axes_read_of l was).number (among (read_judged l))
-unfolding axes_read_of
-read_axes_card_exactly l was = exactly _ refl
-
-pub write_axes_card_exactly : (c : AxesCard) (room : ℕ) → Exactly (axes_write_number c room) (among (write_judged c room))
-unfolding axes_write_number
-write_axes_card_exactly c room = exactly _ refl

@@ -22,10 +22,7 @@ use Rattle.tier1.specs.declared.Cleared.{Cleared}
 use Rattle.brake.specs.declared.BrakeOut.{BrakeOut}
 use Rattle.brake.specs.declared.Ran.{Ran}
 use Rattle.brake.specs.declared.Sent.{Sent}
-use Rattle.records.specs.declared.card.CardRead.{CardRead}
-use Rattle.records.specs.declared.axes.AxesRead.{AxesRead}
 use Rattle.lictor.specs.Answer.{NumberGiven, FilledGiven, MaskGiven, RecordedGiven, CountGiven, EmptinessGiven, DerivedGiven, CheckGiven, FeaturedGiven, StateLaid, ClearedGiven, ForecastGiven, RanGiven, SentGiven, ScoredGiven, VerdictGiven, BinGiven}
-use Rattle.lictor.specs.Cards.{CardGiven, AxesGiven}
 use Rattle.lictor.proofs.lictor_environment.Reads as lictor-environment
 use Rattle.lictor.proofs.lictor_min.Reads as lictor-min
 use Rattle.lictor.proofs.lictor_max.Reads as lictor-max
@@ -57,10 +54,6 @@ use Rattle.lictor.proofs.braking.lictor_brake_feasible.Reads as lictor-brake-fea
 use Rattle.lictor.proofs.braking.lictor_run_towards.Reads as lictor-run-towards
 use Rattle.lictor.proofs.braking.lictor_brake_action.Reads as lictor-brake-action
 use Rattle.lictor.proofs.braking.lictor_hold_action.Reads as lictor-hold-action
-use Rattle.lictor.proofs.cards.lictor_read_card.Reads as lictor-read-card
-use Rattle.lictor.proofs.cards.lictor_write_card.Reads as lictor-write-card
-use Rattle.lictor.proofs.cards.lictor_read_axes_card.Reads as lictor-read-axes-card
-use Rattle.lictor.proofs.cards.lictor_write_axes_card.Reads as lictor-write-axes-card
 use Rattle.lictor.proofs.lictor_standardise.Reads as lictor-standardise
 use Rattle.lictor.proofs.lictor_aggregate.Reads as lictor-aggregate
 use Rattle.lictor.proofs.lictor_trip.Reads as lictor-trip
@@ -120,12 +113,6 @@ verdict_given p q = (unique p.number q.number, unique p.trips q.trips)
 
 bin_given : {a : TimeBin} {r r' : ℕ} {old : ℕ} {new new' : ℕ} → BinGiven a r old new → BinGiven a r' old new' → (r ≡ r') × (new ≡ new')
 bin_given p q = (unique p.number q.number, unique p.bin q.bin)
-
-card_given : {a : CardRead} {r r' : ℕ} {n n' c c' : List ℕ} → CardGiven a r n c → CardGiven a r' n' c' → (r ≡ r') × ((n ≡ n') × (c ≡ c'))
-card_given p q = (unique p.number q.number, (unique p.numbers q.numbers, unique p.counts q.counts))
-
-axes_given : {a : AxesRead} {r r' : ℕ} {n n' c c' : List ℕ} → AxesGiven a r n c → AxesGiven a r' n' c' → (r ≡ r') × ((n ≡ n') × (c ≡ c'))
-axes_given p q = (unique p.number q.number, (unique p.numbers q.numbers, unique p.counts q.counts))
 
 -- ---- what is told of an answer and of several places
 
@@ -263,17 +250,3 @@ one_lictor_trip l a r s x y = verdict_given
 
 pub one_lictor_time_bin : OneWithLent lictor-time-bin.Post (λ x. x.1.1.0.now)
 one_lictor_time_bin l a r s x y = bin_given
-
--- ---- records (R9)
-
-pub one_lictor_read_card : With2 lictor-read-card.Post (λ x. x.1.0.now) (λ x. x.1.1.0.now)
-one_lictor_read_card l a r s x y = card_given
-
-pub one_lictor_write_card : OneWithLent lictor-write-card.Post (λ x. x.1.1.0.now)
-one_lictor_write_card l a r s x y = both
-
-pub one_lictor_read_axes_card : With2 lictor-read-axes-card.Post (λ x. x.1.0.now) (λ x. x.1.1.0.now)
-one_lictor_read_axes_card l a r s x y = axes_given
-
-pub one_lictor_write_axes_card : OneWithLent lictor-write-axes-card.Post (λ x. x.1.1.0.now)
-one_lictor_write_axes_card l a r s x y = both

@@ -115,16 +115,10 @@ use Rattle.layout.proofs.scores.put_scores.Reads as put-scores
 use Rattle.layout.proofs.places.to_u8.Reads as to-u8
 use Rattle.layout.proofs.places.to_u16.Reads as to-u16
 use Rattle.layout.proofs.places.to_u32.Reads as to-u32
-use Rattle.records.proofs.read_card.Reads as read-card
-use Rattle.records.proofs.write_card.Reads as write-card
-use Rattle.records.proofs.read_axes_card.Reads as read-axes-card
-use Rattle.records.proofs.write_axes_card.Reads as write-axes-card
+use Rattle.card.proofs.decode.Reads as decode
 use Rattle.card.proofs.configure.Reads as configure
 use Rattle.card.proofs.run.Reads as run
-use Rattle.card.proofs.configure_axes.Reads as configure-axes
-use Rattle.card.proofs.run_axes.Reads as run-axes
 use Rattle.card.proofs.answer_of.Reads as answer-of
-use Rattle.card.proofs.bytes_of.Reads as bytes_of
 use Rattle.card.proofs.answer_block.Reads as answer-block
 use Rattle.sample.proofs.agrees.Reads as agrees
 
@@ -528,21 +522,10 @@ one_to_u16 l a r s x y = unique
 pub one_to_u32 : One to-u32.Post (λ r x. r)
 one_to_u32 l a r s x y = unique
 
--- ---- records (R9)
-
-pub one_read_card : One read-card.Post (λ r x. r)
-one_read_card l a r s x y = unique
-
-pub one_write_card : OneWithLent write-card.Post (λ x. x.1.0.now)
-one_write_card l a r s x y = both
-
-pub one_read_axes_card : One read-axes-card.Post (λ r x. r)
-one_read_axes_card l a r s x y = unique
-
-pub one_write_axes_card : OneWithLent write-axes-card.Post (λ x. x.1.0.now)
-one_write_axes_card l a r s x y = both
-
 -- ---- card (the desk)
+
+pub one_decode : One decode.Post (λ r x. r)
+one_decode l a r s x y = unique
 
 pub one_configure : One configure.Post (λ r x. r)
 one_configure l a r s x y = unique
@@ -550,19 +533,10 @@ one_configure l a r s x y = unique
 pub one_run : OneWithLent run.Post (λ x. x.1.0.now)
 one_run l a r s x y = both
 
-pub one_configure_axes : One configure-axes.Post (λ r x. r)
-one_configure_axes l a r s x y = unique
-
-pub one_run_axes : OneWithLent run-axes.Post (λ x. x.1.0.now)
-one_run_axes l a r s x y = both
-
 pub one_answer_of : One answer-of.Post (λ r x. r)
 one_answer_of l a r s x y = unique
 
-pub one_bytes_of : One bytes_of.Post (λ r x. r)
-one_bytes_of l a r s x y = unique
-
-pub one_answer_block : OneWithLent answer-block.Post (λ x. x.1.1.1.0.now)
+pub one_answer_block : OneWithLent answer-block.Post (λ x. x.1.1.0.now)
 one_answer_block l a r s x y p q = (unique p.0 q.0, unique p.1 q.1)
 
 -- ---- sample

@@ -37,10 +37,6 @@ use Rattle.workspace.specs.declared.WallMasks.{WallMasks}
 use Rattle.brake.specs.Answer.{placed_or, outcome, decided_at, slacks_at, plan, forecast_refusal, forecast_answer, forecast_slacks, sent_at, masks_sent, row_at, brake_sent, brake_refusal, brake_answer, brake_output, hold_sent, hold_refusal, hold_answer, hold_output}
 use Rattle.brake.specs.declared.Ran.TheVariants as ran
 use Rattle.brake.specs.Towards.{ran_to, running, run_refusal, run_answer, run_slacks, run_position, run_velocity}
-use Rattle.records.specs.declared.card.Card.{Card}
-use Rattle.records.specs.declared.axes.AxesCard.{AxesCard}
-use Rattle.records.specs.Card.{buffer_judged, read_of, write_number, written_to}
-use Rattle.records.specs.Axes.{read_judged, axes_read_of, axes_write_number, axes_written_to}
 use Rattle.lictor.specs.Answer.{check_number, forecast_number, ran_number, sent_number}
 use Rattle.promises.proofs.Exactly.{run_towards_number}
 use Rattle.promises.specs.Refused.{Refuses, RefusalChangesNothing}
@@ -153,24 +149,6 @@ run_kept c tabs a p v n l is =
     let refuses : Refuses k = λ z. is (run_towards_number c tabs a p v n (length l) ∙ z) in
     (left_kept p _ k refuses, left_kept v _ k refuses, slacks_kept ran_number ran.Refused _ refl (λ r. refl) k t l is)
 
--- ---- a card that is read, and one that is written
-
-read_card_kept : (l : List ℕ) (was : Card) → Refuses (read_of l was).number → (read_of l was).card ≡ was
-unfolding read_of
-read_card_kept l was = left_kept was _ (refusal (buffer_judged (length l)))
-
-write_card_kept : (c : Card) (out : List ℕ) → Refuses (write_number (length out)) → written_to c out ≡ out
-unfolding write_number written_to
-write_card_kept c out = left_kept out _ (refusal (buffer_judged (length out)))
-
-read_axes_card_kept : (l : List ℕ) (was : AxesCard) → Refuses (axes_read_of l was).number → (axes_read_of l was).card ≡ was
-unfolding axes_read_of
-read_axes_card_kept l was = left_kept was _ (refusal (read_judged l))
-
-write_axes_card_kept : (c : AxesCard) (out : List ℕ) → Refuses (axes_write_number c (length out)) → axes_written_to c out ≡ out
-unfolding axes_written_to
-write_axes_card_kept c out = left_kept out _ (axes_write_number c (length out))
-
 pub refusal_changes_nothing : RefusalChangesNothing
 refusal_changes_nothing = record {
   after_fill = fill_kept;
@@ -187,8 +165,4 @@ refusal_changes_nothing = record {
   after_run_towards = run_kept;
   after_brake_action = brake_kept;
   after_hold_action = hold_kept;
-  after_read_card = read_card_kept;
-  after_write_card = write_card_kept;
-  after_read_axes_card = read_axes_card_kept;
-  after_write_axes_card = write_axes_card_kept;
 }

@@ -17,10 +17,6 @@ use Rattle.tier1.specs.declared.Tier1Rt.{Tier1Rt}
 use Rattle.tier1.specs.Of.{features_of, reset_of}
 use Rattle.brake.specs.Answer.{forecast_answer, forecast_slacks, brake_answer, brake_output, hold_answer, hold_output}
 use Rattle.brake.specs.Towards.{run_answer, run_slacks, run_position, run_velocity}
-use Rattle.records.specs.declared.card.Card.{Card}
-use Rattle.records.specs.declared.axes.AxesCard.{AxesCard}
-use Rattle.records.specs.Card.{read_of, write_number, written_to}
-use Rattle.records.specs.Axes.{axes_read_of, axes_write_number, axes_written_to}
 use Rattle.lictor.specs.Answer.{check_number, forecast_number, ran_number, sent_number}
 
 -- a number that refuses
@@ -45,7 +41,3 @@ pub record RefusalChangesNothing : Type 0 where
       → (run_position binary64 c tabs a p v n (length l) ≡ p) × (run_velocity binary64 c tabs a p v n (length l) ≡ v) × ((ran_number (run_answer binary64 c tabs a p v n (length l)) ≡ 13 → ⊥) → run_slacks binary64 c tabs a p v n l ≡ l)
   pub after_brake_action : (c : FuseConfig) (tabs : Tables) (p v last l : List Float) → Refuses (sent_number (brake_answer binary64 c tabs p v last (length l))) → brake_output binary64 c tabs p v last l ≡ l
   pub after_hold_action : (c : FuseConfig) (tabs : Tables) (p last l : List Float) → Refuses (sent_number (hold_answer binary64 c tabs p last (length l))) → hold_output binary64 c tabs p last l ≡ l
-  pub after_read_card : (l : List ℕ) (was : Card) → Refuses (read_of l was).number → (read_of l was).card ≡ was
-  pub after_write_card : (c : Card) (out : List ℕ) → Refuses (write_number (length out)) → written_to c out ≡ out
-  pub after_read_axes_card : (l : List ℕ) (was : AxesCard) → Refuses (axes_read_of l was).number → (axes_read_of l was).card ≡ was
-  pub after_write_axes_card : (c : AxesCard) (out : List ℕ) → Refuses (axes_write_number c (length out)) → axes_written_to c out ≡ out

@@ -1,7 +1,7 @@
 -- What is judged in the order of the list: its first reason that applies. So a list of two parts is refused by the first part, and by the second where
 -- the first passes. For a list whose reasons stand in order `refusal` computes to `chain`.
 use Rattle.std.specs.Prelude.{ℕ, ◌≡◌, refl, Bool, true, false, List, [], ◌∷◌, ◌++◌, eqb}
-use Rattle.std.proofs.Common.{sym, ◌∙◌, eqb_true}
+use Rattle.std.proofs.Common.{sym, ◌∙◌, eqb-true}
 use Rattle.std.proofs.lemmas.Bool.{eqb-false}
 use Rattle.refusal.specs.Order.{Reason, Judged, number_of, ◌when◌, or_later}
 use Rattle.bits.specs.Choice.{if◌then◌else◌}
@@ -26,7 +26,7 @@ pub joined : (l m : List Judged) {a b r : ℕ} → a ≡ chain l → b ≡ chain
 joined l m {a} {b} {r} ea eb er = go (eqb a 0) refl
   where
     go : (none : Bool) → eqb a 0 ≡ none → r ≡ chain (l ++ m)
-    go true z = er ∙ rw (z, eb, first_passes l m (sym ea ∙ eqb_true a 0 z))
+    go true z = er ∙ rw (z, eb, first_passes l m (sym ea ∙ eqb-true a 0 z))
     go false z = er ∙ rw (z, ea, first_refuses l m (λ y. eqb-false a 0 z (ea ∙ y)))
 
 pub both_pass : (l m : List Judged) → chain (l ++ m) ≡ 0 → (chain l ≡ 0) × (chain m ≡ 0)

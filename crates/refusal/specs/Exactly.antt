@@ -1,7 +1,7 @@
 -- "Given exactly when": a number is given if and only if its reason applies and none before it in the order does, and 0 if and only if none applies.
 use Rattle.std.specs.Prelude.{ℕ, ◌≡◌, refl, Bool, true, false, List, [], ◌∷◌, eqb}
 use Rattle.std.proofs.Common.{sym, ap, ◌∙◌, subst, arith}
-use Rattle.refusal.specs.Order.{Reason, size, unused, number, steps, channels, shape, withdrawn, empty, tooLong, tooWide, execExceedsHorizon, lenMismatch, width, short, notFinite, computed, leftover, number_of, order, first_of, given}
+use Rattle.refusal.specs.Order.{Reason, size, number, steps, channels, shape, withdrawn, empty, tooLong, tooWide, execExceedsHorizon, lenMismatch, width, short, notFinite, computed, leftover, number_of, order, first_of, given}
 use Rattle.bits.specs.Choice.{if◌then◌else◌}
 
 -- k is the first of some reasons that applies
@@ -17,7 +17,6 @@ with_number n (k ∷ l) = if eqb (number_of k) n then k else with_number n l
 -- each reason is found in the order by its number; a new reason is a line here
 back : (k : Reason) → with_number (number_of k) order ≡ k
 back size = refl
-back unused = refl
 back number = refl
 back steps = refl
 back channels = refl

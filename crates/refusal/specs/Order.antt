@@ -4,13 +4,12 @@ use Rattle.bits.specs.Choice.{if◌then◌else◌}
 use Rattle.refusal.specs.declared.Refusal.{Refusal}
 
 pub data Reason : Type 0 where
-  size unused number steps channels shape withdrawn : Reason
+  size number steps channels shape withdrawn : Reason
   empty tooLong tooWide execExceedsHorizon lenMismatch width : Reason
   short notFinite computed leftover : Reason
 
 abbrev pub number_of : Reason → ℕ
 number_of size = 1
-number_of unused = 16
 number_of number = 2
 number_of steps = 3
 number_of channels = 4
@@ -27,10 +26,10 @@ number_of notFinite = 12
 number_of computed = 13
 number_of leftover = 14
 
--- the order of judging, which is not that of the numbers: 16 stands after 1, and 15 and 17 after 4
+-- the order of judging, which is not that of the numbers: 15 and 17 stand after 4
 abbrev pub order : List Reason
 order =
-    size ∷ unused ∷ number ∷ steps ∷ channels ∷ shape ∷ withdrawn
+    size ∷ number ∷ steps ∷ channels ∷ shape ∷ withdrawn
     ∷ empty ∷ tooLong ∷ tooWide ∷ execExceedsHorizon ∷ lenMismatch ∷ width
     ∷ short ∷ notFinite ∷ computed ∷ leftover ∷ []
 

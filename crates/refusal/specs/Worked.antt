@@ -1,12 +1,6 @@
 -- Two reasons at once, in whatever order an entry lists them, by computation: the first in the order of judging is given, be its number the larger.
 use Rattle.std.specs.Prelude.{◌≡◌, refl, true, [], ◌∷◌}
-use Rattle.refusal.specs.Order.{size, unused, number, channels, shape, withdrawn, empty, notFinite, ◌when◌, refusal}
-
-pub one_before_sixteen : refusal ((unused when true) ∷ (size when true) ∷ []) ≡ 1
-one_before_sixteen = refl
-
-pub sixteen_before_two : refusal ((number when true) ∷ (unused when true) ∷ []) ≡ 16
-sixteen_before_two = refl
+use Rattle.refusal.specs.Order.{number, channels, shape, withdrawn, empty, notFinite, ◌when◌, refusal}
 
 pub two_before_seventeen : refusal ((withdrawn when true) ∷ (number when true) ∷ []) ≡ 2
 two_before_seventeen = refl

@@ -12,8 +12,6 @@ pub struct Refusal {
 impl Refusal {
     pub const SIZE: u8 = 1;
 
-    pub const UNUSED: u8 = 16;
-
     pub const NUMBER: u8 = 2;
 
     pub const STEPS: u8 = 3;
@@ -74,7 +72,6 @@ impl Refusal {
         }
         let order = [
             Refusal::SIZE,
-            Refusal::UNUSED,
             Refusal::NUMBER,
             Refusal::STEPS,
             Refusal::CHANNELS,
@@ -92,7 +89,7 @@ impl Refusal {
             Refusal::LEFTOVER,
         ];
         let mut i = 0usize;
-        while i < 17 {
+        while i < 16 {
             let n = order[i];
             if (a == n) | (b == n) {
                 return n;

@@ -1,5 +1,5 @@
 -- From bits to bits, at either format: the parts of the root, put together as a pattern, are the pattern of the root.
-use Rattle.std.proofs.Common.{◌≡◌, ℕ, zero, suc, ◌+◌, ◌-◌, ◌*◌, ◌/◌, ◌%◌, ◌^◌, ◌<◌, ◌≤◌, Bool, true, false, T, eqb, ℤ, pos, ◌+ℤ◌, sym, refl, ap, ◌∙◌, subst, lt_of_lt_of_le, lt_of_le_of_lt, mul-le-mul_right, suc-mul, arith, lit<, lit≤, w64, to_z, of_z, eqb_true}
+use Rattle.std.proofs.Common.{◌≡◌, ℕ, zero, suc, ◌+◌, ◌-◌, ◌*◌, ◌/◌, ◌%◌, ◌^◌, ◌<◌, ◌≤◌, Bool, true, false, T, eqb, ℤ, pos, ◌+ℤ◌, sym, refl, ap, ◌∙◌, subst, lt_of_lt_of_le, lt_of_le_of_lt, mul-le-mul_right, suc-mul, arith, lit<, lit≤, w64, to_z, of_z, eqb-true}
 use lib.IntN.{sub_ℕ}
 use borrow.Author.Tests.{eqb-false}
 use lib.Ieee.{Float, Format, binary32, binary64, prec, low, size, hid, ones, fits, of_bits}
@@ -109,7 +109,7 @@ unpack f b p h = go (eqb (b / hid f) 0) refl
   where
     go : (t : Bool) → eqb (b / hid f) 0 ≡ t → Unpacked f b
     go true e =
-        let l = no_field f b (eqb_true (b / hid f) 0 e) in
+        let l = no_field f b (eqb-true (b / hid f) 0 e) in
         record { q = b; k = 0; some = p; few = under f b l; middle = one f; is = rw e; value = value_low f b l }
     go false e =
         let n = facts f b (some-field (b / hid f) (eqb-false (b / hid f) 0 e)) h in

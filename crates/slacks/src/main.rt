@@ -1,21 +1,19 @@
-// The slacks of forecasts, for the desk to draw: records of cards of all axes in, a line for each out. A card of one axis has the same slacks in such a
-// record (`card`'s promise `SlacksAsOneAxis`).
+// The slacks of forecasts, for the desk to draw: records of cards in, a line for each out.
 //
 // A line has the record's number, the answer's number, how many slacks were written, and each of them as the sixteen hexadecimal digits
-// of its bits. The slacks are those of `card::run_axes`, whose contract says what they are. Of the lines only that they end and stay in
+// of its bits. The slacks are those of `card::run`, whose contract says what they are. Of the lines only that they end and stay in
 // bounds is proved; their text is seen in the runs (tools/test-desk).
 ghost use Rattle.std.specs.Prelude.{◌≡◌, length};
 
 use brake::BrakeOut;
 use libc::{STDERR_FILENO, STDOUT_FILENO};
-use records::AxesCard;
 use refusal::Refusal;
 
 // Room for one record.
-fn record_buffer() -> [u8; 552]
-    ensures { 552 ≡ length result }
+fn record_buffer() -> [u8; 96]
+    ensures { 96 ≡ length result }
 {
-    [0; 552]
+    [0; 96]
 }
 
 // Room for as many slacks as a forecast can have.
@@ -65,16 +63,8 @@ fn put_line(n: u64, number: u64, count: u64, slacks: &[f64]) -> bool {
 fn put_card(n: u64, record: &[u8]) -> bool {
     let mut space = slack_buffer();
     let slacks: &mut [f64] = &mut space;
-    let none = AxesCard {
-        numbers: [0; 67],
-        counts: [0; 8],
-    };
-    let read = records::read_axes_card(record, none);
-    if read.number != 0 {
-        return put_line(n, read.number as u64, 0, &[]);
-    }
-    let card = read.card;
-    let outcome: BrakeOut = card::run_axes(card, slacks);
+    let card = card::decode(record);
+    let outcome: BrakeOut = card::run(card, slacks);
     let answer = card::answer_of(outcome);
     put_line(n, answer.number, answer.count, slacks)
 }
@@ -101,7 +91,7 @@ fn turn(n: u64) -> bool {
     if filled.n == 0 {
         return false;
     }
-    let whole = filled.n == AxesCard::BYTES;
+    let whole = filled.n == 96;
     let wrote = if whole {
         put_card(n, record)
     } else {

@@ -7,7 +7,7 @@ use mathlib.Core.Logic.{⊎_elim}
 use mathlib.Core.List.{List, ◌++◌}
 use native.Mathlib.Nat.{le_refl, lt_of_lt_of_le}
 use native.Mathlib.Omega.{arith}
-use borrow.Author.Tests.{eqb_true, le-ltb, not-false}
+use borrow.Author.Tests.{eqb-true, le-ltb, not-false}
 use lib.Dec.{eqb}
 use lib.ListN.{length, replicate, take, drop}
 use lib.Seq.{take-length, take_at, length-take-le, get_or-take}
@@ -173,7 +173,7 @@ module _ (f : Format) (s : Checks) (p aux rows l : List Float) (h : ℕ) (calm-s
         in_workspace = some_none_at (λ (j : ℕ). (out_of_workspace f s (raw_row rows s.dim j)).value) h (sym by.workspace ∙ calm-so.workspace_calm) i b;
         in_step = λ armed. some_none_at (longest s.step_max) h (armed_not (arms s SPEED) _ (sym by.speed ∙ calm-so.speed_calm) armed) i b;
         in_zone_step = λ inside. some_none_at (longest slow_here.step) h (armed_not slow_here.inside _ (sym by.contact ∙ calm-so.contact_calm) inside) i b;
-        in_reach = λ isFirst armed. let e = eqb_true i 0 isFirst in rw e (armed_not (arms s REACH) _ (sym (far_exactly f s p (raw_row rows s.dim 0)) ∙ sym by.reach ∙ calm-so.reach_calm) armed);
+        in_reach = λ isFirst armed. let e = eqb-true i 0 isFirst in rw e (armed_not (arms s REACH) _ (sym (far_exactly f s p (raw_row rows s.dim 0)) ∙ sym by.reach ∙ calm-so.reach_calm) armed);
       }
 
   chunk_stays : s.dim ≤ 8 → ((i j : ℕ) → i < h → j < s.dim → finite (at (raw_row rows s.dim i) j) ≡ true) → (check_chunk f s p aux rows l h).value.after ≡ record { rows = over (at rows) l (h * s.dim); mask = 0 }

@@ -5,7 +5,7 @@ use mathlib.Core.Bool.{Bool, true, false, not}
 use mathlib.Core.List.{List, [], ◌∷◌, ◌++◌}
 use native.Mathlib.Nat.{le_trans}
 use native.Mathlib.Omega.{arith}
-use borrow.Author.Tests.{ltb-false, eqb_true, not-false}
+use borrow.Author.Tests.{ltb-false, eqb-true, not-false}
 use lib.Dec.{ltb, eqb}
 use lib.ListN.{length, replicate}
 use lib.Ieee.{Float, Format}
@@ -105,7 +105,7 @@ module _ (f : Format) (c : FuseConfig) (t : Tables) (p aux rows : List Float) (k
       let passed = both_pass sizes (lent room) config.1 in
       let unfit-last = (notFinite when unfit) ∷ [] in
       let wide = passes_at width (broad) ((short when brief room) ∷ unfit-last) passed.1 in
-      known_sizes room (dim_most f c t (accepted f c t config.0)) (sizes_accepted k (length rows) passed.0) (eqb_true k.dim c.dim (not-false (eqb k.dim c.dim) wide.0)) (passes_at short (brief room) unfit-last wide.1).0
+      known_sizes room (dim_most f c t (accepted f c t config.0)) (sizes_accepted k (length rows) passed.0) (eqb-true k.dim c.dim (not-false (eqb k.dim c.dim) wide.0)) (passes_at short (brief room) unfit-last wide.1).0
 
   abbrev ruling : Checked Judgement
   ruling = chunk_ruling f c p aux rows h

@@ -6,7 +6,7 @@ use mathlib.Core.Bool.{Bool, true, false, and-true, and-false}
 use mathlib.Core.Logic.{⊎_elim}
 use mathlib.Core.List.{List, [], ◌∷◌}
 use native.Mathlib.Omega.{arith}
-use borrow.Author.Tests.{eqb_true, le-leb, lt-leb, lt-ltb, le-ltb}
+use borrow.Author.Tests.{eqb-true, le-leb, lt-leb, lt-ltb, le-ltb}
 use lib.Dec.{eqb, leb, ltb}
 use lib.ListN.{length}
 use lib.Ieee.{Float, Format, mul}
@@ -123,7 +123,7 @@ keeps : (a w : ℕ) → (a / 32 % 2 ≡ 1 → (a - 32) / w % 2 ≡ a / w % 2) �
 keeps a w h = go (raised CONTACT a) refl
   where
     go : (b : Bool) → raised CONTACT a ≡ b → raised w (a - weight b CONTACT) ≡ raised w a
-    go true e = ap (λ (n : ℕ). eqb n 1) (h (eqb_true (a / 32 % 2) 1 e))
+    go true e = ap (λ (n : ℕ). eqb n 1) (h (eqb-true (a / 32 % 2) 1 e))
     go false e = ap (raised w) (let z : a - 0 ≡ a = omega arith in z)
 
 but_contact : (a : ℕ) → MovesAlike a (without_contact a)
@@ -136,7 +136,7 @@ no_contact_bit : (a : ℕ) → raised CONTACT (without_contact a) ≡ false
 no_contact_bit a = go (raised CONTACT a) refl
   where
     go : (b : Bool) → raised CONTACT a ≡ b → raised CONTACT (a - weight b CONTACT) ≡ false
-    go true e = let is = eqb_true (a / 32 % 2) 1 e in let none : (a - 32) / 32 % 2 ≡ 0 = omega arith in rw none
+    go true e = let is = eqb-true (a / 32 % 2) 1 e in let none : (a - 32) / 32 % 2 ≡ 0 = omega arith in rw none
     go false e = let z : a - 0 ≡ a = omega arith in rw z e
 
 module _ (f : Format) (t : Tables) (c : FuseConfig) (p aux : List Float) where

@@ -3,7 +3,7 @@ use Prim.Native.Nat.{ℕ, ◌+◌, ◌-◌, ◌≤◌, ◌<◌, min}
 use mathlib.Core.Path.{◌≡◌, refl, sym}
 use mathlib.Core.Bool.{Bool, true, false, ◌&&◌}
 use native.Mathlib.Omega.{arith}
-use borrow.Author.Tests.{leb-true, eqb_true}
+use borrow.Author.Tests.{leb-true, eqb-true}
 use lib.Dec.{eqb, leb}
 use Rattle.bits.specs.Choice.{if◌then◌else◌}
 use Rattle.checked.proofs.Each.{and_left, and_right}
@@ -48,7 +48,7 @@ module _ (k : Kept) (t h d : ℕ) where
           let z : overlap k t h d ≡ min (k.horizon - (t - k.t_emit)) h = sym (shares e refl) in
           record {
             there = and_left k.there (eqb k.dim d) w;
-            wide = eqb_true k.dim d (and_right k.there (eqb k.dim d) w);
+            wide = eqb-true k.dim d (and_right k.there (eqb k.dim d) w);
             emitted = not_earlier e;
             inside = omega arith;
             of_new = omega arith;

@@ -4,7 +4,7 @@ use mathlib.Core.Path.{◌≡◌, refl, sym, ap, ◌∙◌}
 use mathlib.Core.Bool.{Bool, true, false, not, ◌&&◌, ◌||◌}
 use mathlib.Core.List.{List, [], ◌∷◌}
 use native.Mathlib.Omega.{arith}
-use borrow.Author.Tests.{eqb_true, not-false}
+use borrow.Author.Tests.{eqb-true, not-false}
 use lib.Dec.{eqb}
 use lib.ListN.{length}
 use lib.Ieee.{Float, Format}
@@ -131,7 +131,7 @@ module _ (fm : Format) (c : FuseConfig) (tabs : Tables) (p ext : List Float) (th
   new_fits t =
       let g : given (among (chunk_reasons k (length rows)) or among ((width when not (eqb k.dim c.dim)) ∷ [])) ≡ 0 = rw t at parts.1.0 in
       let w = neither_applies (among (chunk_reasons k (length rows))) (among ((width when not (eqb k.dim c.dim)) ∷ [])) g in
-      (first_passes (chunk_reasons k (length rows)) ((notFinite when some_not_finite rows) ∷ []) w.0 ∙ rw (rows_finite t), eqb_true k.dim c.dim (not-false (eqb k.dim c.dim) (no_10 (not (eqb k.dim c.dim)) w.1)))
+      (first_passes (chunk_reasons k (length rows)) ((notFinite when some_not_finite rows) ∷ []) w.0 ∙ rw (rows_finite t), eqb-true k.dim c.dim (not-false (eqb k.dim c.dim) (no_10 (not (eqb k.dim c.dim)) w.1)))
 
   pub before_fits : rt.prev.filled ≡ true → (rt.prev.header.horizon ≤ 64) × (rt.prev.header.horizon * rt.prev.header.dim ≤ 512)
   before_fits =

@@ -1,11 +1,7 @@
 //! The exported functions themselves, on a configuration as C passes it: what is not read comes to them as it is, as a zone past the count
-//! and the centre and the radius of a box, which do not come to the library by the binding; and of cards the arrays that are lent, and the four
-//! bytes at the end.
+//! and the centre and the radius of a box, which do not come to the library by the binding.
 
-use model::{
-    cards::{AxesCard, Card},
-    BrakeOut, ChunkView, Derived, FuseConfig, Ran, Refusal, Tier0Out, WallMarks, BINS, MAX_D, MAX_POS, NFEAT,
-};
+use model::{BrakeOut, ChunkView, Derived, FuseConfig, Ran, Refusal, Tier0Out, WallMarks, BINS, MAX_D, MAX_POS, NFEAT};
 
 use crate::port::{Answer, Port};
 
@@ -119,14 +115,9 @@ extern "C" {
         out_len: usize,
         walls: &mut [u64; 2],
     ) -> u64;
-    fn lictor_read_card(bytes: *const u8, bytes_len: usize, numbers: &mut [u64; 11], counts: &mut [u16; 4]) -> u64;
-    fn lictor_write_card(numbers: &[u64; 11], counts: &[u16; 4], bytes: *mut u8, bytes_len: usize) -> u64;
-    fn lictor_read_axes_card(bytes: *const u8, bytes_len: usize, numbers: &mut [u64; 67], counts: &mut [u16; 8])
-        -> u64;
-    fn lictor_write_axes_card(numbers: &[u64; 67], counts: &[u16; 8], bytes: *mut u8, bytes_len: usize) -> u64;
 }
 
-/// The entries that read the zones or the workspace, and those of the cards.
+/// The entries that read the zones or the workspace.
 pub fn port() -> Port {
     Port {
         derive: Some(derive),
@@ -136,10 +127,6 @@ pub fn port() -> Port {
         run_towards: Some(run_towards),
         brake_action: Some(brake_action),
         hold_action: Some(hold_action),
-        read_card: Some(read_card),
-        write_card: Some(write_card),
-        read_axes_card: Some(read_axes_card),
-        write_axes_card: Some(write_axes_card),
         ..Port::default()
     }
 }
@@ -371,69 +358,4 @@ fn hold_action(c: &FuseConfig, p: &[f64], last: &[f64], out: &mut [f64]) -> Answ
         )
     };
     walls(number, marks)
-}
-
-/// A card for one axis as C passes it.
-fn one_laid(c: &Card) -> ([u64; 11], [u16; 4]) {
-    let [row0, row1, row2, row3] = c.rows;
-    let numbers = [c.k_p, c.k_v, c.dt, c.lo, c.hi, c.p, c.v, row0, row1, row2, row3];
-    (numbers, [c.substeps, c.commit, c.brake_steps, c.from])
-}
-
-fn read_card(bytes: &[u8], card: &mut Card) -> Answer<()> {
-    let (mut numbers, mut counts) = one_laid(card);
-    let number = unsafe { lictor_read_card(bytes.as_ptr(), bytes.len(), &mut numbers, &mut counts) };
-    let [k_p, k_v, dt, lo, hi, p, v, rows @ ..] = numbers;
-    let [substeps, commit, brake_steps, from] = counts;
-    *card = Card { k_p, k_v, dt, lo, hi, p, v, rows, substeps, commit, brake_steps, from };
-    given(number, 0, || ())
-}
-
-fn write_card(card: &Card, bytes: &mut [u8]) -> Answer<()> {
-    let (numbers, counts) = one_laid(card);
-    let number = unsafe { lictor_write_card(&numbers, &counts, bytes.as_mut_ptr(), bytes.len()) };
-    given(number, 0, || ())
-}
-
-/// A card for all axes as C passes it: the four bytes at its end are the last two counts.
-fn all_laid(c: &AxesCard) -> ([u64; 67], [u16; 8]) {
-    let mut numbers = vec![c.k_p, c.k_v, c.dt];
-    for axes in [c.lo, c.hi, c.p, c.v].iter().chain(&c.rows) {
-        numbers.extend(axes);
-    }
-    let end = [[c.end[0], c.end[1]], [c.end[2], c.end[3]]].map(u16::from_le_bytes);
-    let counts = [c.substeps, c.commit, c.brake_steps, c.from, c.dim, c.pos_dim, end[0], end[1]];
-    (numbers.try_into().expect("67 numbers"), counts)
-}
-
-fn read_axes_card(bytes: &[u8], card: &mut AxesCard) -> Answer<()> {
-    let (mut numbers, mut counts) = all_laid(card);
-    let number = unsafe { lictor_read_axes_card(bytes.as_ptr(), bytes.len(), &mut numbers, &mut counts) };
-    let [k_p, k_v, dt, ref axes @ ..] = numbers;
-    let eight = |k: usize| std::array::from_fn(|i| axes[8 * k + i]);
-    let [substeps, commit, brake_steps, from, dim, pos_dim, ref end @ ..] = counts;
-    *card = AxesCard {
-        k_p,
-        k_v,
-        dt,
-        lo: eight(0),
-        hi: eight(1),
-        p: eight(2),
-        v: eight(3),
-        rows: std::array::from_fn(|k| eight(4 + k)),
-        substeps,
-        commit,
-        brake_steps,
-        from,
-        dim,
-        pos_dim,
-        end: std::array::from_fn(|i| end[i / 2].to_le_bytes()[i % 2]),
-    };
-    given(number, 0, || ())
-}
-
-pub fn write_axes_card(card: &AxesCard, bytes: &mut [u8]) -> Answer<()> {
-    let (numbers, counts) = all_laid(card);
-    let number = unsafe { lictor_write_axes_card(&numbers, &counts, bytes.as_mut_ptr(), bytes.len()) };
-    given(number, 0, || ())
 }

@@ -1,17 +1,13 @@
 //! The port as a customer has it, through `bindings/rust`: the model's arguments taken over into the binding's, and its
 //! answer back.
 
-use lictor::{brake, cards, chunk, config, conformal, fmath, tier0, tier1, window};
+use lictor::{brake, chunk, config, conformal, fmath, tier0, tier1, window};
 use model::{
-    cards::{AxesCard, Card},
     AbsentCamera, ActionKind, BrakeKind, BrakeOut, Calibration, ChunkBuf, ChunkView, ClampMode, ContactLimit, Derived,
     FuseConfig, Gripper, Ran, Scores, Shape, Tier0Out, Tier1Rt, Trail, WallMarks, Zones, MAX_ZONES,
 };
 
-use crate::{
-    exported,
-    port::{Answer, Port},
-};
+use crate::port::{Answer, Port};
 
 /// What the static library has. An entry that is named here is compared in every run, and timed by `bench`.
 pub fn port() -> Port {
@@ -55,12 +51,6 @@ pub fn port() -> Port {
         aggregate: Some(|c, sc| on_scores(sc, |s| conformal::aggregate(&calibration(c), s))),
         trip: Some(|c, sc| answer(conformal::trip(&calibration(c), &scores(sc)))),
         time_bin: Some(|t, ticks| answer(conformal::time_bin(t, ticks))),
-        read_card: Some(|bytes, card| answer(cards::Card::read(bytes)).map(|read| *card = one_axis_back(&read))),
-        write_card: Some(|card, bytes| answer(one_axis(card).write(bytes))),
-        read_axes_card: Some(|bytes, card| {
-            answer(cards::AxesCard::read(bytes)).map(|read| *card = all_axes_back(&read))
-        }),
-        write_axes_card: Some(write_axes_card),
     }
 }
 
@@ -283,35 +273,6 @@ pub fn config(c: &FuseConfig) -> config::Config {
         calibration: c.calibrated.then(|| calibration(&c.cal)),
         horizon_ticks: c.horizon_ticks,
     })
-}
-
-pub fn one_axis(c: &Card) -> cards::Card {
-    let Card { k_p, k_v, dt, lo, hi, p, v, rows, substeps, commit, brake_steps, from } = *c;
-    cards::Card { k_p, k_v, dt, lo, hi, p, v, rows, substeps, commit, brake_steps, from }
-}
-
-fn one_axis_back(c: &cards::Card) -> Card {
-    let cards::Card { k_p, k_v, dt, lo, hi, p, v, rows, substeps, commit, brake_steps, from } = *c;
-    Card { k_p, k_v, dt, lo, hi, p, v, rows, substeps, commit, brake_steps, from }
-}
-
-pub fn all_axes(c: &AxesCard) -> cards::AxesCard {
-    let AxesCard { k_p, k_v, dt, lo, hi, p, v, rows, substeps, commit, brake_steps, from, dim, pos_dim, end: _ } = *c;
-    cards::AxesCard { k_p, k_v, dt, lo, hi, p, v, rows, substeps, commit, brake_steps, from, dim, pos_dim }
-}
-
-fn all_axes_back(c: &cards::AxesCard) -> AxesCard {
-    let cards::AxesCard { k_p, k_v, dt, lo, hi, p, v, rows, substeps, commit, brake_steps, from, dim, pos_dim } = *c;
-    let end = [0; 4];
-    AxesCard { k_p, k_v, dt, lo, hi, p, v, rows, substeps, commit, brake_steps, from, dim, pos_dim, end }
-}
-
-/// The binding's card has no bytes at its end: where those are not zero the exported function is asked.
-fn write_axes_card(card: &AxesCard, bytes: &mut [u8]) -> Answer<()> {
-    match card.end {
-        [0, 0, 0, 0] => answer(all_axes(card).write(bytes)),
-        _ => exported::write_axes_card(card, bytes),
-    }
 }
 
 fn derived(d: config::Derived) -> Derived {

@@ -10,13 +10,10 @@ pub enum Part<'a> {
     /// An array, with the number that its entries usually are.
     Table(&'a mut [f64], f64),
     Slice(&'a mut Vec<f64>),
-    Bytes(&'a mut Vec<u8>),
     U8(&'a mut u8),
     U16(&'a mut u16),
     U32(&'a mut u32),
     U64(&'a mut u64),
-    /// The bits of a number.
-    Pattern(&'a mut u64),
     Usize(&'a mut usize),
     Bits(&'a mut u32),
     Flag(&'a mut bool),
@@ -52,12 +49,10 @@ impl Part<'_> {
             Part::Num(x) => **x = broken(rng, **x),
             Part::Table(v, _) => damage_one(rng, v),
             Part::Slice(v) => damage_slice(rng, v),
-            Part::Bytes(v) => damage_bytes(rng, v),
             Part::U8(n) => **n = edge(rng, **n as u64) as u8,
             Part::U16(n) => **n = edge(rng, **n as u64) as u16,
             Part::U32(n) => **n = edge(rng, **n as u64) as u32,
             Part::U64(n) => **n = edge(rng, **n),
-            Part::Pattern(x) => damage_pattern(rng, x),
             Part::Usize(n) => **n = edge(rng, **n as u64) as usize,
             Part::Bits(b) => **b ^= 1 << rng.below(32),
             Part::Flag(f) => **f = !**f,
@@ -79,12 +74,10 @@ impl Part<'_> {
             Part::Num(x) => simpler_number(x, 0.0, way),
             Part::Table(v, usual) => simpler_table(v, *usual, way),
             Part::Slice(v) => simpler_slice(v, way),
-            Part::Bytes(v) => simpler_bytes(v, way),
             Part::U8(n) => simpler_count(**n as u64, way, |m| **n = m as u8),
             Part::U16(n) => simpler_count(**n as u64, way, |m| **n = m as u16),
             Part::U32(n) | Part::Bits(n) => simpler_count(**n as u64, way, |m| **n = m as u32),
             Part::U64(n) => simpler_count(**n, way, |m| **n = m),
-            Part::Pattern(x) => simpler_pattern(x, way),
             Part::Usize(n) => simpler_count(**n as u64, way, |m| **n = m as usize),
             Part::Flag(f) => once(way, *f, false),
             Part::Kind(k) => once(way, *k, ActionKind::EePosition),
@@ -136,27 +129,6 @@ fn damage_slice(rng: &mut Rng, v: &mut Vec<f64>) {
         4 => v.extend([0.0; 9]),
         _ => damage_one(rng, v),
     }
-}
-
-/// One byte less or more, an end that is missing, or a bit turned over, half of those among the last sixteen bytes.
-fn damage_bytes(rng: &mut Rng, v: &mut Vec<u8>) {
-    let n = v.len();
-    match rng.below(8) {
-        0 => drop(v.pop()),
-        1 => v.push(rng.bits() as u8),
-        2 => v.truncate(rng.below(n + 1)),
-        _ if n == 0 => (),
-        k => {
-            let last = if k % 2 == 0 { n.min(16) } else { n };
-            v[n - 1 - rng.below(last)] ^= 1 << rng.below(8);
-        }
-    }
-}
-
-/// A bit turned over, often the sign.
-fn damage_pattern(rng: &mut Rng, x: &mut u64) {
-    let any = rng.below(64);
-    *x ^= 1 << rng.pick(&[63, any]);
 }
 
 fn damage_contact(rng: &mut Rng, z: &mut Zones) {
@@ -271,28 +243,6 @@ fn simpler_slice(v: &mut Vec<f64>, way: usize) -> Option<bool> {
     Some(v.len() < n)
 }
 
-/// Fewer bytes; then each eight of them as zeros; then byte by byte.
-fn simpler_bytes(v: &mut Vec<u8>, way: usize) -> Option<bool> {
-    const COUNTS: usize = 5;
-    let (n, eights) = (v.len(), v.len().div_ceil(8));
-    match way {
-        0 => v.clear(),
-        1 => v.truncate(n / 2),
-        2 => drop(v.pop()),
-        way if way - 3 < eights => {
-            let eight = &mut v[8 * (way - 3)..n.min(8 * (way - 2))];
-            let changed = eight.iter().any(|b| *b != 0);
-            eight.fill(0);
-            return Some(changed);
-        }
-        _ => {
-            let byte = v.get_mut((way - 3 - eights) / COUNTS)?;
-            return simpler_count(u64::from(*byte), (way - 3 - eights) % COUNTS, |m| *byte = m as u8);
-        }
-    }
-    Some(v.len() < n)
-}
-
 fn simpler_count(n: u64, way: usize, mut set: impl FnMut(u64)) -> Option<bool> {
     let candidate = *[0, 1, 2, n / 2, n.saturating_sub(1)].get(way)?;
     if candidate >= n {
@@ -300,18 +250,6 @@ fn simpler_count(n: u64, way: usize, mut set: impl FnMut(u64)) -> Option<bool> {
     }
     set(candidate);
     Some(true)
-}
-
-/// No bit, and then one bit less, each in turn.
-fn simpler_pattern(x: &mut u64, way: usize) -> Option<bool> {
-    let candidate = match way {
-        0 => 0,
-        1..=64 => *x & !(1 << (way - 1)),
-        _ => return None,
-    };
-    let changed = candidate != *x;
-    *x = candidate;
-    Some(changed)
 }
 
 fn simpler_contact(z: &mut Zones, way: usize) -> Option<bool> {

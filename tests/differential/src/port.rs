@@ -1,7 +1,6 @@
 //! The port's side: each entry of `bindings/rust` in the shape of the model's, or `None` while it is not there.
 
 use model::{
-    cards::{AxesCard, Card},
     BrakeOut, Calibration, ChunkBuf, ChunkView, Derived, FuseConfig, Ran, Refusal, Scores, Tier0Out, Tier1Rt, Trail,
     WallMarks,
 };
@@ -44,10 +43,6 @@ pub type Standardise = fn(&Calibration, usize, &mut Scores) -> Answer<()>;
 pub type Aggregate = fn(&Calibration, &mut Scores) -> Answer<f64>;
 pub type Trip = fn(&Calibration, &Scores) -> Answer<bool>;
 pub type TimeBin = fn(u32, u32) -> Answer<usize>;
-/// The bytes, and the card that is read over.
-pub type Read<C> = fn(&[u8], &mut C) -> Answer<()>;
-/// The card, and the bytes that are written over.
-pub type Write<C> = fn(&C, &mut [u8]) -> Answer<()>;
 
 #[derive(Clone, Copy, Default)]
 pub struct Port {
@@ -84,8 +79,4 @@ pub struct Port {
     pub aggregate: Option<Aggregate>,
     pub trip: Option<Trip>,
     pub time_bin: Option<TimeBin>,
-    pub read_card: Option<Read<Card>>,
-    pub write_card: Option<Write<Card>>,
-    pub read_axes_card: Option<Read<AxesCard>>,
-    pub write_axes_card: Option<Write<AxesCard>>,
 }

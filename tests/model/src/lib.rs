@@ -5,7 +5,6 @@
 
 pub mod boundary;
 pub mod brake;
-pub mod cards;
 pub mod checked;
 pub mod chunk;
 pub mod conformal;

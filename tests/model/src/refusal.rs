@@ -4,7 +4,6 @@
 use crate::checked::NotFinite;
 
 pub const SIZE: u8 = 1;
-pub const UNUSED: u8 = 16;
 pub const NUMBER: u8 = 2;
 pub const STEPS: u8 = 3;
 pub const CHANNELS: u8 = 4;
@@ -21,9 +20,8 @@ pub const NOT_FINITE: u8 = 12;
 pub const COMPUTED: u8 = 13;
 
 /// The order of judging, which is written here apart from the port's and is not that of the numerals.
-pub const ORDER: [u8; 16] = [
+pub const ORDER: [u8; 15] = [
     SIZE,
-    UNUSED,
     NUMBER,
     STEPS,
     CHANNELS,

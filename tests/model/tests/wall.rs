@@ -29,54 +29,6 @@ fn the_cards() {
     assert_eq!(forecast(&card(2.0, 0), 1), (answered(0, f64::INFINITY, 0.0), vec![7.0; 6]));
 }
 
-/// F1 as a record for all axes: one axis, or the same axis as often as there is room for it.
-fn f1(axes: u16) -> cards::AxesCard {
-    let all = |x: f64| std::array::from_fn(|i| if i < axes as usize { x.to_bits() } else { 0 });
-    cards::AxesCard {
-        k_p: 2f64.to_bits(),
-        k_v: 1f64.to_bits(),
-        dt: 0.5f64.to_bits(),
-        lo: all(-1.0),
-        hi: all(2.0),
-        rows: [all(1.0); 4],
-        substeps: 2,
-        commit: 1,
-        brake_steps: 1,
-        dim: axes,
-        pos_dim: axes,
-        ..cards::AxesCard::default()
-    }
-}
-
-#[test]
-fn the_cards_for_all_axes() {
-    for (axes, stop_dist) in [(1, 1.25), (4, 2.5)] {
-        let card = f1(axes);
-        assert_eq!(cards::forecast(&card.record()), answered(4, 0.75, stop_dist));
-        let mut lower = card;
-        lower.hi[axes as usize - 1] = 1f64.to_bits();
-        assert_eq!(cards::forecast(&lower.record()), answered(4, -0.25, stop_dist));
-        let none = cards::AxesCard { from: 1, brake_steps: 0, ..card };
-        assert_eq!(cards::forecast(&none.record()), answered(0, f64::INFINITY, 0.0));
-    }
-    // an axis of the rows that the position has not, and one of the position that the rows have not, move nothing
-    let mut gripper = cards::AxesCard { dim: 2, ..f1(1) };
-    gripper.rows[0][1] = 9f64.to_bits();
-    assert_eq!(cards::forecast(&gripper.record()), answered(4, 0.75, 1.25));
-    let mut still = cards::AxesCard { pos_dim: 2, ..f1(1) };
-    (still.lo[1], still.hi[1], still.p[1]) = (8f64.to_bits(), 8f64.to_bits(), 9f64.to_bits());
-    assert_eq!(cards::forecast(&still.record()), answered(4, 0.75, 1.25));
-    // the second row alone, of which the first axis goes to 1 and the second stays
-    let mut wide = cards::AxesCard { from: 1, commit: 2, ..f1(2) };
-    (wide.rows[0], wide.rows[1][0]) = ([0; 8], 1f64.to_bits());
-    wide.rows[1][1] = 0;
-    assert_eq!(cards::forecast(&wide.record()), answered(4, 0.75, 1.25));
-    // a card for one axis asks the same
-    let numbers = [2.0, 1.0, 0.5, -1.0, 2.0, 0.0, 0.0, 1.0, 1.0, 1.0, 1.0].map(f64::to_le_bytes).concat();
-    let one = cards::Card::of(&[&numbers[..], &[2, 0, 1, 0, 1, 0, 0, 0]].concat());
-    assert_eq!(one.on_one_axis(), f1(1));
-}
-
 #[test]
 fn the_roots() {
     assert_eq!(fmath::sqrt(25.0), Ok(5.0));

@@ -1,7 +1,6 @@
-//! Every entry of modules 1 to 8, and of the cards, with its three sides.
+//! Every entry of modules 1 to 8 with its three sides.
 
 pub mod brake;
-pub mod cards;
 pub mod chunk;
 pub mod conformal;
 pub mod envelope;
@@ -73,10 +72,6 @@ pub fn all(port: &Port) -> Vec<Task> {
         fmath::dist(port).task(),
         fmath::order(port).task(),
         conformal::time_bin(port).task(),
-        cards::read_axes_card(port).task(),
-        cards::write_axes_card(port).task(),
-        cards::read_card(port).task(),
-        cards::write_card(port).task(),
     ]);
     tasks
 }

@@ -1,31 +1,33 @@
--- `card::block::put_card` meets its contract: answered and put, each by its own rule.
-use mathlib.Core.Path.{◌≡◌, subst}
-use Prim.Native.Nat.{◌+◌, ◌-◌}
-use native.Mathlib.Omega.{arith}
-use Rattle.card.specs.Sizes.{size_of, bytes_of}
-use Rattle.card.specs.Text.{Put}
+-- `card::block::put_card` meets its contract: decoded, run, answered and put, each by its own rule.
 use Rattle.card.proofs.Lines.{line_is}
+use Rattle.card.specs.Text.{Put}
+use Prim.Native.Nat.{◌+◌, ◌-◌}
+use mathlib.Core.Path.{subst}
+use native.Mathlib.Omega.{arith}
 use borrow.Author.Rules.{rules}
 use Rattle.card.proofs.block.put_card.Statement.{statement}
 use Rattle.card.proofs.block.put_card.Tie as tie
 
-bytes-of-requires : tie.Need-bytes-of-requires
-bytes-of-requires c κs = search rules
+add-decode : tie.Need-overflow-add-decode
+add-decode c = search rules
 
-add-answer-record : tie.Need-overflow-add-answer-record
-add-answer-record c = search rules
+sub-decode : tie.Need-overflow-sub-decode
+sub-decode c = search rules
 
-sub-answer-record : tie.Need-overflow-sub-answer-record
-sub-answer-record c = search rules
+part-decode-start : tie.Need-slice-bounds-decode-start
+part-decode-start c = search rules
 
-part-answer-record-start : tie.Need-slice-bounds-answer-record-start
-part-answer-record-start c = search rules
+part-decode-end : tie.Need-slice-bounds-decode-end
+part-decode-end c = search rules
 
-part-answer-record-end : tie.Need-slice-bounds-answer-record-end
-part-answer-record-end c = search rules
+decode-requires : tie.Need-decode-requires
+decode-requires c κs = search rules
 
-answer-record-requires : tie.Need-answer-record-requires
-answer-record-requires c κs = search rules
+run-requires : tie.Need-run-requires
+run-requires c κs = search rules
+
+answer-of-requires : tie.Need-answer-of-requires
+answer-of-requires c κs = search rules
 
 put-line-requires : tie.Need-put-line-requires
 put-line-requires c κs = search rules
@@ -38,24 +40,26 @@ same-length-2 c = search rules
 
 returns : tie.Need-returns
 returns c =
-    let a = c.before.before.before.before.before.before in
-    let b = a.before.before.before in
-    let s = b.before.before.before.before in
-    let k : s.args.from + b.bytes_of.result - s.args.from ≡ bytes_of (size_of s.args.all_axes) = omega (arith, b.bytes_of.ensures) in
+    let s = c.before.before.before.before.before.before.before.before.before.before.before.before.before.before in
     subst (Put _ _ _ _)
-    (line_is (size_of s.args.all_axes) s.args.n s.args.input.now s.args.from (s.args.from + b.bytes_of.result - s.args.from) k a.answer-record.ensures)
+    (line_is s.args.n s.args.input.now s.args.from (s.args.from + 96 - s.args.from) (omega arith)
+    c.before.before.before.before.before.before.before.before.before.decode.ensures
+    s.requires.2
+    c.before.before.before.before.before.before.before.run.ensures.0
+    c.before.before.before.before.answer-of.ensures)
     c.before.before.put-line.ensures
 
 pub put-card-spec : {M : Type 1} → statement M
 put-card-spec =
     tie.close
     (tie.spec
-    bytes-of-requires
-    add-answer-record
-    sub-answer-record
-    part-answer-record-start
-    part-answer-record-end
-    answer-record-requires
+    add-decode
+    sub-decode
+    part-decode-start
+    part-decode-end
+    decode-requires
+    run-requires
+    answer-of-requires
     put-line-requires
     same_length
     same-length-2

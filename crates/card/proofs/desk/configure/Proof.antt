@@ -1,54 +1,39 @@
--- `card::desk::configure` meets its contract: one axis, with the card's walls and brake.
+-- `card::desk::configure` meets its contract: part by part.
 use Rattle.card.specs.Desk.{config_of}
 use borrow.Author.Rules.{rules}
 use Rattle.card.proofs.desk.configure.Statement.{statement}
 use Rattle.card.proofs.desk.configure.Tie as tie
-use Rattle.card.proofs.desk.brake.Reads as brake-reads
-use Rattle.card.proofs.desk.configure_with.Reads as configure-with-reads
-use Rattle.card.proofs.desk.walls.Reads as walls-reads
+
+limits-requires : tie.Need-limits-requires
+limits-requires c κs = search rules
+
+norm-requires : tie.Need-norm-requires
+norm-requires c κs = search rules
 
 walls-requires : tie.Need-walls-requires
 walls-requires c κs = search rules
 
-array-read-brake : tie.Need-array-read-brake
-array-read-brake c = search rules
-
-array-read-brake-2 : tie.Need-array-read-brake-2
-array-read-brake-2 c = search rules
-
-array-read-brake-3 : tie.Need-array-read-brake-3
-array-read-brake-3 c = search rules
-
-array-read-brake-4 : tie.Need-array-read-brake-4
-array-read-brake-4 c = search rules
-
-array-read-brake-5 : tie.Need-array-read-brake-5
-array-read-brake-5 c = search rules
-
-array-read-brake-6 : tie.Need-array-read-brake-6
-array-read-brake-6 c = search rules
+no-zones-requires : tie.Need-no-zones-requires
+no-zones-requires c κs = search rules
 
 brake-requires : tie.Need-brake-requires
 brake-requires c κs = search rules
 
-configure-with-requires : tie.Need-configure-with-requires
-configure-with-requires c κs = search rules
+calibration-requires : tie.Need-calibration-requires
+calibration-requires c κs = search rules
 
 returns : tie.Need-returns
 unfolding config_of
-returns c = rw (c.configure-with.ensures, c.before.brake.ensures, c.before.before.walls.ensures)
+returns c = rw (c.calibration.ensures, c.before.brake.ensures, c.before.before.no-zones.ensures, c.before.before.before.walls.ensures, c.before.before.before.before.norm.ensures, c.before.before.before.before.before.limits.ensures)
 
 pub configure-spec : {M : Type 1} → statement M
 configure-spec =
     tie.close
     (tie.spec
+    limits-requires
+    norm-requires
     walls-requires
-    array-read-brake
-    array-read-brake-2
-    array-read-brake-3
-    array-read-brake-4
-    array-read-brake-5
-    array-read-brake-6
+    no-zones-requires
     brake-requires
-    configure-with-requires
+    calibration-requires
     returns)

@@ -41,10 +41,10 @@ none zero (suc b) e = absurd (false≢true (rw (ne_eqb (suc b) 0 (λ z. omega ar
 none (suc a) b e = absurd (false≢true (rw (ne_eqb (suc a) 0 (λ z. omega arith)) at e))
 
 abbrev invariant-loop : tie.invariant-loop
-invariant-loop a b all i₀ i = (i ≤ 17) × (earlier a b ≡ first_of (named a or named b) (drop i order))
+invariant-loop a b all i₀ i = (i ≤ 16) × (earlier a b ≡ first_of (named a or named b) (drop i order))
 
 abbrev decreases-loop : tie.decreases-loop
-decreases-loop a b all i₀ i = 17 - i
+decreases-loop a b all i₀ i = 16 - i
 
 returns : tie.Need-returns invariant-loop decreases-loop
 returns c = none c.before.args.a c.before.args.b c.if1.true

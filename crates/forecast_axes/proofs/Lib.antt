@@ -1,2 +1,0 @@
--- What the program promises of its own numbers.
-pub mod Buffers

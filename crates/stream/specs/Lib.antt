@@ -1,2 +1,0 @@
-pub mod Run
-pub mod Promises
