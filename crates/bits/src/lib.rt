@@ -1,4 +1,6 @@
 // Bits and their weights.
+#![tactic(auto)]
+
 ghost use Rattle.std.specs.Prelude.{◌≡◌, ◌≤◌};
 ghost use Rattle.bits.specs.Choice.{if◌then◌else◌};
 

@@ -1,4 +1,6 @@
 // The brake's entries: the stopping forecast, a run under one setpoint, and the rows that brake and hold.
+#![tactic(auto)]
+
 ghost use Rattle.std.specs.Prelude.{◌≡◌, true, ◌++◌, suc, ◌≤◌, length};
 ghost use Rattle.std.specs.Float.{binary64};
 ghost use Rattle.refusal.specs.Order.{refusal};
@@ -31,7 +33,7 @@ use stopping::Arm;
 use workspace::{Shape, WallMasks, Workspace};
 
 // A forecast: its slack entries, the least of them, whether none is negative, and how far the arm comes; or why there is none.
-#[derive(Drop)]
+#[derive(Clone, Copy)]
 pub enum BrakeOut {
     Accepted {
         count: usize,
@@ -43,14 +45,14 @@ pub enum BrakeOut {
 }
 
 // A run under one setpoint: its slack entries and the least of them; or why there is none.
-#[derive(Drop)]
+#[derive(Clone, Copy)]
 pub enum Ran {
     Accepted { count: usize, margin: f64 },
     Refused(Refusal),
 }
 
 // What became of a lent row: it is written, with the walls that moved it, or why it is not.
-#[derive(Drop)]
+#[derive(Clone, Copy)]
 pub enum Sent {
     Done(WallMasks),
     Refused(Refusal),

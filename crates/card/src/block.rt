@@ -9,7 +9,7 @@ use crate::text::put_line;
 use refusal::Refusal;
 
 // How many bytes the lines of a block took, and the number of the next record.
-#[derive(Drop)]
+#[derive(Clone, Copy)]
 pub struct Answered {
     pub bytes: usize,
     pub next: u64,

@@ -17,7 +17,7 @@ use words::{float_of, pattern};
 use workspace::Shape;
 
 // What a line says: the answer's number, the count and, where it is accepted, the bits of the margin and of the stop distance.
-#[derive(Drop)]
+#[derive(Clone, Copy)]
 pub struct Answer {
     pub number: u64,
     pub count: u64,

@@ -1,4 +1,6 @@
 // The desk's cards: a record of 96 bytes is decoded and made a configuration, its forecast is run, and the answer becomes a line of text.
+#![tactic(auto)]
+
 mod block;
 mod desk;
 mod record;

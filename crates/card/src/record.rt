@@ -5,7 +5,7 @@ ghost use Rattle.card.specs.Record.{card_at};
 use words::{pair, word};
 
 // A record's eleven numbers, each as its 64 bits, and its four counts.
-#[derive(Drop)]
+#[derive(Clone, Copy)]
 pub struct Card {
     pub k_p: u64,
     pub k_v: u64,

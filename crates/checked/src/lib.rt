@@ -1,21 +1,22 @@
 // Computed numbers: a value, and whether each number computed on the way to it is finite. Refusal 13 is given where it is not.
+#![tactic(auto)]
 
 // A number.
-#[derive(Drop)]
+#[derive(Clone, Copy)]
 pub struct Reckoned {
     pub value: f64,
     pub sound: bool,
 }
 
 // A row, with zeros up to eight numbers.
-#[derive(Drop)]
+#[derive(Clone, Copy)]
 pub struct Row {
     pub at: [f64; 8],
     pub sound: bool,
 }
 
 // Whether something holds.
-#[derive(Drop)]
+#[derive(Clone, Copy)]
 pub struct Test {
     pub holds: bool,
     pub sound: bool,

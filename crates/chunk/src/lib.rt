@@ -1,4 +1,6 @@
 // The action chunk: storage that is held whole (`ChunkBuf`), the view of lent rows (`ChunkView`), and one row of either.
+#![tactic(auto)]
+
 ghost use Rattle.std.specs.Prelude.{◌≡◌, ◌<◌};
 ghost use Rattle.refusal.specs.Order.{refusal};
 ghost use Rattle.chunk.specs.Rule.{row_start, row_of, row_set, held_rows};
@@ -8,7 +10,7 @@ ghost use Rattle.chunk.specs.Of.{new_chunk, fill_of, copy_of, cleared_of, held_r
 use refusal::Refusal;
 
 // What is said of a chunk besides its rows.
-#[derive(Drop)]
+#[derive(Clone, Copy)]
 pub struct Header {
     pub seq: u32,
     pub t_emit: u32,
@@ -18,7 +20,7 @@ pub struct Header {
 }
 
 // The numbers of a chunk in row-major order: row i starts at i x dim.
-#[derive(Drop)]
+#[derive(Clone, Copy)]
 pub struct ChunkBuf {
     pub data: [f64; 512],
     pub header: Header,
@@ -26,28 +28,28 @@ pub struct ChunkBuf {
 }
 
 // The refusal's number, or 0, and the buffer, which is as it was where it is refused.
-#[derive(Drop)]
+#[derive(Clone, Copy)]
 pub struct Filled {
     pub number: u8,
     pub buf: ChunkBuf,
 }
 
 // Whether a chunk is held, or why that is not answered.
-#[derive(Drop)]
+#[derive(Clone, Copy)]
 pub enum Holding {
     Held(bool),
     Refused(Refusal),
 }
 
 // A chunk whose rows stay the caller's.
-#[derive(Drop)]
+#[derive(Clone, Copy)]
 pub struct ChunkView<'a> {
     pub header: Header,
     pub data: &'a [f64],
 }
 
 // The places from start on, before end.
-#[derive(Drop)]
+#[derive(Clone, Copy)]
 struct Part {
     start: usize,
     end: usize,

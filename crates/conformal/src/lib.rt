@@ -1,4 +1,6 @@
 // Module 8: scores held against a calibration. Standardise, aggregate over the gate, trip strictly; and the time bin.
+#![tactic(auto)]
+
 ghost use Rattle.std.specs.Prelude.{◌≡◌, not, ◌<◌, ◌-◌, min};
 ghost use Rattle.std.specs.Float.{binary64};
 ghost use Rattle.std.specs.Float.Ieee.{is_nan};
@@ -15,7 +17,7 @@ use checked::Reckoned;
 use refusal::Refusal;
 
 // The bits of the twelve features.
-#[derive(Drop)]
+#[derive(Clone, Copy)]
 pub struct Feat {}
 
 impl Feat {
@@ -48,7 +50,7 @@ impl Feat {
 }
 
 // The features f, standardised to z, with their aggregate s; `valid` and `fired` have a bit for each feature.
-#[derive(Drop)]
+#[derive(Clone, Copy)]
 pub struct Scores {
     pub f: [f64; 12],
     pub z: [f64; 12],
@@ -58,7 +60,7 @@ pub struct Scores {
 }
 
 // The first n_terms terms count, each the bits of the features that it joins.
-#[derive(Drop)]
+#[derive(Clone, Copy)]
 pub struct GateSpec {
     pub n_terms: u8,
     pub terms: [u32; 8],
@@ -72,7 +74,7 @@ impl GateSpec {
 }
 
 // Its two tables are lent beside it: center and scale of feature j in time bin b stand at b * 12 + j.
-#[derive(Drop)]
+#[derive(Clone, Copy)]
 pub struct Calibration {
     pub mask: u32,
     pub gate: GateSpec,
@@ -80,42 +82,42 @@ pub struct Calibration {
 }
 
 // New scores, or the ones that came in with the refusal.
-#[derive(Drop)]
+#[derive(Clone, Copy)]
 pub struct Scored {
     pub refusal: Refusal,
     pub scores: Scores,
 }
 
 // Whether the scores trip, or why that is not said.
-#[derive(Drop)]
+#[derive(Clone, Copy)]
 pub enum Verdict {
     Refused(Refusal),
     Trips(bool),
 }
 
 // A time bin from 0 to 15, or why there is none.
-#[derive(Drop)]
+#[derive(Clone, Copy)]
 pub enum TimeBin {
     NoBin(Refusal),
     Bin(usize),
 }
 
 // What is judged of the terms that count: that none has a bit above 11, and that none names Stall.
-#[derive(Drop)]
+#[derive(Clone, Copy)]
 struct Counted {
     named: bool,
     without_stall: bool,
 }
 
 // The z of all features; `sound` says that each number computed on the way is finite.
-#[derive(Drop)]
+#[derive(Clone, Copy)]
 struct AllZ {
     z: [f64; 12],
     sound: bool,
 }
 
 // A term: whether each feature that it joins is live, and the least of their z.
-#[derive(Drop)]
+#[derive(Clone, Copy)]
 struct Joined {
     live: bool,
     least: f64,

@@ -1,18 +1,20 @@
 // What both kinds of run share: the plant, the course that it is sent on, and how far it has come.
+#![tactic(auto)]
+
 ghost use Rattle.std.specs.Prelude.{◌≡◌};
 ghost use Rattle.course.specs.Rows.{rows_left};
 
 use envelope::{ControlSteps, Substeps};
 
 // Where the arm is and how fast it moves, axis by axis.
-#[derive(Drop)]
+#[derive(Clone, Copy)]
 pub struct Plant {
     pub p: [f64; 8],
     pub v: [f64; 8],
 }
 
 // The live axes, the shape of the rows, and how far the run goes.
-#[derive(Drop)]
+#[derive(Clone, Copy)]
 pub struct Course {
     pub live: usize,
     pub horizon: u16,
@@ -24,7 +26,7 @@ pub struct Course {
 }
 
 // How far a run has come: the plant, the least slack, the entries written, and whether each number so far is finite.
-#[derive(Drop)]
+#[derive(Clone, Copy)]
 pub struct Run {
     pub plant: Plant,
     pub margin: f64,

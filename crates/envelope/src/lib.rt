@@ -1,4 +1,6 @@
 // The guard's configuration, what is derived from it (R4), and why it is refused.
+#![tactic(auto)]
+
 ghost use Rattle.std.specs.Prelude.{◌≡◌, ◌<◌, min};
 ghost use Rattle.std.specs.Float.{binary64};
 ghost use Rattle.conformal.specs.Of.{tables};
@@ -12,7 +14,7 @@ use refusal::Refusal;
 use workspace::Shape;
 
 // What an action row commands.
-#[derive(Drop)]
+#[derive(Clone, Copy)]
 pub enum ActionKind {
     EePosition,
     EeDelta,
@@ -22,14 +24,14 @@ pub enum ActionKind {
 }
 
 // Whether rows are projected.
-#[derive(Drop)]
+#[derive(Clone, Copy)]
 pub enum ClampMode {
     Off,
     Project,
 }
 
 // Each kind with the gains k_p and k_v and the length dt of a substep.
-#[derive(Drop)]
+#[derive(Clone, Copy)]
 pub enum BrakeKind {
     PdSecondOrder { k_p: f64, k_v: f64, dt: f64 },
     FirstOrderDecay { k_p: f64, k_v: f64, dt: f64 },
@@ -40,7 +42,7 @@ pub enum BrakeKind {
 
 // A slow zone round the point that the camera's channels a0 and a1 give, or none. The channels stand first, beside the case, so that four zones
 // are copied in a few moves.
-#[derive(Drop)]
+#[derive(Clone, Copy)]
 pub enum Contact {
     None,
     Zone {
@@ -52,14 +54,14 @@ pub enum Contact {
 }
 
 // A place in the list of zones; an array may hold no enum itself.
-#[derive(Drop)]
+#[derive(Clone, Copy)]
 pub struct ZoneSlot {
     pub contact: Contact,
 }
 
 // The slow zones of an arm: the first `count` places of the list, at most four. What stands past the count is not read, and a place
 // that holds none is no zone.
-#[derive(Drop)]
+#[derive(Clone, Copy)]
 pub struct Zones {
     pub count: u8,
     pub list: [ZoneSlot; 4],
@@ -67,7 +69,7 @@ pub struct Zones {
 
 // What a zone counts as that is not seen, since the camera's message is too short for one of its channels or the position has one
 // coordinate: one that the arm is inside, or none.
-#[derive(Drop)]
+#[derive(Clone, Copy)]
 pub enum AbsentCamera {
     Slow,
     NoZone,
@@ -75,22 +77,22 @@ pub enum AbsentCamera {
 
 // What brake and hold of a position kind write on the axes past pos_dim, where a gripper may be: what their box of 0..0 makes of the
 // position, or the last command that the caller lends.
-#[derive(Drop)]
+#[derive(Clone, Copy)]
 pub enum Gripper {
     ToZero,
     LastCommand,
 }
 
 // Control steps and substeps are counted apart; `substeps_in` alone joins them.
-#[derive(Drop)]
+#[derive(Clone, Copy)]
 pub struct ControlSteps(pub u16);
 
 // A part of a control step.
-#[derive(Drop)]
+#[derive(Clone, Copy)]
 pub struct Substeps(pub u16);
 
 // The bits of the checks.
-#[derive(Drop)]
+#[derive(Clone, Copy)]
 pub struct TripMask {}
 
 impl TripMask {
@@ -108,7 +110,7 @@ impl TripMask {
 }
 
 // The control period dt, the greatest speed, acceleration, jerk and reach, and the margin off the walls.
-#[derive(Drop)]
+#[derive(Clone, Copy)]
 pub struct Limits {
     pub dt: f64,
     pub v_max: f64,
@@ -119,21 +121,21 @@ pub struct Limits {
 }
 
 // Center and scale of each action coordinate.
-#[derive(Drop)]
+#[derive(Clone, Copy)]
 pub struct Norm {
     pub center: [f64; 8],
     pub scale: [f64; 8],
 }
 
 // The walls of each position axis that has a box.
-#[derive(Drop)]
+#[derive(Clone, Copy)]
 pub struct Box {
     pub lo: [f64; 8],
     pub hi: [f64; 8],
 }
 
 // How the arm brakes, and for how long: committed steps, then braking steps, each of so many substeps.
-#[derive(Drop)]
+#[derive(Clone, Copy)]
 pub struct BrakeModel {
     pub kind: BrakeKind,
     pub substeps: Substeps,
@@ -143,7 +145,7 @@ pub struct BrakeModel {
 }
 
 // The raw configuration. Where `calibrated` is clear, `calib`, its tables and `horizon_ticks` are not judged.
-#[derive(Drop)]
+#[derive(Clone, Copy)]
 pub struct FuseConfig {
     pub kind: ActionKind,
     pub dim: usize,
@@ -165,7 +167,7 @@ pub struct FuseConfig {
 }
 
 // What is derived from a configuration (R4).
-#[derive(Drop)]
+#[derive(Clone, Copy)]
 pub struct Derived {
     pub inv_dt: f64,
     pub inv_dt2: f64,
@@ -178,7 +180,7 @@ pub struct Derived {
 }
 
 // The number of the table (R0) that a configuration is refused with, 0 where it is accepted, and what is derived from it.
-#[derive(Drop)]
+#[derive(Clone, Copy)]
 pub struct Compiled {
     pub number: u8,
     pub derived: Derived,

@@ -1,4 +1,6 @@
 // The helpers on the decision path, for floats: tests, least, greatest, clamp, root, norm and dist; for counts and rows: fewer, put and padded.
+#![tactic(auto)]
+
 ghost use Rattle.std.specs.Prelude.{min, ◌≡◌, [], ◌∷◌, length};
 ghost use Rattle.std.specs.Float.{binary64};
 ghost use Rattle.checked.specs.Each.{at, over};
@@ -12,14 +14,14 @@ ghost use Rattle.fmath.specs.Clamp.{sided};
 use refusal::Refusal;
 
 // A number, or why there is none.
-#[derive(Drop)]
+#[derive(Clone, Copy)]
 pub enum Number {
     Value(f64),
     Refused(Refusal),
 }
 
 // A number between two walls, and which of them moved it: -1 where lo raised it, 1 where hi lowered it, 0 where neither did.
-#[derive(Drop)]
+#[derive(Clone, Copy)]
 pub struct Sided {
     pub value: f64,
     pub side: i64,

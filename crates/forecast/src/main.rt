@@ -5,6 +5,8 @@
 //
 // No contract can speak of what a read gives or a write takes. Their answers are kept as they came, in `Filled` and `Block`, and every
 // contract says what follows from them.
+#![tactic(auto)]
+
 ghost use Rattle.std.specs.Prelude.{false, ◌≡◌, length};
 ghost use Rattle.forecast.specs.Run.{Turned, goes_on, end_of};
 
@@ -13,7 +15,7 @@ use input::Filled;
 use libc::{STDERR_FILENO, STDOUT_FILENO};
 
 // A block that was read and answered: how it was filled, what `answer_block` says of its lines, and whether they were written.
-#[derive(Drop)]
+#[derive(Clone, Copy)]
 struct Block {
     filled: Filled,
     answer: Answered,
@@ -21,7 +23,7 @@ struct Block {
 }
 
 // How the run ended.
-#[derive(Drop)]
+#[derive(Clone, Copy)]
 enum End {
     InputEnded,
     ReadFailed,

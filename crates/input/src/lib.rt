@@ -1,13 +1,15 @@
 // Blocks read from standard input.
 //
 // No contract can speak of what a read gives. The answers of the reads are kept as they came, and every contract says what follows from them.
+#![tactic(auto)]
+
 ghost use Rattle.std.specs.Prelude.{◌≡◌, ◌+◌, ◌^◌, ◌≤◌, ◌<◌, length};
 ghost use Rattle.input.specs.Reads.{given, after, Read, reads_on, Fills, answered};
 
 use libc::STDIN_FILENO;
 
 // How many bytes a block holds, how many of them the last read gave, and whether it failed.
-#[derive(Drop)]
+#[derive(Clone, Copy)]
 pub struct Filled {
     pub n: usize,
     pub more: usize,

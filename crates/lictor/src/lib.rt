@@ -1,4 +1,6 @@
 // The static library: the guard's entries for C, on numbers and slices. include/lictor.h says of each what it gives and refuses.
+#![tactic(auto)]
+
 ghost use Rattle.std.specs.Prelude.{◌≡◌, not, eqb, length};
 ghost use Rattle.std.specs.Float.{binary64};
 ghost use Rattle.refusal.specs.Order.{refusal};

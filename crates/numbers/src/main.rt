@@ -1,4 +1,6 @@
 // The numbers on the wall (R10.7) that are run, as the proved code gives them. The proved ones are one theorem, specs/Table.antt.
+#![tactic(auto)]
+
 use card::Card;
 use conformal::TimeBin;
 use libc::STDOUT_FILENO;

@@ -1,4 +1,6 @@
 // The pull: a row that is too far from a point is moved towards it, to just inside the limit.
+#![tactic(auto)]
+
 ghost use Rattle.std.specs.Prelude.{◌≡◌, ◌≤◌, length};
 ghost use Rattle.std.specs.Float.{binary64};
 ghost use Rattle.checked.specs.Checked.{each};

@@ -1,6 +1,8 @@
 // Replays the sample of the Rust's answers from standard input, and says for each entry how many records the port agrees with.
 //
 // It is a test: what it says is seen in its runs (tools/test-replay), and only that it ends and stays in bounds is proved.
+#![tactic(auto)]
+
 ghost use Rattle.std.specs.Prelude.{◌≤◌};
 
 use crate::arithmetic::{dist_agrees, norm_agrees, sqrt_agrees, time_bin_agrees};
@@ -22,7 +24,7 @@ mod record;
 mod stops;
 
 // The entries of the sample.
-#[derive(Drop)]
+#[derive(Clone, Copy)]
 enum Entry {
     Sqrt,
     Norm,
@@ -38,7 +40,7 @@ enum Entry {
 }
 
 // A record; whether all of it was there, and whether a read failed.
-#[derive(Drop)]
+#[derive(Clone, Copy)]
 struct Next {
     record: Record,
     whole: bool,
@@ -47,7 +49,7 @@ struct Next {
 
 // How many records were replayed, how many of them agreed, and the number of the first that did not, 0 where there is none; whether the
 // input ended before the last, or a read failed; and whether all lines were written.
-#[derive(Drop)]
+#[derive(Clone, Copy)]
 struct Tally {
     seen: u64,
     agreed: u64,

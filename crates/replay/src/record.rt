@@ -7,7 +7,7 @@ pub(crate) type Words = [u64; 358];
 
 pub(crate) type Numbers = [f64; 358];
 
-#[derive(Drop)]
+#[derive(Clone, Copy)]
 pub(crate) struct Record {
     pub(crate) words: Words,
     pub(crate) numbers: Numbers,

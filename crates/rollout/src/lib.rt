@@ -1,5 +1,7 @@
 // Runs of substeps, each of which leaves its slack: towards one setpoint, and the second-order brake, which goes through the committed
 // rows and then holds the braking setpoint.
+#![tactic(auto)]
+
 ghost use Rattle.std.specs.Prelude.{◌≡◌, true, List, ℕ, ◌+◌, ◌≤◌, ◌<◌, length, Float};
 ghost use Rattle.std.specs.Float.{binary64};
 ghost use Rattle.bits.specs.Choice.{if◌then◌else◌};
@@ -20,14 +22,14 @@ use envelope::ControlSteps;
 use workspace::{Bounds, Workspace};
 
 // The gains, and the length of a substep.
-#[derive(Drop)]
+#[derive(Clone, Copy)]
 pub struct Law {
     pub k_p: f64,
     pub k_v: f64,
     pub dt: f64,
 }
 
-#[derive(Drop)]
+#[derive(Clone, Copy)]
 struct Moved {
     p: f64,
     v: f64,

@@ -23,14 +23,14 @@ fn product(a: u32, b: u32) -> u64
 }
 
 // About the root of a number t / 2^30 between 1 and 4, and about one over it, each times 2^31. Nothing is promised of either.
-#[derive(Drop)]
+#[derive(Clone, Copy)]
 struct Estimate {
     root: u32,
     inverse: u32,
 }
 
 // A number in two parts, a * 2^21 + b.
-#[derive(Drop)]
+#[derive(Clone, Copy)]
 struct Split {
     a: u32,
     b: u32,

@@ -1,4 +1,6 @@
 // The square root of an `f64`, correctly rounded, worked out from its bits in 64-bit integers.
+#![tactic(auto)]
+
 ghost use Rattle.std.specs.Prelude.{◌≡◌, false};
 ghost use Rattle.std.specs.Float.{binary64};
 ghost use Rattle.std.specs.Float.Ieee.Positive.{positive};

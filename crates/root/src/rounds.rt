@@ -6,7 +6,7 @@ ghost use Rattle.root.specs.Root.{near_root, number, root_of};
 ghost use Rattle.root.specs.Of.{Packable, Ranged, Scaled, unpacked, Written};
 
 // The number digits * 2^exponent, the exponent as low as -1074 where a number is read. Of what `scale` gives: the bits of X at the top of 64, and the root's exponent.
-#[derive(Drop)]
+#[derive(Clone, Copy)]
 pub(crate) struct Parts {
     pub(crate) digits: u64,
     pub(crate) exponent: i64,

@@ -1,4 +1,6 @@
 // When the port agrees with the sample of the Rust's answers.
+#![tactic(auto)]
+
 ghost use Rattle.std.specs.Prelude.{◌≡◌};
 ghost use Rattle.sample.specs.Agrees.{agrees};
 

@@ -3,6 +3,8 @@
 // A line has the record's number, the answer's number, how many slacks were written, and each of them as the sixteen hexadecimal digits
 // of its bits. The slacks are those of `card::run`, whose contract says what they are. Of the lines only that they end and stay in
 // bounds is proved; their text is seen in the runs (tools/test-desk).
+#![tactic(auto)]
+
 ghost use Rattle.std.specs.Prelude.{◌≡◌, length};
 
 use brake::BrakeOut;

@@ -1,4 +1,6 @@
 // The closed kinds of brake: a stopping radius at the start and at each committed row, and the slack that it leaves.
+#![tactic(auto)]
+
 ghost use Rattle.std.specs.Prelude.{◌≡◌, true, List, ℕ, suc, ◌+◌, ◌≤◌, ◌<◌, length, pos, Float};
 ghost use Rattle.std.specs.Float.{binary64};
 ghost use Rattle.std.specs.Float.Ieee.{of_int};
@@ -17,7 +19,7 @@ use envelope::{ActionKind, BrakeKind};
 use workspace::Workspace;
 
 // How the arm takes a row, how it brakes, the control period, and the greatest acceleration and jerk.
-#[derive(Drop)]
+#[derive(Clone, Copy)]
 pub struct Arm {
     pub kind: ActionKind,
     pub brake: BrakeKind,

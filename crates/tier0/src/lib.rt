@@ -1,4 +1,6 @@
 // Tier 0: the geometric limits, on rows as they came, and the projection of each row inside them.
+#![tactic(auto)]
+
 ghost use Rattle.std.specs.Prelude.{◌≡◌, true, ◌*◌, ◌≤◌, ◌<◌, length};
 ghost use Rattle.std.specs.Float.{binary64};
 ghost use Rattle.conformal.specs.Of.{tables};
@@ -28,7 +30,7 @@ mod walls;
 mod zone;
 
 // The trips, the coordinates that projection moved, the greatest speed and the walls that moved a row, or why there are none.
-#[derive(Drop)]
+#[derive(Clone, Copy)]
 pub enum Tier0Out {
     Passed {
         trips: u32,
@@ -40,7 +42,7 @@ pub enum Tier0Out {
 }
 
 // What the checks read of a configuration, and of what is derived from it.
-#[derive(Drop)]
+#[derive(Clone, Copy)]
 pub struct Checks {
     pub dim: usize,
     pub pos_dim: usize,
@@ -62,7 +64,7 @@ pub struct Checks {
 
 // Whether the position is inside a slow zone, or one of some, and the least step that is then allowed. In each struct below, `sound` says that
 // each number computed on the way is finite.
-#[derive(Drop)]
+#[derive(Clone, Copy)]
 pub struct SlowZone {
     pub inside: bool,
     pub step: f64,
@@ -70,14 +72,14 @@ pub struct SlowZone {
 }
 
 // The differences of rows that have a limit.
-#[derive(Drop)]
+#[derive(Clone, Copy)]
 pub enum Difference {
     Accel,
     Jerk,
 }
 
 // A projected row and the coordinates moved.
-#[derive(Drop)]
+#[derive(Clone, Copy)]
 pub struct Clamped {
     pub at: [f64; 8],
     pub mask: u32,
@@ -85,7 +87,7 @@ pub struct Clamped {
 }
 
 // All that is found of one action.
-#[derive(Drop)]
+#[derive(Clone, Copy)]
 pub struct JudgedAction {
     pub trips: u32,
     pub mask: u32,
@@ -96,7 +98,7 @@ pub struct JudgedAction {
 }
 
 // What is found of the steps of a chunk.
-#[derive(Drop)]
+#[derive(Clone, Copy)]
 pub struct Stride {
     pub peak: f64,
     pub fast: bool,
@@ -106,14 +108,14 @@ pub struct Stride {
 }
 
 // The coordinates moved in any row.
-#[derive(Drop)]
+#[derive(Clone, Copy)]
 pub struct MovedRows {
     pub mask: u32,
     pub sound: bool,
 }
 
 // All that is found of a chunk, save its rows.
-#[derive(Drop)]
+#[derive(Clone, Copy)]
 pub struct JudgedChunk {
     pub trips: u32,
     pub mask: u32,

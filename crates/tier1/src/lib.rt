@@ -1,4 +1,6 @@
 // Tier 1: the scores that the gate decides on, each larger the less ordinary the motion is.
+#![tactic(auto)]
+
 ghost use Rattle.std.specs.Prelude.{◌≡◌, true, ◌*◌, ◌≤◌};
 ghost use Rattle.std.specs.Float.{binary64};
 ghost use Rattle.bits.specs.Choice.{if◌then◌else◌};
@@ -23,7 +25,7 @@ mod sums;
 mod tick;
 
 // What is held between ticks: the chunk before, the trail of positions, and the features of the last chunk, bits 0 to 5.
-#[derive(Drop)]
+#[derive(Clone, Copy)]
 pub struct Tier1Rt {
     pub prev: ChunkBuf,
     pub have_prev: bool,
@@ -33,7 +35,7 @@ pub struct Tier1Rt {
 }
 
 // What the features read of a configuration, and of what is derived from it.
-#[derive(Drop)]
+#[derive(Clone, Copy)]
 pub struct Manifest {
     pub dim: usize,
     pub pos_dim: usize,
@@ -43,7 +45,7 @@ pub struct Manifest {
 }
 
 // Two features, likewise.
-#[derive(Drop)]
+#[derive(Clone, Copy)]
 pub struct Pair {
     pub first: f64,
     pub second: f64,
@@ -51,7 +53,7 @@ pub struct Pair {
 }
 
 // The features of a chunk and their bits, likewise.
-#[derive(Drop)]
+#[derive(Clone, Copy)]
 pub struct SixFeatures {
     pub held: [f64; 6],
     pub valid: u32,
@@ -59,7 +61,7 @@ pub struct SixFeatures {
 }
 
 // All twelve features of a tick and their bits, likewise.
-#[derive(Drop)]
+#[derive(Clone, Copy)]
 pub struct AllFeatures {
     pub f: [f64; 12],
     pub valid: u32,
@@ -67,7 +69,7 @@ pub struct AllFeatures {
 }
 
 // What is said of the chunk before besides its rows; `there` where there is one.
-#[derive(Drop)]
+#[derive(Clone, Copy)]
 pub struct Kept {
     pub there: bool,
     pub t_emit: u32,
@@ -76,7 +78,7 @@ pub struct Kept {
 }
 
 // What a tick finds: its features, and the held ones after it; on refusal those that came in.
-#[derive(Drop)]
+#[derive(Clone, Copy)]
 pub struct TickOut {
     pub refusal: Refusal,
     pub held: [f64; 6],
@@ -86,7 +88,7 @@ pub struct TickOut {
 }
 
 // The state and the scores after a tick; on refusal those that came in.
-#[derive(Drop)]
+#[derive(Clone, Copy)]
 pub struct Featured {
     pub refusal: Refusal,
     pub rt: Tier1Rt,
@@ -94,7 +96,7 @@ pub struct Featured {
 }
 
 // The state with nothing held; on refusal the one that came in.
-#[derive(Drop)]
+#[derive(Clone, Copy)]
 pub struct Cleared {
     pub refusal: Refusal,
     pub rt: Tier1Rt,

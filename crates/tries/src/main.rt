@@ -6,6 +6,8 @@
 // the sixteen hexadecimal digits of their bits, and the masks of the low and the high walls that moved it. The answer is that of
 // `tier0::check_action`, whose contract says what it is. Of the line only that it ends and stays in bounds is proved; its text is seen in the
 // runs (tools/test-desk).
+#![tactic(auto)]
+
 ghost use Rattle.std.specs.Prelude.{◌≡◌, length};
 
 use envelope::FuseConfig;
@@ -19,7 +21,7 @@ type Words = [u64; 122];
 type Numbers = [f64; 122];
 
 // A record's words, and the numbers that they stand for.
-#[derive(Drop)]
+#[derive(Clone, Copy)]
 struct Record {
     words: Words,
     numbers: Numbers,

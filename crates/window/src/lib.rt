@@ -1,4 +1,6 @@
 // The K-of-N hit window and the fixed-size position trail.
+#![tactic(auto)]
+
 ghost use Rattle.std.specs.Prelude.{◌≡◌, min, ◌+◌, ◌≤◌, ◌<◌, length};
 ghost use Rattle.std.specs.Float.{binary64};
 ghost use Rattle.std.proofs.Math.Seq.{paste};
@@ -12,20 +14,20 @@ use fmath::Number;
 use refusal::Refusal;
 
 // The last pushes, a bit each, the newest lowest.
-#[derive(Drop)]
+#[derive(Clone, Copy)]
 pub struct Window {
     pub bits: u64,
 }
 
 // A window's mask, or why there is none.
-#[derive(Drop)]
+#[derive(Clone, Copy)]
 pub enum Masked {
     Mask(u64),
     Refused(Refusal),
 }
 
 // A ring of the last 32 positions, 8 numbers to a slot: head is the slot that is written next, len the samples held.
-#[derive(Drop)]
+#[derive(Clone, Copy)]
 pub struct Trail {
     pub buf: [f64; 256],
     pub head: u8,
@@ -33,21 +35,21 @@ pub struct Trail {
 }
 
 // The refusal's number, or 0, and the trail, which is as it was where it is refused.
-#[derive(Drop)]
+#[derive(Clone, Copy)]
 pub struct Recorded {
     pub number: u8,
     pub trail: Trail,
 }
 
 // How many samples a trail holds, or why that is not said.
-#[derive(Drop)]
+#[derive(Clone, Copy)]
 pub enum Count {
     Samples(usize),
     Refused(Refusal),
 }
 
 // Whether a trail holds none, or why that is not said.
-#[derive(Drop)]
+#[derive(Clone, Copy)]
 pub enum Emptiness {
     Empty(bool),
     Refused(Refusal),

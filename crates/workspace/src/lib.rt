@@ -1,5 +1,7 @@
 // The workspace, a box or a disc: whether a point is outside, a point moved inside and by which walls, the setpoint at a position, and the slack that
 // is left. Nothing else knows the shape or reads the walls.
+#![tactic(auto)]
+
 ghost use Rattle.std.specs.Prelude.{◌≡◌, true, ℕ, ◌≤◌, ◌<◌};
 ghost use Rattle.std.specs.Float.{binary64};
 ghost use Rattle.std.specs.Float.Ieee.{add, sub};
@@ -14,14 +16,14 @@ ghost use Rattle.workspace.specs.Of.{walls_in, walls_of};
 use checked::{Reckoned, Row, Test};
 
 // A box on every axis, or a disc over the first two coordinates, round the centre (x, y), with a box on the further axes.
-#[derive(Drop)]
+#[derive(Clone, Copy)]
 pub enum Shape {
     Box,
     Disc { x: f64, y: f64, radius: f64 },
 }
 
 // The shape, and the walls of the axes that have a box, moved inward by the margin.
-#[derive(Drop)]
+#[derive(Clone, Copy)]
 pub struct Workspace {
     pub shape: Shape,
     pub lo: [f64; 8],
@@ -29,14 +31,14 @@ pub struct Workspace {
 }
 
 // The walls of each axis that has a box.
-#[derive(Drop)]
+#[derive(Clone, Copy)]
 pub struct Bounds {
     pub lo: [f64; 8],
     pub hi: [f64; 8],
 }
 
 // Which walls moved a point, or some point of several: a bit for each axis whose low wall raised it, and for each whose high wall lowered it.
-#[derive(Drop)]
+#[derive(Clone, Copy)]
 pub struct WallMasks {
     pub low: u32,
     pub high: u32,
@@ -281,14 +283,14 @@ pub fn slack(w: Workspace, p: [f64; 8], n: usize) -> Reckoned
 }
 
 // The lesser distance to the walls of one axis, and the sum of both.
-#[derive(Drop)]
+#[derive(Clone, Copy)]
 struct Sides {
     near: f64,
     sum: f64,
 }
 
 // The lesser distances on all eight axes, and a sum that is finite only where each distance is.
-#[derive(Drop)]
+#[derive(Clone, Copy)]
 struct Around {
     near: [f64; 8],
     sum: f64,
