@@ -37,6 +37,10 @@ def snake(name):
     return '-'.join(name.split('-')).replace('-', '_').lower()
 
 
+# a name of the library
+LIBRARY = {'le_of_suc-le-suc'}
+
+
 def declared():
     """Each own name to be respelled, with the files that declare it; and all names."""
     found, every = collections.defaultdict(list), set()
@@ -47,7 +51,7 @@ def declared():
                 continue
             every.add(head[2])
             name = head[2].strip('«»')
-            if re.match(r'[a-zμ]', name) and (re.search(r'[A-Z]', name) or '-' in name):
+            if name not in LIBRARY and re.match(r'[a-zμ]', name) and (re.search(r'[A-Z]', name) or '-' in name):
                 found[name].append(path)
     return found, every
 

@@ -12,8 +12,7 @@ use lib.Dec.{eqb}
 use lib.ListN.{length, get_or, drop}
 use Rattle.refusal.specs.Order.{Reason, number_of, order, first_of, ◌or◌, named, earlier}
 use Rattle.bits.specs.Choice.{if◌then◌else◌}
-use Rattle.refusal.proofs.Refusal.earlier.Statement.{statement}
-use Rattle.refusal.proofs.Refusal.earlier.Tie as tie
+use Rattle.refusal.proofs.Refusal.earlier.Goals as goal
 
 abbrev numbers : List Reason → List ℕ
 numbers [] = []
@@ -40,50 +39,20 @@ none zero zero e = refl
 none zero (suc b) e = absurd (false≢true (rw (ne_eqb (suc b) 0 (λ z. omega arith)) at e))
 none (suc a) b e = absurd (false≢true (rw (ne_eqb (suc a) 0 (λ z. omega arith)) at e))
 
-abbrev invariant-loop : tie.invariant-loop
-invariant-loop a b all i₀ i = (i ≤ 16) × (earlier a b ≡ first_of (named a or named b) (drop i order))
+pub returns-then-a-b : goal.returns-then-a-b
+returns-then-a-b c = none c.args.a c.args.b c.if-a-b.true
 
-abbrev decreases-loop : tie.decreases-loop
-decreases-loop a b all i₀ i = 16 - i
+pub loop-i-init : goal.loop-i-init
+loop-i-init c = (omega arith, refl)
 
-returns : tie.Need-returns invariant-loop decreases-loop
-returns c = none c.before.args.a c.before.args.b c.if1.true
+pub returns-then-a-n : goal.returns-then-a-n
+returns-then-a-n c = let l = c.loop-i in let g = c.args in sym (l.invariant.1 ∙ met g.a g.b order l.i c.loop-i-test.true c.if-a-n.true)
 
-loop-holds : tie.Need-loop-init invariant-loop decreases-loop
-loop-holds c = (omega arith, refl)
+pub loop-i-preserved : goal.loop-i-preserved
+loop-i-preserved c =
+    let l = c.loop-i in
+    let g = c.args in
+    (omega arith, rw add-one (l.invariant.1 ∙ passed g.a g.b order l.i c.loop-i-test.true c.if-a-n.false))
 
-array-read-n : tie.Need-array-read-n invariant-loop decreases-loop
-array-read-n c = search rules
-
-returns-2 : tie.Need-returns-2 invariant-loop decreases-loop
-returns-2 c = let l = c.before.before.loop in let g = c.before.before.before.before.args in sym (l.invariant.1 ∙ met g.a g.b order l.i c.before.loop-test.true c.if2.true)
-
-add-i : tie.Need-overflow-add-i invariant-loop decreases-loop
-add-i c = search rules
-
-loop-less : tie.Need-loop-smaller invariant-loop decreases-loop
-loop-less c = search rules
-
-loop-again : tie.Need-loop-preserved invariant-loop decreases-loop
-loop-again c =
-    let l = c.before.before.loop in
-    let g = c.before.before.before.before.args in
-    (omega arith, rw add-one (l.invariant.1 ∙ passed g.a g.b order l.i c.before.loop-test.true c.if2.false))
-
-returns-3 : tie.Need-returns-3 invariant-loop decreases-loop
-returns-3 c = let l = c.before.loop in sym (l.invariant.1 ∙ ap (λ (i : ℕ). first_of (named c.before.before.before.args.a or named c.before.before.before.args.b) (drop i order)) (le_antisymm l.invariant.0 c.loop-test.false))
-
-pub earlier-spec : {M : Type 1} → statement M
-earlier-spec =
-    tie.close
-    (tie.spec
-    invariant-loop
-    decreases-loop
-    returns
-    loop-holds
-    array-read-n
-    returns-2
-    add-i
-    loop-less
-    loop-again
-    returns-3)
+pub returns : goal.returns
+returns c = let l = c.loop-i in sym (l.invariant.1 ∙ ap (λ (i : ℕ). first_of (named c.args.a or named c.args.b) (drop i order)) (le_antisymm l.invariant.0 c.loop-i-test.false))

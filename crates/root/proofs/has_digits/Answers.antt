@@ -6,8 +6,7 @@ use lib.Ieee.Bits.{is_true}
 use lib.Ieee.Fits.{up_pos}
 use lib.Ieee.Positive.{positive}
 use Rattle.root.proofs.Patterns.{between, not_nan}
-use Rattle.root.proofs.has_digits.Statement.{statement}
-use Rattle.root.proofs.has_digits.Tie as tie
+use Rattle.root.proofs.has_digits.Goals as goal
 
 above : (x : Float) → lt (of_bits binary64 0) x ≡ true → (x ≡ inf false) ⊎ T (positive x)
 unfolding of_bits lt
@@ -36,14 +35,11 @@ unfolding is_nan
 no-nan-above x (inl e) = rw e tt
 no-nan-above x (inr p) = not_nan x p
 
-float-to-bits-result : tie.Need-float-to-bits-result
-float-to-bits-result c = let x = c.before.args.x in no-nan-above x (above x c.if1.true)
+pub float_to_bits-result : goal.float_to_bits-result
+float_to_bits-result c = let x = c.args.x in no-nan-above x (above x c.if-x.true)
 
-returns : tie.Need-returns
-returns c = let x = c.before.args.x in below-infinity x (subst T (sym c.before.well-formed.0.1) tt) (above x c.if1.true)
+pub returns-then-x : goal.returns-then-x
+returns-then-x c = let x = c.args.x in below-infinity x (subst T (sym c.well_formed.0.1) tt) (above x c.if-x.true)
 
-returns-2 : tie.Need-returns-2
-returns-2 c = sym (not_above c.before.args.x c.if1.false)
-
-pub has-digits-spec : {M : Type 1} → statement M
-has-digits-spec = tie.close (tie.spec float-to-bits-result returns returns-2)
+pub returns-else-x : goal.returns-else-x
+returns-else-x c = sym (not_above c.args.x c.if-x.false)

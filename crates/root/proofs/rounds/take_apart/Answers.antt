@@ -1,5 +1,5 @@
 -- `root::rounds::take_apart` meets its contract: the pattern of a normal number is at least that of the field's lowest digit.
-use Rattle.std.proofs.Common.{◌≡◌, ℕ, ◌+◌, ◌-◌, ◌*◌, ◌/◌, ◌%◌, ◌^◌, ◌<◌, ◌≤◌, Bool, true, false, not, T, leb, ℤ, pos, ◌-ℤ◌, ap, lt_of_le_of_lt, arith, lit<, leb→le, w64, to_z, rules, eq-eqb, ne_eqb}
+use Rattle.std.proofs.Common.{◌≡◌, ℕ, ◌+◌, ◌-◌, ◌*◌, ◌/◌, ◌%◌, ◌^◌, ◌<◌, ◌≤◌, Bool, true, false, not, T, leb, ℤ, pos, ◌-ℤ◌, ap, lt_of_le_of_lt, arith, lit<, leb→le, w64, to_z, eq-eqb, ne_eqb}
 use lib.Dec.{nleb→lt}
 use lib.IntN.{sub_ℕ}
 use lib.Signed.{mag}
@@ -9,8 +9,7 @@ use mir.ValLaws.{to_z_pos}
 use Rattle.root.specs.Of.{unpacked}
 use Rattle.root.proofs.Whole.{sub_mag, returned}
 use Rattle.root.proofs.Written.{placed}
-use Rattle.root.proofs.rounds.take_apart.Statement.{statement}
-use Rattle.root.proofs.rounds.take_apart.Tie as tie
+use Rattle.root.proofs.rounds.take_apart.Goals as goal
 
 -- whether a pattern has a leading digit that is not written
 abbrev normal : ℕ → ℕ
@@ -35,35 +34,26 @@ read b = go (leb (2 ^ 52) b) (leb→le (2 ^ 52) b) (nleb→lt (2 ^ 52) b)
         let k : b / 2 ^ 52 - 0 ≡ 0 = omega arith in
         record { flag = omega arith; field = omega arith; parts = rw (eq-eqb (b / 2 ^ 52) 0 (omega arith), d, k) }
 
-cast-normal : tie.Need-overflow-cast-normal
-cast-normal c = search rules
+pub overflow_mul-result : goal.overflow_mul-result
+overflow_mul-result c = omega (arith, (read c.args.bits).flag)
 
-mul-t5 : tie.Need-overflow-mul-t5
-mul-t5 c = omega (arith, (read c.args.bits).flag)
+pub overflow_add-result : goal.overflow_add-result
+overflow_add-result c = omega (arith, (read c.args.bits).flag)
 
-add-t6 : tie.Need-overflow-add-t6
-add-t6 c = omega (arith, (read c.args.bits).flag)
+pub overflow_sub-result : goal.overflow_sub-result
+overflow_sub-result c = (read c.args.bits).field
 
-sub-t8 : tie.Need-overflow-sub-t8
-sub-t8 c = (read c.args.bits).field
-
-abbrev count : tie.Start → ℕ
+abbrev count : goal.Start → ℕ
 count s = s.args.bits / 2 ^ 52 - normal s.args.bits
 
-small : (s : tie.Start) → mag (sub_ℕ (count s) 1074) < 2 ^ 32
+small : (s : goal.Start) → mag (sub_ℕ (count s) 1074) < 2 ^ 32
 small s = lt_of_le_of_lt (sub_mag (count s) 1074 4096 (omega (arith, s.requires)) (omega arith)) (lit< tt)
 
-lowered : (s : tie.Start) → to_z w64 (count s) -ℤ pos 1074 ≡ sub_ℕ (count s) 1074
+lowered : (s : goal.Start) → to_z w64 (count s) -ℤ pos 1074 ≡ sub_ℕ (count s) 1074
 lowered s = ap (λ (z : ℤ). z -ℤ pos 1074) (to_z_pos w64 (count s) (omega (arith, s.requires)))
 
-cast-t9 : tie.Need-overflow-cast-t9
-cast-t9 c = search rules
+pub overflow_sub-result-2 : goal.overflow_sub-result-2
+overflow_sub-result-2 c = rw (lowered c) (record { sfits = omega (arith, small c) })
 
-sub-t10 : tie.Need-overflow-sub-t10
-sub-t10 c = rw (lowered c) (record { sfits = omega (arith, small c) })
-
-returns : tie.Need-returns
+pub returns : goal.returns
 returns c = rw (returned _ _ (lowered c) (omega (arith, small c))) (read c.args.bits).parts
-
-pub take-apart-spec : {M : Type 1} → statement M
-take-apart-spec = tie.close (tie.spec cast-normal mul-t5 add-t6 sub-t8 cast-t9 sub-t10 returns)

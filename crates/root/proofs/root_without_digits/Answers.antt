@@ -4,8 +4,7 @@ use lib.Ieee.{Float, nan, inf, fin, binary64, up, down, of_bits, div, eq}
 use lib.Ieee.Fits.{up_pos}
 use lib.Ieee.Positive.{positive}
 use Rattle.root.specs.Root.{root_of}
-use Rattle.root.proofs.root_without_digits.Statement.{statement}
-use Rattle.root.proofs.root_without_digits.Tie as tie
+use Rattle.root.proofs.root_without_digits.Goals as goal
 
 zero-or-none : (x : Float) → positive x ≡ false → root_of binary64 x ≡ cond (eq x (of_bits binary64 0)) x nan
 unfolding root_of eq of_bits
@@ -19,12 +18,9 @@ zero-or-none (fin true (suc m) e) p = rw (zero-mul (down e), mul-one (suc m * up
     some n h e = omega arith
 zero-or-none (fin false (suc m) e) p = absurd (true≢false (sym (lt-ltb 0 (suc m) (zero-lt-suc m)) ∙ p))
 
-returns : tie.Need-returns
-returns c = sym (zero-or-none c.before.args.x c.before.requires ∙ ap (λ (b : Bool). cond b c.before.args.x nan) c.if1.true)
+pub returns-then-x : goal.returns-then-x
+returns-then-x c = sym (zero-or-none c.args.x c.requires ∙ ap (λ (b : Bool). cond b c.args.x nan) c.if-x.true)
 
-returns-2 : tie.Need-returns-2
+pub returns-else-x : goal.returns-else-x
 unfolding div of_bits
-returns-2 c = sym (zero-or-none c.before.args.x c.before.requires ∙ ap (λ (b : Bool). cond b c.before.args.x nan) c.if1.false)
-
-pub root-without-digits-spec : {M : Type 1} → statement M
-root-without-digits-spec = tie.close (tie.spec returns returns-2)
+returns-else-x c = sym (zero-or-none c.args.x c.requires ∙ ap (λ (b : Bool). cond b c.args.x nan) c.if-x.false)
