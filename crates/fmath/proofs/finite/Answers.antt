@@ -3,8 +3,7 @@ use mathlib.Core.Path.{◌≡◌, refl}
 use mathlib.Core.Bool.{true, false, ◌&&◌}
 use lib.Ieee.{Float, nan, inf, fin, lt, neg, div, of_bits}
 use Rattle.checked.specs.Finite.{finite}
-use Rattle.fmath.proofs.finite.Statement.{statement}
-use Rattle.fmath.proofs.finite.Tie as tie
+use Rattle.fmath.proofs.finite.Goals as goal
 
 between : (x : Float) → lt x (inf false) && lt (inf true) x ≡ finite x
 unfolding lt finite
@@ -13,9 +12,6 @@ between (inf true) = refl
 between (inf false) = refl
 between (fin s m e) = refl
 
-returns : tie.Need-returns
+pub returns : goal.returns
 unfolding of_bits div neg
 returns c = between c.args.x
-
-pub finite-spec : {M : Type 1} → statement M
-finite-spec = tie.close (tie.spec returns)

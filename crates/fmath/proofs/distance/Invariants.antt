@@ -1,0 +1,19 @@
+-- `fmath::distance` meets its contract: the loop keeps the sum so far, and a coordinate that is not there makes a NaN.
+use Prim.Native.Nat.{◌≤◌, ◌-◌}
+use mathlib.Core.Path.{◌≡◌, refl, sym}
+use native.Mathlib.Nat.{le_antisymm}
+use native.Mathlib.Omega.{arith}
+use borrow.Author.Rules.{rules}
+use lib.Ieee.{binary64, of_bits, div}
+use Rattle.checked.specs.Finite.{+0}
+use Rattle.checked.specs.Checked.{sum_from}
+use Rattle.fmath.specs.Norm.{squared_gap}
+use Rattle.checked.proofs.Sums.{sum_more}
+use Rattle.fmath.proofs.Lengths.{dist_missing_left, dist_missing_right, dist_done}
+use Rattle.fmath.proofs.distance.Given as goal
+
+abbrev pub invariant-loop-j : goal.invariant-loop-j
+invariant-loop-j l = (l.j ≤ l.n) × (l.s ≡ (sum_from binary64 +0 (squared_gap binary64 l.a l.b) l.j).value)
+
+abbrev pub decreases-loop-j : goal.decreases-loop-j
+decreases-loop-j l = l.n - l.j

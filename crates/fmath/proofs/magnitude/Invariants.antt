@@ -1,0 +1,19 @@
+-- `fmath::magnitude` meets its contract: the loop keeps the sum so far, and a coordinate that is not there makes a NaN.
+use Prim.Native.Nat.{◌≤◌, ◌-◌}
+use mathlib.Core.Path.{◌≡◌, refl, sym}
+use native.Mathlib.Nat.{le_antisymm}
+use native.Mathlib.Omega.{arith}
+use borrow.Author.Rules.{rules}
+use lib.Ieee.{binary64, of_bits, div}
+use Rattle.checked.specs.Finite.{+0}
+use Rattle.checked.specs.Checked.{sum_from}
+use Rattle.fmath.specs.Norm.{square_at}
+use Rattle.checked.proofs.Sums.{sum_more}
+use Rattle.fmath.proofs.Lengths.{norm_missing, norm_done}
+use Rattle.fmath.proofs.magnitude.Given as goal
+
+abbrev pub invariant-loop-c : goal.invariant-loop-c
+invariant-loop-c l = (l.c ≤ l.n) × (l.s ≡ (sum_from binary64 +0 (square_at binary64 l.v) l.c).value)
+
+abbrev pub decreases-loop-c : goal.decreases-loop-c
+decreases-loop-c l = l.n - l.c
