@@ -37,6 +37,19 @@ def snake(name):
     return '-'.join(name.split('-')).replace('-', '_').lower()
 
 
+# what stands in a line with others, or in a `where`
+MORE = {
+    'notFinite': 'not_finite',
+    'tooLong': 'too_long',
+    'tooWide': 'too_wide',
+    'execExceedsHorizon': 'exec_exceeds_horizon',
+    'lenMismatch': 'len_mismatch',
+    'heldValid': 'held_valid_of',
+    'chunkClearOf': 'chunk_clear_of',
+    'legFor': 'leg_for',
+    'motionOf': 'motion_of',
+    'glyphOf': 'glyph_of',
+}
 # a name of the library
 LIBRARY = {'le_of_suc-le-suc'}
 
@@ -85,6 +98,7 @@ def main():
             new[lemmas[0]] = s + '_lem'
             ns.remove(lemmas[0])
     new.update(LEMMAS)
+    new.update(MORE)
     together = {s: ns for s, ns in taken.items() if len(ns) > 1}
     for s, ns in sorted(together.items()):
         print(f'fall together: {sorted(ns)} as {s}: {[os.path.relpath(p, ROOT) for n in ns for p in names.get(n, [])]}')

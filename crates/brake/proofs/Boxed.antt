@@ -9,7 +9,7 @@ use native.Mathlib.Omega.{arith}
 use lib.Dec.{ltb}
 use lib.ListN.{length}
 use lib.Ieee.{Float, binary64}
-use Rattle.refusal.specs.Order.{short, notFinite, computed, ◌when◌, refusal}
+use Rattle.refusal.specs.Order.{short, not_finite, computed, ◌when◌, refusal}
 use Rattle.refusal.specs.Chain.{both_pass, passes_at}
 use Rattle.fmath.specs.Answer.{some_not_finite}
 use Rattle.checked.specs.Each.{at, over}
@@ -55,8 +55,8 @@ module _ (c : FuseConfig) (tabs : Tables) (p last l : List Float) (unfit : Bool)
   pub fit_lent : unfit ≡ false
   fit_lent =
       let w = (both_pass (config_judged binary64 c tabs) (row_lent c unfit (length l) (length last)) passed).1 in
-      let a = passes_at short (ltb (length l) c.dim || last_short c.gripper c.dim (length last)) ((notFinite when unfit) ∷ []) w in
-      (passes_at notFinite unfit [] a.1).0
+      let a = passes_at short (ltb (length l) c.dim || last_short c.gripper c.dim (length last)) ((not_finite when unfit) ∷ []) w in
+      (passes_at not_finite unfit [] a.1).0
 
   written_inside : some_not_finite p ≡ false → (j : ℕ) → j < bounded c → boxed c.shape j ≡ true
       → InBox c j (at (over (at (sent_row c.gripper c.kind c.pos_dim last (setpoint binary64 (walls_at binary64 c) p c.dim).value c.dim)) l c.dim) j)

@@ -13,7 +13,7 @@ use lib.Dec.{eqb}
 use lib.ListN.{length, take, drop, replicate}
 use lib.Seq.{take_at}
 use lib.Ieee.{Float, binary64, lt, eq}
-use Rattle.refusal.specs.Order.{Judged, short, notFinite, ◌when◌, refusal, refused_for}
+use Rattle.refusal.specs.Order.{Judged, short, not_finite, ◌when◌, refusal, refused_for}
 use Rattle.refusal.specs.Chain.{first_passes, both_pass, passes_at}
 use Rattle.refusal.specs.declared.Refusal.{Refusal}
 use Rattle.fmath.specs.Answer.{some_not_finite, some_lent_not_finite, some_from}
@@ -293,8 +293,8 @@ module _ (x : RunCall) (free : refusal (judged x) ≡ 0) where
   all_lent_finite =
       let unfit = some_lent_not_finite (x.given_aim ∷ x.given_position ∷ x.given_velocity ∷ []) in
       let lent = (both_pass (config_judged binary64 x.given_config x.given_tables) (run_lent binary64 x.given_config x.given_aim x.given_position x.given_velocity x.given_substeps (length x.given_entries)) free).1 in
-      let rest = (passes_at short (run_short x.given_config.dim x.given_config.pos_dim (length x.given_aim) (length x.given_position) (length x.given_velocity) x.given_substeps (length x.given_entries)) (notFinite when unfit ∷ []) lent).1 in
-      (passes_at notFinite unfit [] rest).0
+      let rest = (passes_at short (run_short x.given_config.dim x.given_config.pos_dim (length x.given_aim) (length x.given_position) (length x.given_velocity) x.given_substeps (length x.given_entries)) (not_finite when unfit ∷ []) lent).1 in
+      (passes_at not_finite unfit [] rest).0
 
   each_finite : (some_not_finite x.given_aim ≡ false) × (some_not_finite x.given_position ≡ false) × (some_not_finite x.given_velocity ≡ false)
   unfolding some_lent_not_finite some_from

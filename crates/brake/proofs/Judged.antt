@@ -9,7 +9,7 @@ use borrow.Author.Tests.{eqb-true, eqb-false, ne_eqb, ltb-false, not-false}
 use lib.Dec.{eqb, ltb}
 use lib.ListN.{length}
 use lib.Ieee.{Float, Format}
-use Rattle.refusal.specs.Order.{Judged, number_of, width, short, notFinite, computed, ◌when◌, refusal, or_later, refused_for}
+use Rattle.refusal.specs.Order.{Judged, number_of, width, short, not_finite, computed, ◌when◌, refusal, or_later, refused_for}
 use Rattle.bits.specs.Choice.{if◌then◌else◌}
 use Rattle.refusal.specs.Chain.{chain, joined, first_refuses, first_passes, both_pass, passes_at}
 use Rattle.refusal.specs.declared.Refusal.{Refusal}
@@ -106,8 +106,8 @@ module _ (f : Format) (c : FuseConfig) (tabs : Tables) (p v rows : List Float) (
         let x = both_pass sizes later w.1 in
         let fit = accepted f c tabs w.0 in
         let sized = sizes_accepted k (length rows) x.0 in
-        let a = passes_at width (not (eqb k.dim c.dim)) ((short when brief f c p v rows k from room) ∷ (notFinite when unfit f c p v rows k from room) ∷ []) x.1 in
-        let b = passes_at short (brief f c p v rows k from room) ((notFinite when unfit f c p v rows k from room) ∷ []) a.1 in
+        let a = passes_at width (not (eqb k.dim c.dim)) ((short when brief f c p v rows k from room) ∷ (not_finite when unfit f c p v rows k from room) ∷ []) x.1 in
+        let b = passes_at short (brief f c p v rows k from room) ((not_finite when unfit f c p v rows k from room) ∷ []) a.1 in
         record {
           narrow = dim_most f c tabs fit;
           moves = omega (arith, dim_least f c tabs fit, pos_dim_least f c tabs fit);

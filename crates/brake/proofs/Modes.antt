@@ -12,7 +12,7 @@ use lib.Dec.{ltb}
 use lib.ListN.{length}
 use lib.Ieee.{Float, binary64}
 use Rattle.bits.specs.Choice.{if◌then◌else◌}
-use Rattle.refusal.specs.Order.{Judged, short, notFinite, computed, ◌when◌, refusal}
+use Rattle.refusal.specs.Order.{Judged, short, not_finite, computed, ◌when◌, refusal}
 use Rattle.refusal.specs.Chain.{chain, first_passes, both_pass, passes_at}
 use Rattle.fmath.specs.Answer.{some_not_finite}
 use Rattle.checked.specs.Each.{at, over}
@@ -42,15 +42,15 @@ use Rattle.brake.proofs.Walled.{masks_of}
 
 module _ (l : List Judged) (a b s : Bool) where
   -- where the configuration passes, the first of the three gives its number
-  by_tests : chain l ≡ 0 → chain (l ++ ((short when a) ∷ (notFinite when b) ∷ (computed when not s) ∷ [])) ≡ (if a then 11 else if b then 12 else if not s then 13 else 0)
-  by_tests = first_passes l ((short when a) ∷ (notFinite when b) ∷ (computed when not s) ∷ [])
+  by_tests : chain l ≡ 0 → chain (l ++ ((short when a) ∷ (not_finite when b) ∷ (computed when not s) ∷ [])) ≡ (if a then 11 else if b then 12 else if not s then 13 else 0)
+  by_tests = first_passes l ((short when a) ∷ (not_finite when b) ∷ (computed when not s) ∷ [])
 
   -- nothing is refused only where each passes
-  each_passes : chain (l ++ ((short when a) ∷ (notFinite when b) ∷ (computed when not s) ∷ [])) ≡ 0 → (chain l ≡ 0) × (a ≡ false) × (b ≡ false) × (s ≡ true)
+  each_passes : chain (l ++ ((short when a) ∷ (not_finite when b) ∷ (computed when not s) ∷ [])) ≡ 0 → (chain l ≡ 0) × (a ≡ false) × (b ≡ false) × (s ≡ true)
   each_passes z =
-      let w = both_pass l ((short when a) ∷ (notFinite when b) ∷ (computed when not s) ∷ []) z in
-      let x = passes_at short a ((notFinite when b) ∷ (computed when not s) ∷ []) w.1 in
-      let y = passes_at notFinite b ((computed when not s) ∷ []) x.1 in
+      let w = both_pass l ((short when a) ∷ (not_finite when b) ∷ (computed when not s) ∷ []) z in
+      let x = passes_at short a ((not_finite when b) ∷ (computed when not s) ∷ []) w.1 in
+      let y = passes_at not_finite b ((computed when not s) ∷ []) x.1 in
       (w.0, x.0, y.0, not-false s (passes_at computed (not s) [] y.1).0)
 
 -- ---- one call
@@ -63,7 +63,7 @@ module _ (c : FuseConfig) (tabs : Tables) (measured : Bool) (x : Checked (List F
   -- the number in either mode
   abbrev number_in : Gripper → List Float → ℕ → ℕ
   number_in g last room =
-      refusal (tests c tabs ++ ((short when (ltb room c.dim || last_short g c.dim (length last))) ∷ (notFinite when (measured || last_unfit g last)) ∷ (computed when not x.sound) ∷ []))
+      refusal (tests c tabs ++ ((short when (ltb room c.dim || last_short g c.dim (length last))) ∷ (not_finite when (measured || last_unfit g last)) ∷ (computed when not x.sound) ∷ []))
 
   -- the configuration is judged alike in both
   judged_in : (g : Gripper) (last : List Float) (room : ℕ)
@@ -97,7 +97,7 @@ module _ (c : FuseConfig) (tabs : Tables) (measured : Bool) (x : Checked (List F
 
   -- in the Rust's mode no last command is judged or sent
   without_mode : (masks : WallMasks) (last l : List Float) → c.gripper ≡ ToZero → {k n : ℕ} → k ≡ number_in c.gripper last (length l)
-      → n ≡ refusal (tests c tabs ++ ((short when ltb (length l) c.dim) ∷ (notFinite when measured) ∷ (computed when not x.sound) ∷ []))
+      → n ≡ refusal (tests c tabs ++ ((short when ltb (length l) c.dim) ∷ (not_finite when measured) ∷ (computed when not x.sound) ∷ []))
       → AsWithoutMode (sent_at k masks) (sent_at n masks) (row_at k (sent_row c.gripper c.kind c.pos_dim last x.value c.dim) c.dim l) (row_at n x.value c.dim l)
   unfolding last_short last_unfit
   without_mode masks last l e {k} {n} ek en =

@@ -11,7 +11,7 @@ use borrow.Author.Tests.{ltb-false}
 use lib.Dec.{ltb}
 use lib.ListN.{length}
 use lib.Ieee.{Float, Format}
-use Rattle.refusal.specs.Order.{Reason, Judged, short, notFinite, computed, ◌when◌, among, refusal, refused_for}
+use Rattle.refusal.specs.Order.{Reason, Judged, short, not_finite, computed, ◌when◌, among, refusal, refused_for}
 use Rattle.refusal.specs.Exactly.{First, here, later, exactly_first}
 use Rattle.refusal.specs.Chain.{both_pass, passes_at}
 use Rattle.refusal.proofs.Entry.{Answered, by_lent, by-computed}
@@ -86,7 +86,7 @@ module _ (f : Format) (c : FuseConfig) (tabs : Tables) (unfit : Bool) (room give
   pub sized : refusal before ≡ 0 → (c.dim ≤ 8) × (c.dim ≤ room) × (takes_last c.gripper ≡ true → c.dim ≤ given)
   sized z =
       let w = both_pass (config_judged f c tabs) (row_lent c unfit room given) z in
-      let a = passes_at short (ltb room c.dim || last_short c.gripper c.dim given) ((notFinite when unfit) ∷ []) w.1 in
+      let a = passes_at short (ltb room c.dim || last_short c.gripper c.dim given) ((not_finite when unfit) ∷ []) w.1 in
       let n = neither (ltb room c.dim) (last_short c.gripper c.dim given) a.0 in
       (dim_most f c tabs (accepted f c tabs w.0), ltb-false room c.dim n.0, long_enough c.gripper c.dim given n.1)
 

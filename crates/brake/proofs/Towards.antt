@@ -9,7 +9,7 @@ use borrow.Author.Tests.{ne_eqb, ltb-false, le-leb}
 use lib.Dec.{eqb, ltb}
 use lib.ListN.{length}
 use lib.Ieee.{Float, Format}
-use Rattle.refusal.specs.Order.{Judged, short, notFinite, computed, ◌when◌, refusal, or_later, refused_for}
+use Rattle.refusal.specs.Order.{Judged, short, not_finite, computed, ◌when◌, refusal, or_later, refused_for}
 use Rattle.bits.specs.Choice.{if◌then◌else◌}
 use Rattle.refusal.specs.Chain.{chain, joined, first_refuses, first_passes, both_pass, passes_at}
 use Rattle.refusal.specs.declared.Refusal.{Refusal}
@@ -61,7 +61,7 @@ module _ (f : Format) (c : FuseConfig) (tabs : Tables) (a p v : List Float) (n :
     lends z =
         let w = both_pass (config_judged f c tabs) (run_lent f c a p v n room) z in
         let fit = accepted f c tabs w.0 in
-        let b = (passes_at short brief (notFinite when unfit ∷ []) w.1).0 in
+        let b = (passes_at short brief (not_finite when unfit ∷ []) w.1).0 in
         let s = neither (ltb (length a) c.dim) (too_short c.pos_dim (length p) (length v) n room) b in
         let t = neither (ltb (length p) c.pos_dim || ltb (length v) c.pos_dim) (ltb room n) s.1 in
         let q = neither (ltb (length p) c.pos_dim) (ltb (length v) c.pos_dim) t.0 in

@@ -2,7 +2,7 @@
 use Rattle.std.specs.Prelude.{ℕ, Bool, not, ◌&&◌, ◌||◌, List, [], ◌∷◌, ◌++◌, ltb, eqb, length, Float}
 use Rattle.std.specs.Float.{Format}
 use Rattle.refusal.specs.declared.Refusal.{Refusal}
-use Rattle.refusal.specs.Order.{Judged, width, short, notFinite, computed, number_of, ◌when◌, refusal, refused_for, answer_by, left_by}
+use Rattle.refusal.specs.Order.{Judged, width, short, not_finite, computed, number_of, ◌when◌, refusal, refused_for, answer_by, left_by}
 use Rattle.bits.specs.Choice.{if◌then◌else◌}
 use Rattle.fmath.specs.Answer.{some_not_finite, some_lent_not_finite}
 use Rattle.checked.specs.Each.{at, over}
@@ -55,7 +55,7 @@ module _ (f : Format) (c : FuseConfig) (p v rows : List Float) (k : Header) (fro
   lent_judged room =
       (width when not (eqb k.dim c.dim))
       ∷ (short when too_short c.pos_dim (length p) (length v) plan.count room)
-      ∷ (notFinite when some_lent_not_finite (p ∷ v ∷ rows ∷ [])) ∷ []
+      ∷ (not_finite when some_lent_not_finite (p ∷ v ∷ rows ∷ [])) ∷ []
 
 module _ (f : Format) (c : FuseConfig) (t : Tables) (p v rows : List Float) (k : Header) (from : ℕ) where
   abbrev planned : Forecast
@@ -89,7 +89,7 @@ last_unfit g last = takes_last g && some_not_finite last
 
 -- 11 and 12, where the output has so much room, the last command so many numbers, and some lent number is not finite, or none
 abbrev pub row_lent : FuseConfig → Bool → ℕ → ℕ → List Judged
-row_lent c unfit room given = (short when (ltb room c.dim || last_short c.gripper c.dim given)) ∷ (notFinite when unfit) ∷ []
+row_lent c unfit room given = (short when (ltb room c.dim || last_short c.gripper c.dim given)) ∷ (not_finite when unfit) ∷ []
 
 -- the walls that move the row of brake or hold; an axis past pos_dim may be moved to its wall, too, and has no bit
 unfoldable pub masks_sent : Format → FuseConfig → List Float → WallMasks

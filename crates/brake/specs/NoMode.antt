@@ -1,7 +1,7 @@
 -- Brake and hold of a guard that has no mode of the gripper and is lent no last command, as the Rust is: what the mode ToZero is held to.
 use Rattle.std.specs.Prelude.{ℕ, Bool, not, ◌||◌, List, [], ◌∷◌, ◌++◌, ltb, length, Float}
 use Rattle.std.specs.Float.{Format}
-use Rattle.refusal.specs.Order.{short, notFinite, computed, ◌when◌, refusal}
+use Rattle.refusal.specs.Order.{short, not_finite, computed, ◌when◌, refusal}
 use Rattle.fmath.specs.Answer.{some_not_finite}
 use Rattle.checked.specs.Checked.{Checked}
 use Rattle.conformal.specs.Rule.{Tables}
@@ -12,7 +12,7 @@ use Rattle.brake.specs.Answer.{sent_at, row_at, masks_sent, brake_made, hold_mad
 
 -- by the row and by whether some number of the position or the velocity is not finite: the configuration's own number, then 11, 12 and 13
 abbrev refused_with : Format → FuseConfig → Tables → Bool → Checked (List Float) → ℕ → ℕ
-refused_with f c t unfit row room = refusal (config_judged f c t ++ ((short when ltb room c.dim) ∷ (notFinite when unfit) ∷ (computed when not row.sound) ∷ []))
+refused_with f c t unfit row room = refusal (config_judged f c t ++ ((short when ltb room c.dim) ∷ (not_finite when unfit) ∷ (computed when not row.sound) ∷ []))
 
 module _ (f : Format) (c : FuseConfig) (t : Tables) (p v : List Float) where
   abbrev pub brake_answer : ℕ → Sent

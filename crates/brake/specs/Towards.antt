@@ -1,7 +1,7 @@
 -- A run under one setpoint at a configuration (R7.18): what it judges, what it answers, and what it leaves of the entries, the position and the velocity that are lent.
 use Rattle.std.specs.Prelude.{ℕ, Bool, not, ◌||◌, List, [], ◌∷◌, ◌++◌, ltb, eqb, length, Float}
 use Rattle.std.specs.Float.{Format}
-use Rattle.refusal.specs.Order.{Judged, short, notFinite, computed, ◌when◌, refusal}
+use Rattle.refusal.specs.Order.{Judged, short, not_finite, computed, ◌when◌, refusal}
 use Rattle.fmath.specs.Answer.{some_lent_not_finite}
 use Rattle.conformal.specs.Rule.{Tables}
 use Rattle.envelope.specs.Refusals.{config_judged}
@@ -51,7 +51,7 @@ module _ (f : Format) (c : FuseConfig) (a p v : List Float) (n : ℕ) where
 
   -- 11 and 12, where the entries have so much room
   abbrev pub run_lent : ℕ → List Judged
-  run_lent room = (short when run_short c.dim c.pos_dim (length a) (length p) (length v) n room) ∷ (notFinite when some_lent_not_finite (a ∷ p ∷ v ∷ [])) ∷ []
+  run_lent room = (short when run_short c.dim c.pos_dim (length a) (length p) (length v) n room) ∷ (not_finite when some_lent_not_finite (a ∷ p ∷ v ∷ [])) ∷ []
 
 module _ (f : Format) (c : FuseConfig) (t : Tables) (a p v : List Float) (n : ℕ) where
   unfoldable pub run_refusal : ℕ → ℕ

@@ -10,7 +10,7 @@ use lib.Ieee.{Float}
 use lib.ListN.{length}
 use Rattle.checked.specs.Finite.{all_finite}
 use Rattle.checked.proofs.Each.{neither}
-use Rattle.refusal.specs.Order.{◌when◌, empty, tooLong, tooWide, execExceedsHorizon, lenMismatch, notFinite, among, refusal}
+use Rattle.refusal.specs.Order.{◌when◌, empty, too_long, too_wide, exec_exceeds_horizon, len_mismatch, not_finite, among, refusal}
 use Rattle.refusal.specs.Exactly.{exactly_none}
 use Rattle.refusal.specs.Chain.{both_pass, passes_at}
 use Rattle.chunk.specs.declared.Header.{Header}
@@ -37,17 +37,17 @@ sizes_accepted k n z =
     record {
       some_rows = above h zeros.0;
       some_width = above d zeros.1;
-      not_long = ltb-false 64 h (passed tooLong);
-      not_wide = ltb-false 8 d (passed tooWide);
-      exec_inside = ltb-false h k.exec_steps (passed execExceedsHorizon);
-      all_there = eqb-true n (h * d) (not-false (eqb n (h * d)) (passed lenMismatch));
+      not_long = ltb-false 64 h (passed too_long);
+      not_wide = ltb-false 8 d (passed too_wide);
+      exec_inside = ltb-false h k.exec_steps (passed exec_exceeds_horizon);
+      all_there = eqb-true n (h * d) (not-false (eqb n (h * d)) (passed len_mismatch));
     }
 
 -- an accepted lent chunk has accepted sizes and finite numbers
 pub lent_accepted : (l : List Float) (k : Header) → refusal (lent_reasons l k) ≡ 0 → Accepted k (length l) × (all_finite l (length l) ≡ true)
 lent_accepted l k z =
-    let both = both_pass (chunk_reasons k (length l)) ((notFinite when not (all_finite l (length l))) ∷ []) z in
-    (sizes_accepted k (length l) both.0, not-false (all_finite l (length l)) (passes_at notFinite (not (all_finite l (length l))) [] both.1).0)
+    let both = both_pass (chunk_reasons k (length l)) ((not_finite when not (all_finite l (length l))) ∷ []) z in
+    (sizes_accepted k (length l) both.0, not-false (all_finite l (length l)) (passes_at not_finite (not (all_finite l (length l))) [] both.1).0)
 
 -- accepted sizes fit a buffer
 pub accepted_fits : {k : Header} {n : ℕ} → Accepted k n → n ≤ 512

@@ -1,7 +1,7 @@
 -- The answers of the gate's entries (R8): the number of the first refusal that applies, or what the rule gives.
 use Rattle.std.specs.Prelude.{ℕ, Bool, true, not, [], ◌∷◌, List, eqb, Float}
 use Rattle.std.specs.Float.{Format}
-use Rattle.refusal.specs.Order.{Judged, size, number, steps, withdrawn, notFinite, computed, ◌when◌, refusal, refused_for}
+use Rattle.refusal.specs.Order.{Judged, size, number, steps, withdrawn, not_finite, computed, ◌when◌, refusal, refused_for}
 use Rattle.bits.specs.Choice.{if◌then◌else◌}
 use Rattle.checked.specs.Checked.{Checked}
 use Rattle.conformal.specs.Rule.{Tables, live, standards, aggregate, fired_bits, trips, bin_at}
@@ -20,7 +20,7 @@ scores_judged cal t sc sound =
     (size when not (sizes_ok cal))
     ∷ (number when not (numbers_ok cal t))
     ∷ (withdrawn when not (features_ok cal))
-    ∷ (notFinite when not (scores_ok sc))
+    ∷ (not_finite when not (scores_ok sc))
     ∷ (computed when not sound) ∷ []
 
 -- the number that they are refused with

@@ -4,7 +4,7 @@ use mathlib.Core.Bool.{Bool, true, false, not, ◌&&◌, ◌||◌}
 use mathlib.Core.List.{[], ◌∷◌}
 use lib.Ieee.{Float}
 use Rattle.refusal.specs.declared.Refusal.{Refusal}
-use Rattle.refusal.specs.Order.{short, notFinite, computed, ◌when◌, refusal, refused_for}
+use Rattle.refusal.specs.Order.{short, not_finite, computed, ◌when◌, refusal, refused_for}
 use Rattle.fmath.specs.declared.Number.{Number}
 use Rattle.fmath.specs.declared.Number.TheVariants.{Value, Refused}
 use Rattle.checked.specs.Finite.{finite}
@@ -14,7 +14,7 @@ use Rattle.checked.proofs.Told.{Tells}
 
 module _ (s n : Bool) (x : Checked Float) where
   abbrev pub answer : Number
-  answer = number_or (refusal (short when s ∷ notFinite when n ∷ computed when not x.sound ∷ [])) x.value
+  answer = number_or (refusal (short when s ∷ not_finite when n ∷ computed when not x.sound ∷ [])) x.value
 
   pub is_short : (r : Refusal) → r ≡ refused_for 11 → s ≡ true → Refused r ≡ answer
   is_short r e h = rw (e, h)

@@ -2,7 +2,7 @@
 use Rattle.std.specs.Prelude.{ℕ, zero, suc, Bool, true, false, not, ◌||◌, List, [], ◌∷◌, ltb, length, Float}
 use Rattle.std.specs.Float.{Format, nan, inf, fin}
 use Rattle.std.specs.Float.Ieee.{lt}
-use Rattle.refusal.specs.Order.{short, notFinite, computed, ◌when◌, refusal, refused_for}
+use Rattle.refusal.specs.Order.{short, not_finite, computed, ◌when◌, refusal, refused_for}
 use Rattle.fmath.specs.declared.Number.{Number}
 use Rattle.fmath.specs.declared.Number.TheVariants.{Value, Refused}
 use Rattle.checked.specs.Finite.{+0, all_finite}
@@ -40,7 +40,7 @@ sqrt_answer f x = number_or (refusal (computed when not (root f x).sound ∷ [])
 abbrev pub norm_answer : Format → List Float → ℕ → Number
 norm_answer f v n =
     number_or
-    (refusal (short when ltb (length v) n ∷ notFinite when some_not_finite v ∷ computed when not (norm f v n).sound ∷ []))
+    (refusal (short when ltb (length v) n ∷ not_finite when some_not_finite v ∷ computed when not (norm f v n).sound ∷ []))
     (norm f v n).value
 
 abbrev pub dist_answer : Format → List Float → List Float → ℕ → Number
@@ -48,7 +48,7 @@ dist_answer f a b n =
     number_or
     (refusal
     (short when (ltb (length a) n || ltb (length b) n)
-    ∷ notFinite when (some_not_finite a || some_not_finite b)
+    ∷ not_finite when (some_not_finite a || some_not_finite b)
     ∷ computed when not (dist f a b n).sound
     ∷ []))
     (dist f a b n).value

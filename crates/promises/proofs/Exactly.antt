@@ -10,7 +10,7 @@ use lib.Dec.{eqb, ltb}
 use lib.Ieee.{Float, Format, binary64}
 use lib.ListN.{length}
 use Rattle.refusal.specs.declared.Refusal.{Refusal}
-use Rattle.refusal.specs.Order.{Reason, Judged, size, steps, short, notFinite, computed, ◌when◌, number_of, order, among, given, refusal, refused_for, ◌or◌}
+use Rattle.refusal.specs.Order.{Reason, Judged, size, steps, short, not_finite, computed, ◌when◌, number_of, order, among, given, refusal, refused_for, ◌or◌}
 use Rattle.bits.specs.Choice.{if◌then◌else◌}
 use Rattle.refusal.specs.Exactly.{First, here, later, exactly_first, exactly_none}
 use Rattle.checked.specs.Checked.{root}
@@ -21,7 +21,7 @@ use Rattle.chunk.specs.declared.ChunkBuf.{ChunkBuf}
 use Rattle.chunk.specs.declared.Filled.{Filled}
 use Rattle.chunk.specs.declared.Holding.{Holding}
 use Rattle.chunk.specs.declared.Holding.TheVariants.{Held, Refused as NotTold}
-use Rattle.chunk.specs.Of.{fill_of, held_refusal_of, clear_of as chunkClearOf, holding_of}
+use Rattle.chunk.specs.Of.{fill_of, held_refusal_of, clear_of as chunk_clear_of, holding_of}
 use Rattle.window.specs.declared.Trail.{Trail}
 use Rattle.window.specs.declared.Recorded.{Recorded}
 use Rattle.window.specs.Rule.{mask_refusal, net, path}
@@ -72,10 +72,10 @@ number_told_lem (suc k) x = refl
 pub sqrt_exactly : (f : Format) (x : Float) → Exactly (number_in (sqrt_answer f x)) (among (computed when not (root f x).sound ∷ []))
 sqrt_exactly f x = exactly _ (number_told_lem _ _)
 
-pub norm_exactly : (f : Format) (v : List Float) (n : ℕ) → Exactly (number_in (norm_answer f v n)) (among (short when ltb (length v) n ∷ notFinite when some_not_finite v ∷ computed when not (norm f v n).sound ∷ []))
+pub norm_exactly : (f : Format) (v : List Float) (n : ℕ) → Exactly (number_in (norm_answer f v n)) (among (short when ltb (length v) n ∷ not_finite when some_not_finite v ∷ computed when not (norm f v n).sound ∷ []))
 norm_exactly f v n = exactly _ (number_told_lem _ _)
 
-pub dist_exactly : (f : Format) (a b : List Float) (n : ℕ) → Exactly (number_in (dist_answer f a b n)) (among (short when (ltb (length a) n || ltb (length b) n) ∷ notFinite when (some_not_finite a || some_not_finite b) ∷ computed when not (dist f a b n).sound ∷ []))
+pub dist_exactly : (f : Format) (a b : List Float) (n : ℕ) → Exactly (number_in (dist_answer f a b n)) (among (short when (ltb (length a) n || ltb (length b) n) ∷ not_finite when (some_not_finite a || some_not_finite b) ∷ computed when not (dist f a b n).sound ∷ []))
 dist_exactly f a b n = exactly _ (number_told_lem _ _)
 
 -- ---- chunk (R2)
@@ -97,8 +97,8 @@ held_number b = go b.filled
 pub held_refusal_exactly : (b : ChunkBuf) → Exactly (held_refusal_of b) (prev_judged b)
 held_refusal_exactly b = exactly _ (held_number b)
 
-pub chunk_clear_exactly : (b : ChunkBuf) → Exactly (chunkClearOf b).number (prev_judged b)
-unfolding chunkClearOf
+pub chunk_clear_exactly : (b : ChunkBuf) → Exactly (chunk_clear_of b).number (prev_judged b)
+unfolding chunk_clear_of
 chunk_clear_exactly b = exactly _ (chosen (λ (r : Filled). r.number) (held_refusal_of b) _ _ refl refl ∙ held_number b)
 
 -- the number of an answer to whether a chunk is held
@@ -120,7 +120,7 @@ pub mask_exactly : (n : ℕ) → Exactly (mask_number (mask_of n)) (among (size 
 unfolding mask_number
 mask_exactly n = exactly _ (chosen mask_number (mask_refusal n) _ _ refl refl)
 
-pub push_exactly : (t : Trail) (p : List Float) (d : ℕ) → Exactly (push_of t p d).number (among (size when out_of_size t ∷ notFinite when (unfit t || some_not_finite p) ∷ []))
+pub push_exactly : (t : Trail) (p : List Float) (d : ℕ) → Exactly (push_of t p d).number (among (size when out_of_size t ∷ not_finite when (unfit t || some_not_finite p) ∷ []))
 unfolding push_of
 push_exactly t p d = exactly _ (chosen (λ (r : Recorded). r.number) (refusal (push_reasons t p)) _ _ refl refl)
 
@@ -128,11 +128,11 @@ pub clear_exactly : (t : Trail) → Exactly (clear_of t).number (among (trail_re
 unfolding clear_of
 clear_exactly t = exactly _ (chosen (λ (r : Recorded). r.number) (refusal (trail_reasons t)) _ _ refl refl)
 
-pub net_exactly : (f : Format) (t : Trail) (d w : ℕ) → Exactly (number_in (net_of f t d w)) (among (size when out_of_size t ∷ notFinite when unfit t ∷ computed when not (net f t.buf t.head t.len d w).sound ∷ []))
+pub net_exactly : (f : Format) (t : Trail) (d w : ℕ) → Exactly (number_in (net_of f t d w)) (among (size when out_of_size t ∷ not_finite when unfit t ∷ computed when not (net f t.buf t.head t.len d w).sound ∷ []))
 unfolding net_of
 net_exactly f t d w = exactly _ (number_told_lem _ _)
 
-pub path_exactly : (f : Format) (t : Trail) (d w : ℕ) → Exactly (number_in (path_of f t d w)) (among (size when out_of_size t ∷ notFinite when unfit t ∷ computed when not (path f t.buf t.head t.len d w).sound ∷ []))
+pub path_exactly : (f : Format) (t : Trail) (d w : ℕ) → Exactly (number_in (path_of f t d w)) (among (size when out_of_size t ∷ not_finite when unfit t ∷ computed when not (path f t.buf t.head t.len d w).sound ∷ []))
 unfolding path_of
 path_exactly f t d w = exactly _ (number_told_lem _ _)
 

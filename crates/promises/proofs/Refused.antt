@@ -14,7 +14,7 @@ use Rattle.bits.specs.Choice.{if◌then◌else◌}
 use Rattle.chunk.specs.Refusals.{lent_reasons}
 use Rattle.chunk.specs.declared.ChunkBuf.{ChunkBuf}
 use Rattle.chunk.specs.declared.Filled.{Filled}
-use Rattle.chunk.specs.Of.{fill_of, held_refusal_of, clear_of as chunkClearOf}
+use Rattle.chunk.specs.Of.{fill_of, held_refusal_of, clear_of as chunk_clear_of}
 use Rattle.window.specs.declared.Trail.{Trail}
 use Rattle.window.specs.declared.Recorded.{Recorded}
 use Rattle.window.specs.Answer.{trail_reasons, push_reasons}
@@ -51,8 +51,8 @@ fill_kept : (b : ChunkBuf) (k : Header) (l : List Float) → Refuses (fill_of b 
 unfolding fill_of
 fill_kept b k l = chosen_kept (λ (x : Filled). x.number) (λ (x : Filled). x.buf) (eqb (refusal (lent_reasons l k)) 0) _ _ refl
 
-chunk_clear_kept : (b : ChunkBuf) → Refuses (chunkClearOf b).number → (chunkClearOf b).buf ≡ b
-unfolding chunkClearOf
+chunk_clear_kept : (b : ChunkBuf) → Refuses (chunk_clear_of b).number → (chunk_clear_of b).buf ≡ b
+unfolding chunk_clear_of
 chunk_clear_kept b = chosen_kept (λ (x : Filled). x.number) (λ (x : Filled). x.buf) (eqb (held_refusal_of b) 0) _ _ refl
 
 push_kept : (t : Trail) (p : List Float) (d : ℕ) → Refuses (push_of t p d).number → (push_of t p d).trail ≡ t

@@ -3,7 +3,7 @@
 use Rattle.std.specs.Prelude.{ℕ, ◌≡◌, Bool, List, length, Float}
 use Rattle.std.specs.Float.{binary64}
 use Rattle.chunk.specs.declared.ChunkBuf.{ChunkBuf}
-use Rattle.chunk.specs.Of.{fill_of, clear_of as chunkClearOf}
+use Rattle.chunk.specs.Of.{fill_of, clear_of as chunk_clear_of}
 use Rattle.window.specs.declared.Trail.{Trail}
 use Rattle.window.specs.Of.{push_of, clear_of}
 use Rattle.chunk.specs.declared.Header.{Header}
@@ -25,7 +25,7 @@ Refuses n = n ≡ 0 → ⊥
 
 pub record RefusalChangesNothing : Type 0 where
   pub after_fill : (b : ChunkBuf) (k : Header) (l : List Float) → Refuses (fill_of b k l).number → (fill_of b k l).buf ≡ b
-  pub after_chunk_clear : (b : ChunkBuf) → Refuses (chunkClearOf b).number → (chunkClearOf b).buf ≡ b
+  pub after_chunk_clear : (b : ChunkBuf) → Refuses (chunk_clear_of b).number → (chunk_clear_of b).buf ≡ b
   pub after_push : (t : Trail) (p : List Float) (d : ℕ) → Refuses (push_of t p d).number → (push_of t p d).trail ≡ t
   pub after_clear : (t : Trail) → Refuses (clear_of t).number → (clear_of t).trail ≡ t
   pub after_standardise : (cal : Calibration) (tabs : Tables) (bin : ℕ) (sc : Scores) → Refuses (standardised binary64 cal tabs bin sc).refusal.number → (standardised binary64 cal tabs bin sc).scores ≡ sc

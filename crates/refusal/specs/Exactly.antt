@@ -1,7 +1,7 @@
 -- "Given exactly when": a number is given if and only if its reason applies and none before it in the order does, and 0 if and only if none applies.
 use Rattle.std.specs.Prelude.{ℕ, ◌≡◌, refl, Bool, true, false, List, [], ◌∷◌, eqb}
 use Rattle.std.proofs.Common.{sym, ap, ◌∙◌, subst, arith}
-use Rattle.refusal.specs.Order.{Reason, size, number, steps, channels, shape, withdrawn, empty, tooLong, tooWide, execExceedsHorizon, lenMismatch, width, short, notFinite, computed, leftover, number_of, order, first_of, given}
+use Rattle.refusal.specs.Order.{Reason, size, number, steps, channels, shape, withdrawn, empty, too_long, too_wide, exec_exceeds_horizon, len_mismatch, width, short, not_finite, computed, leftover, number_of, order, first_of, given}
 use Rattle.bits.specs.Choice.{if◌then◌else◌}
 
 -- k is the first of some reasons that applies
@@ -23,13 +23,13 @@ back channels = refl
 back shape = refl
 back withdrawn = refl
 back empty = refl
-back tooLong = refl
-back tooWide = refl
-back execExceedsHorizon = refl
-back lenMismatch = refl
+back too_long = refl
+back too_wide = refl
+back exec_exceeds_horizon = refl
+back len_mismatch = refl
 back width = refl
 back short = refl
-back notFinite = refl
+back not_finite = refl
 back computed = refl
 back leftover = refl
 

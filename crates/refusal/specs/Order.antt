@@ -5,8 +5,8 @@ use Rattle.refusal.specs.declared.Refusal.{Refusal}
 
 pub data Reason : Type 0 where
   size number steps channels shape withdrawn : Reason
-  empty tooLong tooWide execExceedsHorizon lenMismatch width : Reason
-  short notFinite computed leftover : Reason
+  empty too_long too_wide exec_exceeds_horizon len_mismatch width : Reason
+  short not_finite computed leftover : Reason
 
 abbrev pub number_of : Reason → ℕ
 number_of size = 1
@@ -16,13 +16,13 @@ number_of channels = 4
 number_of shape = 15
 number_of withdrawn = 17
 number_of empty = 5
-number_of tooLong = 6
-number_of tooWide = 7
-number_of execExceedsHorizon = 8
-number_of lenMismatch = 9
+number_of too_long = 6
+number_of too_wide = 7
+number_of exec_exceeds_horizon = 8
+number_of len_mismatch = 9
 number_of width = 10
 number_of short = 11
-number_of notFinite = 12
+number_of not_finite = 12
 number_of computed = 13
 number_of leftover = 14
 
@@ -30,8 +30,8 @@ number_of leftover = 14
 abbrev pub order : List Reason
 order =
     size ∷ number ∷ steps ∷ channels ∷ shape ∷ withdrawn
-    ∷ empty ∷ tooLong ∷ tooWide ∷ execExceedsHorizon ∷ lenMismatch ∷ width
-    ∷ short ∷ notFinite ∷ computed ∷ leftover ∷ []
+    ∷ empty ∷ too_long ∷ too_wide ∷ exec_exceeds_horizon ∷ len_mismatch ∷ width
+    ∷ short ∷ not_finite ∷ computed ∷ leftover ∷ []
 
 -- the number of the first of some reasons that applies, and 0 where none does
 abbrev pub first_of : (Reason → Bool) → List Reason → ℕ

@@ -6,7 +6,7 @@ use mathlib.Core.List.{List, [], ◌∷◌, ◌++◌}
 use borrow.Author.Tests.{not-false}
 use lib.ListN.{length}
 use lib.Ieee.{Float, Format}
-use Rattle.refusal.specs.Order.{notFinite, computed, ◌when◌, among}
+use Rattle.refusal.specs.Order.{not_finite, computed, ◌when◌, among}
 use Rattle.refusal.specs.Exactly.{exactly_none}
 use Rattle.refusal.specs.Chain.{both_pass}
 use Rattle.checked.specs.Checked.{Checked}
@@ -56,4 +56,4 @@ module _ (f : Format) (c : FuseConfig) (t : Tables) (p aux : List Float) where
       let ruling = action_ruling f c p aux prev a in
       let none = by_zero (action_refusal f c t p aux prev a room) ruling.value e in
       let rest = lent_to_action c p aux prev a room ((computed when not ruling.sound) ∷ []) in
-      (neither (some_not_finite p || some_not_finite aux || some_not_finite prev) (some_not_finite a) ((exactly_none (among (config_judged f c t ++ rest))).1 none notFinite)).1
+      (neither (some_not_finite p || some_not_finite aux || some_not_finite prev) (some_not_finite a) ((exactly_none (among (config_judged f c t ++ rest))).1 none not_finite)).1

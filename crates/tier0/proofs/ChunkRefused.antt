@@ -9,7 +9,7 @@ use borrow.Author.Tests.{ltb-false, eqb-true, not-false}
 use lib.Dec.{ltb, eqb}
 use lib.ListN.{length, replicate}
 use lib.Ieee.{Float, Format}
-use Rattle.refusal.specs.Order.{Judged, width, short, notFinite, computed, ◌when◌, refusal, or_later, refused_for}
+use Rattle.refusal.specs.Order.{Judged, width, short, not_finite, computed, ◌when◌, refusal, or_later, refused_for}
 use Rattle.refusal.specs.Chain.{joined, both_pass, passes_at}
 use Rattle.refusal.proofs.Entry.{Answered, by_lent, by-computed}
 use Rattle.refusal.proofs.Entry as entry
@@ -103,7 +103,7 @@ module _ (f : Format) (c : FuseConfig) (t : Tables) (p aux rows : List Float) (k
   accepted_sizes room g =
       let config = both_pass (config_judged f c t) (sizes ++ lent room) g in
       let passed = both_pass sizes (lent room) config.1 in
-      let unfit-last = (notFinite when unfit) ∷ [] in
+      let unfit-last = (not_finite when unfit) ∷ [] in
       let wide = passes_at width (broad) ((short when brief room) ∷ unfit-last) passed.1 in
       known_sizes room (dim_most f c t (accepted f c t config.0)) (sizes_accepted k (length rows) passed.0) (eqb-true k.dim c.dim (not-false (eqb k.dim c.dim) wide.0)) (passes_at short (brief room) unfit-last wide.1).0
 

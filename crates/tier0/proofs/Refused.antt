@@ -8,7 +8,7 @@ use borrow.Author.Tests.{ltb-true, ltb-false}
 use lib.Dec.{leb, ltb}
 use lib.ListN.{length}
 use lib.Ieee.{Float, Format}
-use Rattle.refusal.specs.Order.{Judged, short, notFinite, computed, ◌when◌, refusal, refused_for}
+use Rattle.refusal.specs.Order.{Judged, short, not_finite, computed, ◌when◌, refusal, refused_for}
 use Rattle.refusal.specs.Chain.{both_pass, passes_at}
 use Rattle.refusal.proofs.Entry.{Answered, by_lent, by-computed}
 use Rattle.refusal.proofs.Entry as entry
@@ -87,7 +87,7 @@ module _ (f : Format) (c : FuseConfig) (t : Tables) (p aux prev a : List Float) 
   pub accepted_sizes : (room : ℕ) → refusal (before room) ≡ 0 → Sized c a room
   accepted_sizes room h =
       let w = both_pass (config_judged f c t) (lent_to_action c p aux prev a room []) h in
-      sizes room (passes_at short (brief room) ((notFinite when unfit) ∷ []) w.1).0 (accepted f c t w.0)
+      sizes room (passes_at short (brief room) ((not_finite when unfit) ∷ []) w.1).0 (accepted f c t w.0)
 
   abbrev ruling : Checked Judgement
   ruling = action_ruling f c p aux prev a

@@ -1,7 +1,7 @@
 -- The rules at the declared structs.
 use Rattle.std.specs.Prelude.{ℕ, ◌*◌, not, ◌&&◌, List, [], ◌∷◌, ◌++◌, eqb, length, replicate, Float}
 use Rattle.std.specs.Float.{Format}
-use Rattle.refusal.specs.Order.{Judged, width, short, notFinite, computed, ◌when◌, refusal}
+use Rattle.refusal.specs.Order.{Judged, width, short, not_finite, computed, ◌when◌, refusal}
 use Rattle.fmath.specs.Answer.{some_lent_not_finite}
 use Rattle.checked.specs.Finite.{+0}
 use Rattle.checked.specs.Checked.{Checked}
@@ -106,7 +106,7 @@ module _ (c : FuseConfig) (p aux prev a : List Float) where
   abbrev pub lent_to_action : ℕ → List Judged → List Judged
   lent_to_action room l =
       (short when too_short c.dim c.pos_dim (length p) (length prev) (length a) room)
-      ∷ (notFinite when some_lent_not_finite (p ∷ aux ∷ prev ∷ a ∷ [])) ∷ l
+      ∷ (not_finite when some_lent_not_finite (p ∷ aux ∷ prev ∷ a ∷ [])) ∷ l
 
 module _ (f : Format) (c : FuseConfig) (p aux prev a : List Float) where
   unfoldable pub action_ruling : Checked Judgement
@@ -134,7 +134,7 @@ module _ (c : FuseConfig) (p aux rows : List Float) (k : Header) where
   lent_to_chunk room l =
       (width when not (eqb k.dim c.dim))
       ∷ (short when chunk_too_short c.pos_dim (length p) (k.horizon * k.dim) room)
-      ∷ (notFinite when some_lent_not_finite (p ∷ aux ∷ rows ∷ [])) ∷ l
+      ∷ (not_finite when some_lent_not_finite (p ∷ aux ∷ rows ∷ [])) ∷ l
 
 module _ (f : Format) (c : FuseConfig) (p aux rows : List Float) (h : ℕ) where
   unfoldable pub chunk_ruling : Checked Judgement

@@ -8,7 +8,7 @@ use borrow.Author.Tests.{eqb-true, not-false}
 use lib.Dec.{eqb}
 use lib.ListN.{length}
 use lib.Ieee.{Float, Format}
-use Rattle.refusal.specs.Order.{Reason, leftover, width, notFinite, ◌when◌, among, given, refusal, ◌or◌, earlier}
+use Rattle.refusal.specs.Order.{Reason, leftover, width, not_finite, ◌when◌, among, given, refusal, ◌or◌, earlier}
 use Rattle.bits.specs.Choice.{if◌then◌else◌}
 use Rattle.refusal.specs.Chain.{first_passes, both_pass}
 use Rattle.refusal.proofs.Joint.{given_or, neither_applies}
@@ -56,8 +56,8 @@ pub state_is : (rt : Tier1Rt) {x y h : Bool} {a b p d v r : ℕ} → y ≡ unfit
     → p ≡ held_refusal_of rt.prev → h ≡ all_finite rt.held 6 → d ≡ (if not h then 12 else 0) → v ≡ earlier p d → r ≡ earlier a v → r ≡ given (state_judged rt)
 state_is rt ey eb ex ea ep eh ed ev er =
     er ∙ rw (ev, ea, eb, ex, ey, ep, ed, eh, prev_number rt.prev)
-    (sym (given_or (among (trail_reasons rt.trail)) (prev_judged rt.prev or among ((notFinite when not (all_finite rt.held 6)) ∷ []))
-    ∙ ap (earlier (refusal (trail_reasons rt.trail))) (given_or (prev_judged rt.prev) (among ((notFinite when not (all_finite rt.held 6)) ∷ [])))))
+    (sym (given_or (among (trail_reasons rt.trail)) (prev_judged rt.prev or among ((not_finite when not (all_finite rt.held 6)) ∷ []))
+    ∙ ap (earlier (refusal (trail_reasons rt.trail))) (given_or (prev_judged rt.prev) (among ((not_finite when not (all_finite rt.held 6)) ∷ [])))))
 
 -- ---- all that is lent
 
@@ -103,7 +103,7 @@ prev_fits : (b : ChunkBuf) → given (prev_judged b) ≡ 0 → b.filled ≡ true
 prev_fits b e t =
     let n = b.header.horizon * b.header.dim in
     let z : refusal (held_reasons b.«data» b.header) ≡ 0 = rw t at e in
-    let s = (both_pass (chunk_reasons b.header n) ((notFinite when not (all_finite b.«data» n)) ∷ []) z).0 in
+    let s = (both_pass (chunk_reasons b.header n) ((not_finite when not (all_finite b.«data» n)) ∷ []) z).0 in
     let w = sizes.sizes_accepted b.header n s in
     (w.not_long, sizes.accepted_fits w)
 
@@ -131,10 +131,10 @@ module _ (fm : Format) (c : FuseConfig) (tabs : Tables) (p ext : List Float) (th
   new_fits t =
       let g : given (among (chunk_reasons k (length rows)) or among ((width when not (eqb k.dim c.dim)) ∷ [])) ≡ 0 = rw t at parts.1.0 in
       let w = neither_applies (among (chunk_reasons k (length rows))) (among ((width when not (eqb k.dim c.dim)) ∷ [])) g in
-      (first_passes (chunk_reasons k (length rows)) ((notFinite when some_not_finite rows) ∷ []) w.0 ∙ rw (rows_finite t), eqb-true k.dim c.dim (not-false (eqb k.dim c.dim) (no_10 (not (eqb k.dim c.dim)) w.1)))
+      (first_passes (chunk_reasons k (length rows)) ((not_finite when some_not_finite rows) ∷ []) w.0 ∙ rw (rows_finite t), eqb-true k.dim c.dim (not-false (eqb k.dim c.dim) (no_10 (not (eqb k.dim c.dim)) w.1)))
 
   pub before_fits : rt.prev.filled ≡ true → (rt.prev.header.horizon ≤ 64) × (rt.prev.header.horizon * rt.prev.header.dim ≤ 512)
   before_fits =
-      let u = neither_applies (among (trail_reasons rt.trail)) (prev_judged rt.prev or among ((notFinite when not (all_finite rt.held 6)) ∷ [])) parts.1.1.0 in
-      let v = neither_applies (prev_judged rt.prev) (among ((notFinite when not (all_finite rt.held 6)) ∷ [])) u.1 in
+      let u = neither_applies (among (trail_reasons rt.trail)) (prev_judged rt.prev or among ((not_finite when not (all_finite rt.held 6)) ∷ [])) parts.1.1.0 in
+      let v = neither_applies (prev_judged rt.prev) (among ((not_finite when not (all_finite rt.held 6)) ∷ [])) u.1 in
       prev_fits rt.prev v.0

@@ -67,9 +67,9 @@ abbrev pub boundary_from : Checked (List Float) → ℕ → SixFeatures
 boundary_from x bits = record { held = x.value; valid = bits; sound = x.sound }
 
 abbrev pub gathered_from : List Float → ℕ → ℕ → Float → Bool → List Float → AllFeatures
-gathered_from held heldValid len ineff sound ext = record {
-  f = table (λ (j : ℕ). kept (valid_at heldValid len (length ext) j) (value_at held ineff ext j)) 12;
-  valid = bits_where (valid_at heldValid len (length ext)) 12;
+gathered_from held held_valid_of len ineff sound ext = record {
+  f = table (λ (j : ℕ). kept (valid_at held_valid_of len (length ext) j) (value_at held ineff ext j)) 12;
+  valid = bits_where (valid_at held_valid_of len (length ext)) 12;
   sound = sound;
 }
 

@@ -1,6 +1,6 @@
 -- What `features` and `reset` judge, argument by argument; a reason applies to a call where it does to one of its arguments.
 use Rattle.std.specs.Prelude.{ℕ, Bool, false, not, ◌&&◌, ◌||◌, List, [], ◌∷◌, eqb, Float}
-use Rattle.refusal.specs.Order.{Reason, width, notFinite, ◌when◌, among, ◌or◌}
+use Rattle.refusal.specs.Order.{Reason, width, not_finite, ◌when◌, among, ◌or◌}
 use Rattle.bits.specs.Choice.{if◌then◌else◌}
 use Rattle.fmath.specs.Answer.{some_not_finite}
 use Rattle.checked.specs.Finite.{all_finite}
@@ -29,7 +29,7 @@ prev_judged b = if b.filled then among (held_reasons b.«data» b.header) else n
 
 -- the state: 1 and 12 for the trail, the chunk before, 12 for the held features
 abbrev pub state_judged : Tier1Rt → Reason → Bool
-state_judged rt = among (trail_reasons rt.trail) or (prev_judged rt.prev or among ((notFinite when not (all_finite rt.held 6)) ∷ []))
+state_judged rt = among (trail_reasons rt.trail) or (prev_judged rt.prev or among ((not_finite when not (all_finite rt.held 6)) ∷ []))
 
 -- some number of the position, the external scalars, the rows of a new chunk or the scores is not finite
 unfoldable pub some_not_finite_in : List Float → List Float → Bool → List Float → Scores → Bool
@@ -37,4 +37,4 @@ some_not_finite_in p ext there rows sc = some_not_finite p || some_not_finite ex
 
 -- 12: what is lent, read or not
 abbrev pub lent_judged : List Float → List Float → Bool → List Float → Scores → Reason → Bool
-lent_judged p ext there rows sc = among ((notFinite when some_not_finite_in p ext there rows sc) ∷ [])
+lent_judged p ext there rows sc = among ((not_finite when some_not_finite_in p ext there rows sc) ∷ [])

@@ -221,6 +221,6 @@ pub record Twelve : Type 0 where
 
 -- 0.0 where not valid, so Stall is 0.0; nothing is computed for it
 unfoldable pub twelve : Format → Manifest → Trail → List Float → ℕ → List Float → Checked Twelve
-twelve f m t held heldValid ext = do
+twelve f m t held held_valid_of ext = do
   ineff ← ineff_at f m t
-  pure (record { f = table (λ (j : ℕ). kept (valid_at heldValid t.len (length ext) j) (value_at held ineff ext j)) COUNT; valid = bits_where (valid_at heldValid t.len (length ext)) COUNT })
+  pure (record { f = table (λ (j : ℕ). kept (valid_at held_valid_of t.len (length ext) j) (value_at held ineff ext j)) COUNT; valid = bits_where (valid_at held_valid_of t.len (length ext)) COUNT })

@@ -5,7 +5,7 @@ use mathlib.Core.Bool.{Bool, true, false, not, ◌||◌}
 use mathlib.Core.List.{[], ◌∷◌}
 use native.Mathlib.Omega.{arith}
 use lib.Ieee.{Float}
-use Rattle.refusal.specs.Order.{◌when◌, size, notFinite, computed, refusal}
+use Rattle.refusal.specs.Order.{◌when◌, size, not_finite, computed, refusal}
 use Rattle.bits.specs.Choice.{if◌then◌else◌}
 use Rattle.fmath.specs.Answer.{number_or}
 use Rattle.checked.specs.Checked.{Checked}
@@ -15,7 +15,7 @@ use Rattle.window.specs.Answer.{number_after}
 
 -- the number of a trail alone: a where it is out of size, b where its numbers are not fit
 abbrev pub alone : Bool → Bool → ℕ
-alone a b = refusal (size when a ∷ notFinite when b ∷ [])
+alone a b = refusal (size when a ∷ not_finite when b ∷ [])
 
 pub size_refused : (a b : Bool) → a ≡ true → 1 ≡ alone a b
 size_refused a b e = rw e
@@ -28,7 +28,7 @@ trail_accepted a b e h = rw (e, h)
 
 -- what is judged of a trail with a lent position, whose numbers are all finite where ok
 abbrev pub with_position : Bool → Bool → Bool → ℕ
-with_position a b ok = refusal (size when a ∷ notFinite when (b || not ok) ∷ [])
+with_position a b ok = refusal (size when a ∷ not_finite when (b || not ok) ∷ [])
 
 pub trail_refused : (a b ok : Bool) (n : ℕ) → n ≡ alone a b → (n ≡ 0 → ⊥) → n ≡ with_position a b ok
 trail_refused true b ok n e f = e
@@ -50,7 +50,7 @@ last_test true x = refl
 last_test false x = refl
 
 -- the test of the last number is a test of all
-pub computed_last : (a b : Bool) (x : Checked Float) (n : ℕ) → n ≡ alone a b → Tells x → number_after n x.value ≡ number_or (refusal (size when a ∷ notFinite when b ∷ computed when not x.sound ∷ [])) x.value
+pub computed_last : (a b : Bool) (x : Checked Float) (n : ℕ) → n ≡ alone a b → Tells x → number_after n x.value ≡ number_or (refusal (size when a ∷ not_finite when b ∷ computed when not x.sound ∷ [])) x.value
 computed_last true b x n e t = rw e
 computed_last false true x n e t = rw e
 computed_last false false x n e t = rw (e, t) (last_test (finite x.value) x.value)

@@ -1,7 +1,7 @@
 -- The answers: the number of the table (R0) and the values, for each case.
 use Rattle.std.specs.Prelude.{ℕ, Bool, not, ◌||◌, List, [], ◌∷◌, eqb, ltb, Float}
 use Rattle.std.specs.Float.{Format}
-use Rattle.refusal.specs.Order.{Judged, number_of, ◌when◌, size, notFinite, computed, refusal, refused_for}
+use Rattle.refusal.specs.Order.{Judged, number_of, ◌when◌, size, not_finite, computed, refusal, refused_for}
 use Rattle.bits.specs.Choice.{if◌then◌else◌}
 use Rattle.fmath.specs.declared.Number.{Number}
 use Rattle.fmath.specs.Answer.{number_or, some_not_finite}
@@ -30,15 +30,15 @@ unfit t = not (all_finite t.buf 256)
 
 -- what every entry that takes a trail judges
 abbrev pub trail_reasons : Trail → List Judged
-trail_reasons t = size when out_of_size t ∷ notFinite when unfit t ∷ []
+trail_reasons t = size when out_of_size t ∷ not_finite when unfit t ∷ []
 
 -- what an entry judges that takes a trail and a lent position
 abbrev pub push_reasons : Trail → List Float → List Judged
-push_reasons t p = size when out_of_size t ∷ notFinite when (unfit t || some_not_finite p) ∷ []
+push_reasons t p = size when out_of_size t ∷ not_finite when (unfit t || some_not_finite p) ∷ []
 
 -- what an entry answers that takes a trail and computes a number from it
 abbrev pub computed_from : Trail → Checked Float → Number
-computed_from t x = number_or (refusal (size when out_of_size t ∷ notFinite when unfit t ∷ computed when not x.sound ∷ [])) x.value
+computed_from t x = number_or (refusal (size when out_of_size t ∷ not_finite when unfit t ∷ computed when not x.sound ∷ [])) x.value
 
 -- what `net` answers
 unfoldable pub net_of : Format → Trail → ℕ → ℕ → Number

@@ -16,8 +16,8 @@ use Rattle.rollout.proofs.Told.{substep_more}
 use Rattle.rollout.proofs.substep.Statement.{statement}
 use Rattle.rollout.proofs.substep.Tie as tie
 
-abbrev motionOf : Moved → Motion
-motionOf m = record { p = m.p; v = m.v }
+abbrev motion_of : Moved → Motion
+motion_of m = record { p = m.p; v = m.v }
 
 -- the first j axes have moved
 record Stepping (g : Law) (a : List Float) (n : ℕ) (r₀ r : Plant) (j : ℕ) : Type 0 where
@@ -89,7 +89,7 @@ loop-again c =
       along = omega arith;
       places = length-set l.r.p l.j m.p ∙ l.invariant.places;
       rates = length-set l.r.v l.j m.v ∙ l.invariant.rates;
-      so_far = substep_more binary64 (gains_of s.g) s.a.now (state_of s.s) l.j (state_of l.r) (motionOf m) l.invariant.so_far (ap motionOf c.axis.ensures);
+      so_far = substep_more binary64 (gains_of s.g) s.a.now (state_of s.s) l.j (state_of l.r) (motion_of m) l.invariant.so_far (ap motion_of c.axis.ensures);
     }
 
 returns : tie.Need-returns invariant-loop decreases-loop

@@ -35,16 +35,16 @@ hold-requires c κs = let r = leg_room_of _ _ _ _ (has_room c.before) in (r.1, r
 same_length : tie.Need-same-length
 same_length c = search rules
 
-abbrev legFor : tie.Start → Leg
-legFor s = leg_of binary64 s.args.g s.args.w s.args.n s.args.a.now
+abbrev leg_for : tie.Start → Leg
+leg_for s = leg_of binary64 s.args.g s.args.w s.args.n s.args.a.now
 
 comes : (c : tie.After-hold) → let s = c.before.before.before.before.before in
-    CameAlong (leg binary64 (legFor s) (state_of s.args.start) s.args.count) (reached binary64 (legFor s) (state_of s.args.start)) s.args.slack.now s.args.count c.hold.result c.hold.new.1.1.1.1.1.1.0
+    CameAlong (leg binary64 (leg_for s) (state_of s.args.start) s.args.count) (reached binary64 (leg_for s) (state_of s.args.start)) s.args.slack.now s.args.count c.hold.result c.hold.new.1.1.1.1.1.1.0
 unfolding of_bits div reached
 comes c =
     let s = c.before.before.before.before.before in
-    let q = leg binary64 (legFor s) (state_of s.args.start) s.args.count in
-    let stand = reached binary64 (legFor s) (state_of s.args.start) in
+    let q = leg binary64 (leg_for s) (state_of s.args.start) s.args.count in
+    let stand = reached binary64 (leg_for s) (state_of s.args.start) in
     along_at q stand s.args.slack.now s.args.count c.hold.result c.hold.new.1.1.1.1.1.1.0 (0 + s.args.count) (zero-add s.args.count)
     (c.hold.ensures.1 q stand s.args.slack.now 0 (λ _ j b. record { moves = refl; measures = refl }) (along_start q stand s.args.slack.now s.args.start refl))
 

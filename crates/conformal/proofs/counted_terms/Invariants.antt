@@ -1,0 +1,23 @@
+-- `conformal::counted_terms` meets its contract: the loop keeps both answers so far over all eight terms.
+use Prim.Native.Nat.{ℕ, ◌≤◌, ◌-◌}
+use mathlib.Core.Path.{◌≡◌, refl}
+use mathlib.Core.Bool.{Bool, ◌||◌}
+use native.Mathlib.Omega.{arith}
+use borrow.Author.Rules.{rules}
+use lib.Dec.{leb}
+use Rattle.checked.specs.Each.{all}
+use Rattle.checked.proofs.Each.{all_more}
+use Rattle.conformal.specs.Rule.{term_at}
+use Rattle.conformal.specs.Refusals.{named, without_stall_of}
+use Rattle.conformal.specs.declared.GateSpec.{GateSpec}
+use Rattle.conformal.proofs.counted_terms.Given as goal
+
+-- p holds of those of the first i terms that count
+abbrev pub SoFar : (ℕ → Bool) → GateSpec → ℕ → ℕ → Bool
+SoFar p gate n i = all (λ (k : ℕ). leb n k || p (term_at gate k)) i
+
+abbrev pub invariant-loop-i : goal.invariant-loop-i
+invariant-loop-i l = (l.i ≤ 8) × ((l.named ≡ SoFar named l.gate l.n l.i) × (l.without_stall ≡ SoFar without_stall_of l.gate l.n l.i))
+
+abbrev pub decreases-loop-i : goal.decreases-loop-i
+decreases-loop-i l = 8 - l.i

@@ -1,0 +1,16 @@
+-- `conformal::fired_bits` meets its contract: the loop keeps the word of the features passed, which stays below the next weight.
+use Prim.Native.Nat.{ℕ, ◌^◌, ◌≤◌, ◌-◌}
+use mathlib.Core.Path.{◌≡◌, refl, ◌∙◌}
+use mathlib.Core.Bool.{Bool}
+use native.Mathlib.Omega.{arith}
+use borrow.Author.Rules.{rules}
+use Rattle.bits.specs.Bits.{bits_where}
+use Rattle.conformal.specs.Rule.{live, fires, fired_bits}
+use Rattle.bits.proofs.Bits.{Turned, turn}
+use Rattle.conformal.proofs.fired_bits.Given as goal
+
+abbrev pub invariant-loop-j : goal.invariant-loop-j
+invariant-loop-j l = (l.j ≤ 12) × ((l.w ≡ 2 ^ l.j) × (l.bits ≡ bits_where (fires (live l.mask l.valid) l.tau l.z) l.j))
+
+abbrev pub decreases-loop-j : goal.decreases-loop-j
+decreases-loop-j l = 12 - l.j

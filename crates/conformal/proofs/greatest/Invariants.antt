@@ -1,0 +1,19 @@
+-- `conformal::greatest` meets its contract: the loop keeps the greatest of the terms passed.
+use Prim.Native.Nat.{ℕ, ◌≤◌, ◌-◌}
+use mathlib.Core.Path.{◌≡◌, refl, ap}
+use mathlib.Core.Bool.{true, ◌&&◌}
+use native.Mathlib.Omega.{arith}
+use borrow.Author.Rules.{rules}
+use lib.Dec.{ltb}
+use lib.Ieee.{inf, of_bits, div, neg}
+use Rattle.checked.specs.Least.{greater}
+use Rattle.conformal.specs.Rule.{live, counts, least_of, term_at, join_where, greatest_where, aggregate}
+use Rattle.conformal.specs.declared.Joined.{Joined}
+use Rattle.conformal.proofs.Turns.{join_more}
+use Rattle.conformal.proofs.greatest.Given as goal
+
+abbrev pub invariant-loop-i : goal.invariant-loop-i
+invariant-loop-i l = (l.i ≤ 8) × (l.s ≡ greatest_where (counts l.gate (live l.mask l.valid)) (λ (k : ℕ). least_of l.z (term_at l.gate k)) l.i)
+
+abbrev pub decreases-loop-i : goal.decreases-loop-i
+decreases-loop-i l = 8 - l.i

@@ -1,0 +1,9 @@
+-- `conformal::standardise` meets its contract: its calls are the parts of the rule.
+use mathlib.Core.Path.{◌∙◌}
+use borrow.Author.Rules.{rules}
+use Rattle.conformal.specs.Answer.{standardised}
+use Rattle.conformal.proofs.standardise.Goals as goal
+
+pub returns : goal.returns
+unfolding standardised
+returns c = c.answer.ensures ∙ rw (c.judge-number.ensures, c.standards-new.ensures)

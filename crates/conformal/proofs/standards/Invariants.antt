@@ -1,0 +1,30 @@
+-- `conformal::standards` meets its contract: the loop keeps the table and the soundness of the features passed.
+use Prim.Native.Nat.{ℕ, ◌≤◌, ◌-◌}
+use mathlib.Core.Bool.{Bool}
+use mathlib.Core.List.{List}
+use mathlib.Core.Path.{◌≡◌, refl, ap, ◌∙◌}
+use native.Mathlib.Omega.{arith}
+use borrow.Author.Rules.{rules}
+use lib.Ieee.{Float}
+use lib.ListN.{length, take, length-set}
+use lib.Ieee.{binary64}
+use Rattle.checked.specs.Each.{all, at, table}
+use Rattle.checked.proofs.Each.{all_more, table_more, table_all}
+use Rattle.checked.specs.declared.Reckoned.{Reckoned}
+use Rattle.checked.specs.Of.{reckoned_from}
+use Rattle.conformal.specs.Of.{tables}
+use Rattle.conformal.specs.Rule.{live, standard_at, standards}
+use Rattle.conformal.proofs.standards.Given as goal
+
+-- the first j features are standardised
+pub record Scored (center scale : List Float) (bin mask valid : ℕ) (x : List Float) (z : List Float) (sound : Bool) (j : ℕ) : Type 0 where
+  pub along : j ≤ 12
+  pub wide : length z ≡ 12
+  pub so_far : take j z ≡ table (λ (k : ℕ). (standard_at binary64 (tables center scale) bin (live mask valid) x k).value) j
+  pub told : sound ≡ all (λ (k : ℕ). (standard_at binary64 (tables center scale) bin (live mask valid) x k).sound) j
+
+abbrev pub invariant-loop-j : goal.invariant-loop-j
+invariant-loop-j l = Scored l.center l.scale l.bin l.mask l.valid l.x l.z l.sound l.j
+
+abbrev pub decreases-loop-j : goal.decreases-loop-j
+decreases-loop-j l = 12 - l.j

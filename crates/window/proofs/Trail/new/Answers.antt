@@ -1,0 +1,8 @@
+-- `Trail::new` meets its contract: its numbers are the zero of the pattern 0.
+use mathlib.Core.Path.{refl}
+use lib.Ieee.{of_bits}
+use Rattle.window.proofs.Trail.new.Goals as goal
+
+pub returns : goal.returns
+unfolding of_bits
+returns c = refl

@@ -1,0 +1,17 @@
+-- `window::path_of` meets its contract: the loop keeps the sum of the steps so far, oldest first.
+use Prim.Native.Nat.{ℕ, ◌-◌, ◌≤◌}
+use mathlib.Core.Path.{◌≡◌, refl, ap, ◌∙◌}
+use native.Mathlib.Omega.{arith}
+use lib.Ieee.{binary64, of_bits}
+use Rattle.checked.specs.Checked.{sum_from}
+use Rattle.checked.specs.Finite.{+0}
+use Rattle.checked.proofs.Sums.{sum_more}
+use Rattle.window.specs.Rule.{step, path}
+use Rattle.window.proofs.Ranges.{path_range}
+use Rattle.window.proofs.path_of.Given as goal
+
+abbrev pub invariant-loop-j : goal.invariant-loop-j
+invariant-loop-j l = (l.j ≤ l.n) × (l.acc ≡ (sum_from binary64 +0 (step binary64 l.buf l.head l.d l.n) l.j).value)
+
+abbrev pub decreases-loop-j : goal.decreases-loop-j
+decreases-loop-j l = l.n - l.j

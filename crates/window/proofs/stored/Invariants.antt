@@ -1,0 +1,15 @@
+-- `window::stored` meets its contract: the loop has copied the first c numbers.
+use Prim.Native.Nat.{◌-◌, ◌≤◌}
+use mathlib.Core.Path.{◌≡◌, refl}
+use native.Mathlib.Omega.{arith}
+use borrow.Author.Rules.{rules}
+use lib.ListN.{length, length-set}
+use lib.Seq.{paste, paste-zero}
+use Rattle.checked.proofs.Copy.{copy_more}
+use Rattle.window.proofs.stored.Given as goal
+
+abbrev pub invariant-loop-c : goal.invariant-loop-c
+invariant-loop-c l = (l.c ≤ l.n) × (length l.all ≡ length l.initial.all) × (l.all ≡ paste l.initial.all l.at l.p l.c)
+
+abbrev pub decreases-loop-c : goal.decreases-loop-c
+decreases-loop-c l = l.n - l.c

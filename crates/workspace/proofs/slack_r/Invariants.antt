@@ -1,0 +1,31 @@
+-- `workspace::slack_r` meets its contract: a point with fewer coordinates has no slack, and the loop keeps the least so far, the disc's first.
+use Prim.Native.Nat.{ℕ, ◌-◌, ◌≤◌}
+use mathlib.Core.Path.{◌≡◌, ap, ◌∙◌}
+use mathlib.Core.Bool.{Bool}
+use mathlib.Core.List.{List}
+use mathlib.Core.Logic.{◌⊎◌, inl, inr}
+use native.Mathlib.Nat.{le_refl}
+use native.Mathlib.Omega.{arith}
+use borrow.Author.Rules.{rules}
+use lib.ListN.{length}
+use lib.Ieee.{Float, binary64, of_bits, div}
+use Rattle.checked.specs.Checked.{Checked}
+use Rattle.checked.specs.declared.Reckoned.{Reckoned}
+use Rattle.workspace.specs.declared.Workspace.{Workspace}
+use Rattle.workspace.specs.Shape.{first_boxed}
+use Rattle.workspace.specs.Rule.{slack_in_r}
+use Rattle.workspace.specs.Of.{walls_of}
+use Rattle.workspace.proofs.Gaps.{within_slack_missing, within_slack_more, within_slack_start, within_slack_end}
+use Rattle.workspace.proofs.slack_r.Given as goal
+
+-- the least over the first j of n axes, from the first that has a box on
+pub record Measuring (r : Float) (w : Workspace) (p : List Float) (n : ℕ) (least : Float) (sound : Bool) (j : ℕ) : Type 0 where
+  pub along : (j ≤ n) ⊎ (j ≡ first_boxed w.shape)
+  pub from : first_boxed w.shape ≤ j
+  pub so_far : (least ≡ (slack_in_r binary64 w.shape (walls_of w) r p j).value) × (sound ≡ (slack_in_r binary64 w.shape (walls_of w) r p j).sound)
+
+abbrev pub invariant-loop-j : goal.invariant-loop-j
+invariant-loop-j l = Measuring l.r l.w l.p l.n l.least l.sound l.j
+
+abbrev pub decreases-loop-j : goal.decreases-loop-j
+decreases-loop-j l = l.n - l.j

@@ -1,0 +1,36 @@
+-- `workspace::wall_masks` meets its contract: from the eighth axis and the last coordinate on no wall moves anything, and the loop keeps both masks so far.
+use Prim.Native.Nat.{ℕ, ◌-◌, ◌^◌, ◌≤◌, min}
+use mathlib.Core.Path.{◌≡◌, refl, ap, ◌∙◌}
+use mathlib.Core.Bool.{Bool, ◌&&◌}
+use mathlib.Core.List.{List}
+use native.Mathlib.Omega.{arith}
+use borrow.Author.Rules.{rules}
+use lib.Dec.{leb}
+use lib.ListN.{length}
+use lib.Ieee.{Float}
+use Rattle.bits.specs.Bits.{bits_where}
+use Rattle.bits.proofs.Bits.{Turned, turn}
+use Rattle.checked.proofs.Each.{◌&&≡◌}
+use Rattle.workspace.specs.declared.Bounds.{Bounds}
+use Rattle.workspace.specs.declared.Shape.{Shape}
+use Rattle.workspace.specs.Shape.{first_boxed, boxed}
+use Rattle.workspace.specs.Rule.{raised_at, lowered_at}
+use Rattle.workspace.specs.Of.{walls_in}
+use Rattle.workspace.proofs.Shapes.{boxed_told}
+use Rattle.workspace.proofs.Masks.{low_told, high_told, masks_are}
+use Rattle.workspace.proofs.wall_masks.Given as goal
+
+-- the first j of m axes are looked at
+pub record Looking (a : List Float) (b : Bounds) (first m low high power j : ℕ) : Type 0 where
+  pub along : j ≤ m
+  pub there : m ≤ length a
+  pub narrow : m ≤ 8
+  pub next : power ≡ 2 ^ j
+  pub low-so-far : (s : Shape) → first ≡ first_boxed s → low ≡ bits_where (raised_at (walls_in s b) a) j
+  pub high-so-far : (s : Shape) → first ≡ first_boxed s → high ≡ bits_where (lowered_at (walls_in s b) a) j
+
+abbrev pub invariant-loop-j : goal.invariant-loop-j
+invariant-loop-j l = Looking l.a l.b l.first l.m l.low l.high l.power l.j
+
+abbrev pub decreases-loop-j : goal.decreases-loop-j
+decreases-loop-j l = l.m - l.j

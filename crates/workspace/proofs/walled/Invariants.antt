@@ -1,0 +1,33 @@
+-- `workspace::walled` meets its contract: nothing is put past the eighth axis, and from the first axis that has a box on the loop puts one coordinate a turn.
+use Prim.Native.Nat.{ℕ, ◌-◌, ◌≤◌, min}
+use mathlib.Core.Path.{◌≡◌, ap, ◌∙◌}
+use mathlib.Core.List.{List}
+use native.Mathlib.Nat.{le_refl}
+use native.Mathlib.Omega.{arith}
+use borrow.Author.Rules.{rules}
+use lib.Ieee.{Float}
+use Rattle.checked.specs.Each.{at, over}
+use Rattle.fmath.specs.Clamp.{clamped}
+use Rattle.fmath.specs.declared.Sided.{Sided}
+use Rattle.checked.proofs.Each.{over_more, over_keeps}
+use Rattle.workspace.specs.declared.Bounds.{Bounds}
+use Rattle.workspace.specs.declared.Shape.{Shape}
+use Rattle.workspace.specs.Shape.{first_boxed}
+use Rattle.workspace.specs.Rule.{inside_at}
+use Rattle.workspace.specs.Of.{walls_in}
+use Rattle.workspace.proofs.Shapes.{boxed_from}
+use Rattle.workspace.proofs.Gaps.{walled_is, none_inside_before}
+use Rattle.workspace.proofs.walled.Given as goal
+
+-- the first j of m coordinates are put, those before `first` as they are
+pub record Putting (first : ℕ) (b : Bounds) (a : List Float) (m : ℕ) (r : List Float) (j : ℕ) : Type 0 where
+  pub along : j ≤ m
+  pub from : min first m ≤ j
+  pub narrow : m ≤ 8
+  pub so_far : (s : Shape) → first ≡ first_boxed s → r ≡ over (inside_at (walls_in s b) a) a j
+
+abbrev pub invariant-loop-j : goal.invariant-loop-j
+invariant-loop-j l = Putting l.first l.b l.initial.r l.m l.r l.j
+
+abbrev pub decreases-loop-j : goal.decreases-loop-j
+decreases-loop-j l = l.m - l.j
