@@ -1,7 +1,7 @@
 -- The rules at the declared structs.
 use Rattle.std.specs.Prelude.{ℕ, ◌+◌, ◌*◌, ◌≡◌, Bool, true, false, List, eqb, Float, length, replicate}
 use Rattle.std.proofs.Math.Seq.{paste}
-use Rattle.std.specs.Borrow.{Bor}
+use Rattle.std.specs.Borrow.{Bor, MutBor}
 use Rattle.checked.specs.Finite.{+0}
 use Rattle.refusal.specs.Order.{refusal, refused_for}
 use Rattle.bits.specs.Choice.{if◌then◌else◌}
@@ -52,7 +52,7 @@ unfoldable pub part_of : ℕ → ℕ → ℕ → ℕ → Part
 part_of n h d i = if row_within n h d i then record { start = row_start h d i; end = row_start h d i + d } else record { start = 0; end = 0 }
 
 -- r is row i of lent numbers, and in its place: a number takes 8 bytes
-abbrev pub IsRow : Bor (List Float) → Bor (List Float) → ℕ → ℕ → ℕ → Type 0
+abbrev pub IsRow : MutBor (List Float) → MutBor (List Float) → ℕ → ℕ → ℕ → Type 0
 IsRow r l h d i = (r.now ≡ row_of l.now h d i) × (r.ref_ptr ≡ (l.ref_ptr.0, (part_of (length l.now) h d i).start * 8 + l.ref_ptr.1))
 
 -- the view of lent rows

@@ -23,4 +23,4 @@ pub returns : goal.returns
 returns c =
     let l = c.args.«data» in
     let e = c.row_part-part.ensures in
-    (part_holds _ _ _ _ _ e, ap (λ (p : Part). (l.ptr.0, p.start * 8 + l.ptr.1)) e)
+    (part_holds _ _ _ _ _ e, ap (λ (p : Part). (l.ref_ptr.0, p.start * 8 + l.ref_ptr.1)) e)

@@ -11,7 +11,7 @@ use Rattle.chunk.proofs.Rows.{start_small, kept_without_rows, kept_past, written
 use Rattle.chunk.proofs.set_row.Given as goal
 
 abbrev pub invariant-loop-c : goal.invariant-loop-c
-invariant-loop-c l = (l.c ≤ l.n) × (length «data» ≡ length l.initial.data) × («data» ≡ paste l.initial.data l.start l.row l.c)
+invariant-loop-c l = (l.c ≤ l.n) × (length l.«data» ≡ length l.initial.«data») × (l.«data» ≡ paste l.initial.«data» l.start l.row l.c)
 
 abbrev pub decreases-loop-c : goal.decreases-loop-c
 decreases-loop-c l = l.n - l.c

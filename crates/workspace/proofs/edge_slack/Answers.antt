@@ -7,8 +7,8 @@ use Rattle.workspace.proofs.edge_slack.Goals as goal
 
 pub returns-in-Box : goal.returns-in-Box
 unfolding of_bits div
-returns-in-Box c = edge_none binary64 (walls_of c.args.w) _ c.enum_told-1.given.1
+returns-in-Box c = edge_none binary64 (walls_of c.args.w) _ c.in-Box.is
 
 pub returns-in-Disc : goal.returns-in-Disc
 unfolding of_bits div
-returns-in-Disc c = edge_slack_is binary64 _ _ _ _ c.distance.ensures (walls_of c.args.w) c.shape-1.given.1 c.finite-sound.ensures c.min.ensures
+returns-in-Disc c = edge_slack_is binary64 _ _ _ _ c.distance.ensures (walls_of c.args.w) c.in-Disc.is c.finite-sound.ensures c.min.ensures

@@ -10,11 +10,11 @@ use Rattle.workspace.proofs.outside.Goals as goal
 pub returns-in-Box : goal.returns-in-Box
 returns-in-Box c =
     let s = c.args in
-    let h = c.enum_told-1.given.1 in
-    outside_box binary64 (walls_in s.shape-1 s.b) s.a.now s.n h (c.some_beyond-out.ensures s.shape-1 (sym (ap first_boxed h)))
+    let h = c.in-Box.is in
+    outside_box binary64 (walls_in s.shape s.b) s.a.now s.n h (c.some_beyond-out.ensures s.shape (sym (ap first_boxed h)))
 
 pub returns-in-Disc : goal.returns-in-Disc
 returns-in-Disc c =
     let s = c.args in
-    let h = c.shape-1.given.1 in
-    outside_disc binary64 (walls_in s.shape-1 s.b) s.a.now s.n h c.distance-far.ensures c.finite-sound.ensures (c.some_beyond-out-in-Disc.ensures s.shape-1 (sym (ap first_boxed h)))
+    let h = c.in-Disc.is in
+    outside_disc binary64 (walls_in s.shape s.b) s.a.now s.n h c.distance-far.ensures c.finite-sound.ensures (c.some_beyond-out-in-Disc.ensures s.shape (sym (ap first_boxed h)))

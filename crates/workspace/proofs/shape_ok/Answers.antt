@@ -5,4 +5,4 @@ use Rattle.workspace.proofs.shape_ok.Goals as goal
 
 pub returns-in-Disc : goal.returns-in-Disc
 unfolding every every_from
-returns-in-Disc c = rw (c.shape-1.given.1, c.finite-a.ensures, c.finite-b.ensures, c.above_zero-c.ensures)
+returns-in-Disc c = rw (c.in-Disc.is, c.finite-a.ensures, c.finite-b.ensures, c.above_zero-c.ensures)

@@ -3,4 +3,4 @@ use borrow.Author.Rules.{rules}
 use Rattle.workspace.proofs.spans.Goals as goal
 
 pub returns-in-Disc : goal.returns-in-Disc
-returns-in-Disc c = rw c.enum_told-in-Disc-1.given.1
+returns-in-Disc c = rw c.in-Disc.is

@@ -28,44 +28,44 @@ loop-j-init c = record {
   there = omega (arith, c.fewer-m.ensures, c.fewer.ensures);
   narrow = omega (arith, c.fewer-m.ensures, c.fewer.ensures);
   next = refl;
-  low-so-far = λ s h. refl;
-  high-so-far = λ s h. refl;
+  low_so_far = λ s h. refl;
+  high_so_far = λ s h. refl;
 }
 
 -- the test of the loop, with what it tells of a wall
 has_box : (s : Shape) (j : ℕ) {first : ℕ} {t u : Bool} → first ≡ first_boxed s → t ≡ u → leb first j && t ≡ boxed s j && u
 has_box s j e h = (ap (λ (k : ℕ). leb k j) e ∙ boxed_told s j) &&≡ h
 
-raised-turn : (c : goal.After-weight-low) → let l = c in let s = l.args in (shape : Shape) → l.first_boxed-first.result ≡ first_boxed shape → Turned (raised_at (walls_in shape s.b) s.a.now) l.loop-j.j l.loop-j.low l.loop-j.power c.weight-low.result
-raised-turn c shape h =
-    let l = c.loop-j in
-    turn _ l.j l.low l.power _ (omega (arith, c.loop-j-test.true, l.invariant.narrow)) (l.invariant.low-so-far shape h) l.invariant.next (has_box shape l.j h (low_told _ _ _ c.clamp-c.ensures)) c.weight-low.ensures.0
-
-lowered-turn : (c : goal.After-weight-high) → let l = c in let s = l.args in (shape : Shape) → l.first_boxed-first.result ≡ first_boxed shape → Turned (lowered_at (walls_in shape s.b) s.a.now) l.loop-j.j l.loop-j.high l.loop-j.power c.weight-high.result
-lowered-turn c shape h =
-    let l = c.loop-j in
-    turn _ l.j l.high l.power _ (omega (arith, c.loop-j-test.true, l.invariant.narrow)) (l.invariant.high-so-far shape h) l.invariant.next (has_box shape l.j h (high_told _ _ _ c.clamp-c.ensures)) c.weight-high.ensures.0
-
 pub overflow_add-low : goal.overflow_add-low
-overflow_add-low c = let t = raised-turn c c.args.shape c.first_boxed-first.ensures in omega arith
+overflow_add-low c =
+    let l = c.loop-j in
+    let s = c.args.shape in
+    let h = c.first_boxed-first.ensures in
+    let t = turn _ l.j l.low l.power _ (omega (arith, c.loop-j-test.true, l.invariant.narrow)) (l.invariant.low_so_far s h) l.invariant.next (has_box s l.j h (low_told _ _ _ c.clamp-c.ensures)) c.weight-low.ensures.0 in
+    omega arith
+
+lowered_turn : (c : goal.After-weight-high) → (shape : Shape) → c.first_boxed-first.result ≡ first_boxed shape → Turned (lowered_at (walls_in shape c.args.b) c.args.a.now) c.loop-j.j c.loop-j.high c.loop-j.power c.weight-high.result
+lowered_turn c shape h =
+    let l = c.loop-j in
+    turn _ l.j l.high l.power _ (omega (arith, c.loop-j-test.true, l.invariant.narrow)) (l.invariant.high_so_far shape h) l.invariant.next (has_box shape l.j h (high_told _ _ _ c.clamp-c.ensures)) c.weight-high.ensures.0
 
 pub overflow_add-high : goal.overflow_add-high
-overflow_add-high c = let t = lowered-turn c c.args.shape c.first_boxed-first.ensures in omega arith
+overflow_add-high c = let t = lowered_turn c c.args.shape c.first_boxed-first.ensures in omega arith
 
 pub overflow_mul-power : goal.overflow_mul-power
-overflow_mul-power c = let t = lowered-turn c c.args.shape c.first_boxed-first.ensures in omega arith
+overflow_mul-power c = let t = lowered_turn c c.args.shape c.first_boxed-first.ensures in omega arith
 
 pub loop-j-preserved : goal.loop-j-preserved
 loop-j-preserved c =
     let l = c.loop-j in
-    let t = lowered-turn c c.args.shape c.first_boxed-first.ensures in
+    let t = lowered_turn c c.args.shape c.first_boxed-first.ensures in
     record {
       along = omega (arith, c.loop-j-test.true);
       there = l.invariant.there;
       narrow = l.invariant.narrow;
       next = t.next;
-      low-so-far = λ shape h. (raised-turn c shape h).so_far;
-      high-so-far = λ shape h. (lowered-turn c shape h).so_far;
+      low_so_far = λ shape h. (turn _ l.j l.low l.power _ (omega (arith, c.loop-j-test.true, l.invariant.narrow)) (l.invariant.low_so_far shape h) l.invariant.next (has_box shape l.j h (low_told _ _ _ c.clamp-c.ensures)) c.weight-low.ensures.0).so_far;
+      high_so_far = λ shape h. (lowered_turn c shape h).so_far;
     }
 
 pub returns : goal.returns
@@ -80,5 +80,5 @@ returns c =
     s.n
     (search rules)
     (search rules)
-    (l.invariant.low-so-far s.shape first ∙ ap (bits_where (raised_at (walls_in s.shape s.b) s.a.now)) e)
-    (l.invariant.high-so-far s.shape first ∙ ap (bits_where (lowered_at (walls_in s.shape s.b) s.a.now)) e)
+    (l.invariant.low_so_far s.shape first ∙ ap (bits_where (raised_at (walls_in s.shape s.b) s.a.now)) e)
+    (l.invariant.high_so_far s.shape first ∙ ap (bits_where (lowered_at (walls_in s.shape s.b) s.a.now)) e)

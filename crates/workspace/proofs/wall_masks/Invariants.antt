@@ -26,8 +26,8 @@ pub record Looking (a : List Float) (b : Bounds) (first m low high power j : ℕ
   pub there : m ≤ length a
   pub narrow : m ≤ 8
   pub next : power ≡ 2 ^ j
-  pub low-so-far : (s : Shape) → first ≡ first_boxed s → low ≡ bits_where (raised_at (walls_in s b) a) j
-  pub high-so-far : (s : Shape) → first ≡ first_boxed s → high ≡ bits_where (lowered_at (walls_in s b) a) j
+  pub low_so_far : (s : Shape) → first ≡ first_boxed s → low ≡ bits_where (raised_at (walls_in s b) a) j
+  pub high_so_far : (s : Shape) → first ≡ first_boxed s → high ≡ bits_where (lowered_at (walls_in s b) a) j
 
 abbrev pub invariant-loop-j : goal.invariant-loop-j
 invariant-loop-j l = Looking l.a l.b l.first l.m l.low l.high l.power l.j

@@ -21,12 +21,12 @@ returns-then-not-self c = rw (not-true c.args.self.filled c.if-not-self.true)
 pub overflow_mul-n : goal.overflow_mul-n
 overflow_mul-n c =
     let b = c.args.self in
-    record { fits = lt_of_le_of_lt (le_of_lt (place_small {k = b.header-1.horizon} {d = b.header-1.dim} (search rules) (search rules))) (search rules) }
+    record { fits = lt_of_le_of_lt (le_of_lt (place_small {k = b.header.horizon} {d = b.header.dim} (search rules) (search rules))) (search rules) }
 
 pub returns : goal.returns
 unfolding held_refusal_of
 returns c =
     let b = c.args.self in
-    let n = b.header-1.horizon * b.header-1.dim in
+    let n = b.header.horizon * b.header.dim in
     rw (not-false b.filled c.if-not-self.false)
-    (joined (chunk_reasons b.header-1 n) ((not_finite when not (all_finite b.«data» n)) ∷ []) c.chunk_refusal-sizes.ensures (c.when.ensures ∙ rw c.all_finite-fit.ensures) c.or_later.ensures)
+    (joined (chunk_reasons b.header n) ((not_finite when not (all_finite b.«data» n)) ∷ []) c.chunk_refusal-sizes.ensures (c.when.ensures ∙ rw c.all_finite-fit.ensures) c.or_later.ensures)

@@ -1,0 +1,13 @@
+-- `envelope::derive` meets its contract: its calls are the parts of the rule, and the rest is its arithmetic.
+use borrow.Author.Rules.{rules}
+use lib.Ieee.{of_bits}
+use Rattle.envelope.specs.Derive.{inv_dt_of, inv_dt2_of, inv_dt3_of, step_max_of, derived_from}
+use Rattle.envelope.proofs.derive.Goals as goal
+
+pub returns : goal.returns
+unfolding derived_from inv_dt_of inv_dt2_of inv_dt3_of step_max_of of_bits
+returns c =
+    let i = c in
+    let h = i in
+    let l = h in
+    rw (l.low_walls-box_lo.ensures, h.high_walls-box_hi.ensures, i.inverses-inv_norm_scale.ensures, c.isotropic-norm_scale_iso.ensures)

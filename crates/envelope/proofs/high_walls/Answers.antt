@@ -1,0 +1,45 @@
+-- `envelope::high_walls` meets its contract: the loop fills the table from the front, with the walls of axes that have a box.
+use Prim.Native.Nat.{ℕ, ◌≤◌, ◌-◌}
+use mathlib.Core.Path.{◌≡◌, refl, ◌∙◌}
+use mathlib.Core.Bool.{◌&&◌}
+use native.Mathlib.Omega.{arith}
+use borrow.Author.Rules.{rules}
+use lib.Dec.{leb, ltb}
+use lib.ListN.{length, take, length-set}
+use lib.Ieee.{binary64, sub}
+use Rattle.checked.specs.Each.{at, table}
+use Rattle.checked.proofs.Each.{table_more, table_all}
+use Rattle.envelope.specs.Derive.{kept, high_walls}
+use Rattle.envelope.proofs.Walls.{walls_kept}
+use Rattle.envelope.proofs.high_walls.Goals as goal
+
+pub loop-i-init : goal.loop-i-init
+unfolding table
+loop-i-init c = (search rules, (refl, refl))
+
+pub offset_bounds-hi-i : goal.offset_bounds-hi-i
+offset_bounds-hi-i c = omega arith
+
+pub bounds-hi-i : goal.bounds-hi-i
+bounds-hi-i c = omega arith
+
+pub offset_bounds-walls-i : goal.offset_bounds-walls-i
+offset_bounds-walls-i c = omega arith
+
+pub bounds-walls-i : goal.bounds-walls-i
+bounds-walls-i c = omega arith
+
+pub overflow_add-i : goal.overflow_add-i
+overflow_add-i c = omega arith
+
+pub loop-i-smaller : goal.loop-i-smaller
+loop-i-smaller c = omega arith
+
+pub loop-i-preserved : goal.loop-i-preserved
+loop-i-preserved c = let l = c.loop-i in (omega arith, (simp length-set l.invariant.1.0, table_more _ _ _ _ (omega arith) l.invariant.1.1 c.keep.ensures))
+
+pub returns : goal.returns
+unfolding high_walls
+returns c =
+    let s = c.args in
+    table_all _ _ _ _ (omega arith) c.loop-i.invariant.1.0 c.loop-i.invariant.1.1 ∙ walls_kept s.shape c.first_boxed-first.ensures s.n (λ (k : ℕ). sub binary64 (at s.hi.now k) s.margin)

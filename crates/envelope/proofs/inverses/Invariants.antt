@@ -1,0 +1,19 @@
+-- `envelope::inverses` meets its contract: the loop fills the table from the front.
+use Prim.Native.Nat.{ℕ, ◌≤◌, ◌-◌}
+use mathlib.Core.Path.{◌≡◌, refl}
+use native.Mathlib.Omega.{arith}
+use borrow.Author.Rules.{rules}
+use lib.Dec.{ltb}
+use lib.ListN.{length, take, length-set}
+use lib.Ieee.{binary64, div, of_bits}
+use Rattle.checked.specs.Constants.{1! }
+use Rattle.checked.specs.Each.{at, table}
+use Rattle.checked.proofs.Each.{table_more, table_all}
+use Rattle.envelope.specs.Derive.{kept, inverses}
+use Rattle.envelope.proofs.inverses.Given as goal
+
+abbrev pub invariant-loop-i : goal.invariant-loop-i
+invariant-loop-i l = (l.i ≤ 8) × ((length l.inv ≡ 8) × (take l.i l.inv ≡ table (λ (k : ℕ). kept (ltb k l.n) (div binary64 1! (at l.scale k))) l.i))
+
+abbrev pub decreases-loop-i : goal.decreases-loop-i
+decreases-loop-i l = 8 - l.i

@@ -1,0 +1,18 @@
+-- `envelope::pair_is_own` meets its contract: the loop keeps the answer so far.
+use Prim.Native.Nat.{ℕ, ◌≤◌, ◌-◌}
+use mathlib.Core.Path.{◌≡◌, refl}
+use mathlib.Core.Bool.{not}
+use native.Mathlib.Omega.{arith}
+use borrow.Author.Rules.{rules}
+use lib.ListN.{get_or}
+use Rattle.checked.specs.Each.{all}
+use Rattle.checked.proofs.Each.{all_more}
+use Rattle.envelope.specs.Refusals.{same_pair, pair_is_own}
+use Rattle.envelope.specs.declared.Contact.TheVariants.{None}
+use Rattle.envelope.proofs.pair_is_own.Given as goal
+
+abbrev pub invariant-loop-m : goal.invariant-loop-m
+invariant-loop-m l = (l.m ≤ l.k) × (l.ok ≡ all (λ (i : ℕ). not (same_pair (get_or l.list i (record { l.contact = None })).contact l.contact)) l.m)
+
+abbrev pub decreases-loop-m : goal.decreases-loop-m
+decreases-loop-m l = l.k - l.m

@@ -1,0 +1,17 @@
+-- `envelope::zones_fit` meets its contract: the loop keeps the answer so far.
+use Prim.Native.Nat.{ℕ, ◌≤◌, ◌-◌}
+use mathlib.Core.Path.{◌≡◌, refl}
+use mathlib.Core.Bool.{◌&&◌}
+use native.Mathlib.Omega.{arith}
+use borrow.Author.Rules.{rules}
+use Rattle.checked.specs.Each.{all}
+use Rattle.checked.proofs.Each.{all_more, ◌&&≡◌}
+use Rattle.envelope.specs.Slots.{zone_at}
+use Rattle.envelope.specs.Refusals.{channels_ok, pair_is_own, zones_fit}
+use Rattle.envelope.proofs.zones_fit.Given as goal
+
+abbrev pub invariant-loop-k : goal.invariant-loop-k
+invariant-loop-k l = (l.k ≤ l.n) × ((l.n ≤ 4) × (l.ok ≡ all (λ (m : ℕ). channels_ok (zone_at l.zones m) l.aux_count && pair_is_own l.zones m) l.k))
+
+abbrev pub decreases-loop-k : goal.decreases-loop-k
+decreases-loop-k l = l.n - l.k

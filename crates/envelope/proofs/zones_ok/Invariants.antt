@@ -1,0 +1,17 @@
+-- `envelope::zones_ok` meets its contract: the loop keeps the answer so far.
+use Prim.Native.Nat.{ℕ, ◌≤◌, ◌-◌}
+use mathlib.Core.Path.{◌≡◌, refl}
+use native.Mathlib.Omega.{arith}
+use borrow.Author.Rules.{rules}
+use lib.ListN.{get_or}
+use Rattle.checked.specs.Each.{all}
+use Rattle.checked.proofs.Each.{all_more}
+use Rattle.envelope.specs.Refusals.{zone_ok, zones_ok}
+use Rattle.envelope.specs.declared.Contact.TheVariants.{None}
+use Rattle.envelope.proofs.zones_ok.Given as goal
+
+abbrev pub invariant-loop-k : goal.invariant-loop-k
+invariant-loop-k l = (l.k ≤ l.n) × ((l.n ≤ 4) × (l.ok ≡ all (λ (m : ℕ). zone_ok (get_or l.list m (record { contact = None })).contact) l.k))
+
+abbrev pub decreases-loop-k : goal.decreases-loop-k
+decreases-loop-k l = l.n - l.k
