@@ -12,7 +12,7 @@ use Rattle.envelope.specs.declared.Contact.TheVariants.{None}
 use Rattle.envelope.proofs.pair_is_own.Given as goal
 
 abbrev pub invariant-loop-m : goal.invariant-loop-m
-invariant-loop-m l = (l.m ≤ l.k) × (l.ok ≡ all (λ (i : ℕ). not (same_pair (get_or l.list i (record { l.contact = None })).contact l.contact)) l.m)
+invariant-loop-m l = (l.m ≤ l.k) × (l.ok ≡ all (λ (i : ℕ). not (same_pair (get_or l.list i (record { contact = None })).contact l.contact)) l.m)
 
 abbrev pub decreases-loop-m : goal.decreases-loop-m
 decreases-loop-m l = l.k - l.m

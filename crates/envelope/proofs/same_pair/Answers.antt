@@ -3,7 +3,7 @@ use borrow.Author.Rules.{rules}
 use Rattle.envelope.proofs.same_pair.Goals as goal
 
 pub returns-in-None-other : goal.returns-in-None-other
-returns-in-None-other c = rw (c.in-None.is, c.in-None.is)
+returns-in-None-other c = rw (c.in-Zone.is, c.in-None-other.is)
 
 pub returns-in-Zone-other : goal.returns-in-Zone-other
-returns-in-Zone-other c = rw (c.in-Zone.is, c.in-Zone.is)
+returns-in-Zone-other c = rw (c.in-Zone.is, c.in-Zone-other.is)
