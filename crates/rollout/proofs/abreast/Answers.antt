@@ -1,0 +1,125 @@
+-- `rollout::abreast` meets its contract: the loop comes along one entry a turn, with the first n axes as n axes alone would move (`Wide`).
+use Prim.Native.Nat.{ℕ, ◌+◌, ◌-◌, ◌≤◌, ◌<◌, min}
+use mathlib.Core.Path.{◌≡◌, refl, sym, ap, ◌∙◌, subst}
+use mathlib.Core.Bool.{true}
+use mathlib.Core.List.{List}
+use native.Mathlib.Omega.{arith}
+use borrow.Author.Rules.{rules}
+use borrow.Author.Tests.{not-true, not-false}
+use lib.ListN.{length, length-set}
+use lib.Ieee.{Float, binary64}
+use Rattle.workspace.specs.declared.Workspace.{Workspace}
+use Rattle.rollout.specs.declared.Law.{Law}
+use Rattle.checked.specs.Each.{at}
+use Rattle.checked.specs.Row.{padded}
+use Rattle.checked.proofs.Copy.{all_padded, padded_at}
+use Rattle.course.specs.declared.Plant.{Plant}
+use Rattle.course.specs.declared.Run.{Run}
+use Rattle.course.specs.Plant.{State}
+use Rattle.course.specs.Forecast.{Forecast}
+use Rattle.course.specs.Of.{CameAlong}
+use Rattle.rollout.specs.Of.{gains_of, leg_of, AlongLeg}
+use Rattle.rollout.proofs.Along.{legged_next}
+use Rattle.course.proofs.Along.{along_zero, along_sum, along_at, along_rest}
+use Rattle.rollout.proofs.Wide.{joined_itself, as_long, running, wide_fails, wide_advances, going}
+use Rattle.rollout.proofs.abreast.Invariants.{Coming, first}
+use Rattle.rollout.proofs.abreast.Goals as goal
+
+-- the first n numbers of the setpoint are taken in
+taken_in : (n : ℕ) (a : List Float) {r : List Float} → n ≤ 8 → n ≤ length a → r ≡ padded a (min n (min (length a) 8)) → (j : ℕ) → j < n → at r j ≡ at a j
+taken_in n a hn ha e j hj = ap (λ (l : List Float). at l j) (all_padded a hn ha e) ∙ padded_at a n j hn hj
+
+pub returns-then-not-run : goal.returns-then-not-run
+returns-then-not-run c = (omega arith, λ t stand l k go h. along_rest t stand l k _ _ (not-true _ c.if-not-run.true) h c.args.count)
+
+-- the plant's arrays are eight long
+long : (s : goal.Start) → (length s.args.run.plant.p ≡ 8) × (length s.args.run.plant.v ≡ 8)
+long s = (search rules, search rules)
+
+pub loop-s-init : goal.loop-s-init
+loop-s-init c =
+    let s = c.args in record {
+      turns = omega arith;
+      same = refl;
+      written = omega arith;
+      places = search rules;
+      rates = search rules;
+      comes = λ t stand l k go h.
+          along_zero t stand l k _ _
+          (subst (λ (q : Plant). CameAlong t stand l k (first q s.run.margin s.run.done) s.slack.now) (sym (joined_itself s.run.plant s.n)) h);
+    }
+
+pub substep-next-requires : goal.substep-next-requires
+substep-next-requires c = (omega arith, search rules)
+
+pub shape_of-slack-then-not-room : goal.shape_of-slack-then-not-room
+shape_of-slack-then-not-room c = c.loop-s.invariant.same
+
+pub returns-then-not-room : goal.returns-then-not-room
+returns-then-not-room c =
+    let s = c in
+    let i = c.loop-s in
+    let sound : s.args.run.sound ≡ true = not-false _ c.if-not-run.false in
+    let turns = c.loop-s-test.true in
+    rw c.ended.ensures (
+      omega (arith, i.invariant.written, turns),
+      λ t stand l k legged r.
+          let h = subst (λ (q : Run). CameAlong t stand l k q s.args.slack.now) (going s.args.run sound) r in
+          let go : AlongLeg binary64 (leg_of binary64 s.args.g s.args.w s.args.n s.args.a.now) t stand k s.args.count (first s.args.run.plant s.args.run.margin s.args.run.done) = λ _. legged sound in
+          along_at t stand l (k + s.args.count) _ _ (k + i.s + 1 + (s.args.count - i.s - 1)) (omega (arith, turns))
+          (along_rest t stand l (k + i.s + 1) _ _ refl
+          (wide_fails binary64 t stand l (k + i.s) i.moved s.args.run.plant s.args.n i.margin i.at i.slack s.args.g s.args.w s.args.a.now c.padded-aim.result
+          (i.invariant.comes t stand l k go h)
+          (legged_next binary64 _ t stand l k s.args.count i.s (first s.args.run.plant s.args.run.margin s.args.run.done) (running i.moved s.args.run.plant s.args.n i.margin i.at) s.args.slack.now i.slack h go (i.invariant.comes t stand l k go h) (omega arith))
+          s.requires.0 s.requires.3 i.invariant.places i.invariant.rates (long s).0 (long s).1 (taken_in s.args.n s.args.a.now s.requires.0 s.requires.1 c.padded-aim.ensures) c.substep-next.result c.substep-next.ensures c.slack_abreast-room.result c.slack_abreast-room.ensures (not-true _ c.if-not-room.true))
+          (s.args.count - i.s - 1)),
+    )
+
+pub offset_bounds-slack-at : goal.offset_bounds-slack-at
+offset_bounds-slack-at c =
+    let i = c.loop-s in
+    let e : i.at < length c.args.slack.now = omega (arith, i.invariant.written, c.loop-s-test.true, c.requires.2) in
+    search (rules, e, c.well_formed.1.1.1.1.1.1.0)
+
+pub bounds-slack-at : goal.bounds-slack-at
+bounds-slack-at c = let i = c.loop-s in omega (arith, i.invariant.same, i.invariant.written, c.loop-s-test.true, c.requires.2)
+
+pub overflow_add-at : goal.overflow_add-at
+overflow_add-at c =
+    let i = c.loop-s in
+    let e : i.at < length c.args.slack.now = omega (arith, i.invariant.written, c.loop-s-test.true, c.requires.2) in
+    search (rules, e, c.well_formed.1.1.1.1.1.1.0)
+
+pub loop-s-preserved : goal.loop-s-preserved
+loop-s-preserved c =
+    let s = c in
+    let kept = as_long binary64 (gains_of s.args.g) c.padded-aim.result 8 c.loop-s.moved c.substep-next.result c.substep-next.ensures in
+    let i = c.loop-s in record {
+      turns = omega arith;
+      same = length-set i.slack i.at c.slack_abreast-room.result.value ∙ i.invariant.same;
+      written = omega (arith, i.invariant.written);
+      places = kept.0 ∙ i.invariant.places;
+      rates = kept.1 ∙ i.invariant.rates;
+      comes = λ t stand l k go h.
+          along_sum t stand l k _ _ i.s 1
+          (wide_advances binary64 t stand l (k + i.s) i.moved s.args.run.plant s.args.n i.margin i.at i.slack s.args.g s.args.w s.args.a.now c.padded-aim.result
+          (i.invariant.comes t stand l k go h)
+          (legged_next binary64 _ t stand l k s.args.count i.s (first s.args.run.plant s.args.run.margin s.args.run.done) (running i.moved s.args.run.plant s.args.n i.margin i.at) s.args.slack.now i.slack h go (i.invariant.comes t stand l k go h) (omega arith))
+          s.requires.0 s.requires.3 i.invariant.places i.invariant.rates (long s).0 (long s).1 (taken_in s.args.n s.args.a.now s.requires.0 s.requires.1 c.padded-aim.ensures) c.substep-next.result c.substep-next.ensures c.slack_abreast-room.result c.slack_abreast-room.ensures (not-false _ c.if-not-room.false) _ c.min-margin.ensures);
+    }
+
+pub shape_of-slack : goal.shape_of-slack
+shape_of-slack c = c.loop-s.invariant.same
+
+pub returns : goal.returns
+returns c =
+    let s = c in
+    let i = c.loop-s in
+    let sound : s.args.run.sound ≡ true = not-false _ c.if-not-run.false in
+    let e : i.s ≡ s.args.count = omega arith in
+    rw c.ended-2.ensures (
+      omega (arith, i.invariant.written, e),
+      λ t stand l k legged r.
+          along_at t stand l (k + s.args.count) _ _ (k + i.s) (ap (λ (m : ℕ). k + m) e)
+          (i.invariant.comes t stand l k (λ _. legged sound) (subst (λ (q : Run). CameAlong t stand l k q s.args.slack.now) (going s.args.run sound) r)),
+    )

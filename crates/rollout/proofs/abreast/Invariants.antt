@@ -1,0 +1,44 @@
+-- `rollout::abreast` meets its contract: the loop comes along one entry a turn, with the first n axes as n axes alone would move (`Wide`).
+use Prim.Native.Nat.{ℕ, ◌+◌, ◌-◌, ◌≤◌, ◌<◌, min}
+use mathlib.Core.Path.{◌≡◌, refl, sym, ap, ◌∙◌, subst}
+use mathlib.Core.Bool.{true}
+use mathlib.Core.List.{List}
+use native.Mathlib.Omega.{arith}
+use borrow.Author.Rules.{rules}
+use borrow.Author.Tests.{not-true, not-false}
+use lib.ListN.{length, length-set}
+use lib.Ieee.{Float, binary64}
+use Rattle.workspace.specs.declared.Workspace.{Workspace}
+use Rattle.rollout.specs.declared.Law.{Law}
+use Rattle.checked.specs.Each.{at}
+use Rattle.checked.specs.Row.{padded}
+use Rattle.checked.proofs.Copy.{all_padded, padded_at}
+use Rattle.course.specs.declared.Plant.{Plant}
+use Rattle.course.specs.declared.Run.{Run}
+use Rattle.course.specs.Plant.{State}
+use Rattle.course.specs.Forecast.{Forecast}
+use Rattle.course.specs.Of.{CameAlong}
+use Rattle.rollout.specs.Of.{gains_of, leg_of, AlongLeg}
+use Rattle.rollout.proofs.Along.{legged_next}
+use Rattle.course.proofs.Along.{along_zero, along_sum, along_at, along_rest}
+use Rattle.rollout.proofs.Wide.{joined_itself, as_long, running, wide_fails, wide_advances, going}
+use Rattle.rollout.proofs.abreast.Given as goal
+
+-- the run as it starts
+abbrev pub first : Plant → Float → ℕ → Run
+first still margin done = record { plant = still; margin = margin; done = done; sound = true }
+
+-- s of count substeps are run, all eight axes at once
+pub record Coming (g : Law) (w : Workspace) (n : ℕ) (a : List Float) (count : ℕ) (slack₀ : List Float) (still : Plant) (margin₀ : Float) (at₀ : ℕ) (slack : List Float) (moved : Plant) (margin : Float) (at s : ℕ) : Type 0 where
+  pub turns : s ≤ count
+  pub same : length slack ≡ length slack₀
+  pub written : at ≤ at₀ + s
+  pub places : length moved.p ≡ 8
+  pub rates : length moved.v ≡ 8
+  pub comes : ((t : Forecast) (stand : ℕ → State) (l : List Float) (k : ℕ) → AlongLeg binary64 (leg_of binary64 g w n a) t stand k count (first still margin₀ at₀) → CameAlong t stand l k (first still margin₀ at₀) slack₀ → CameAlong t stand l (k + s) (running moved still n margin at) slack)
+
+abbrev pub invariant-loop-s : goal.invariant-loop-s
+invariant-loop-s l = Coming l.g l.w l.n l.a l.count l.initial.slack l.still l.initial.margin l.initial.at l.slack l.moved l.margin l.at l.s
+
+abbrev pub decreases-loop-s : goal.decreases-loop-s
+decreases-loop-s l = l.count - l.s

@@ -1,0 +1,6 @@
+-- `rollout::ended` meets its contract: its plant is the two joined.
+use borrow.Author.Rules.{rules}
+use Rattle.rollout.proofs.ended.Goals as goal
+
+pub returns : goal.returns
+returns c = rw c.joined-plant.ensures

@@ -1,0 +1,24 @@
+-- `rollout::joined` meets its contract: the loop takes one axis a turn.
+use Prim.Native.Nat.{ℕ, ◌-◌, ◌≤◌}
+use mathlib.Core.Path.{◌≡◌, refl, ◌∙◌}
+use native.Mathlib.Omega.{arith}
+use borrow.Author.Rules.{rules}
+use lib.ListN.{length, length-set}
+use Rattle.course.specs.declared.Plant.{Plant}
+use Rattle.checked.specs.Each.{at, over}
+use Rattle.rollout.specs.Of.{joined_of}
+use Rattle.rollout.proofs.Wide.{joined_more}
+use Rattle.rollout.proofs.joined.Given as goal
+
+-- the first j axes are those that moved
+pub record Joining (n : ℕ) (moved r₀ r : Plant) (j : ℕ) : Type 0 where
+  pub along : j ≤ n
+  pub places : length r.p ≡ 8
+  pub rates : length r.v ≡ 8
+  pub so_far : r ≡ joined_of moved r₀ j
+
+abbrev pub invariant-loop-j : goal.invariant-loop-j
+invariant-loop-j l = Joining l.n l.moved l.initial.r l.r l.j
+
+abbrev pub decreases-loop-j : goal.decreases-loop-j
+decreases-loop-j l = l.n - l.j

@@ -1,0 +1,61 @@
+-- `rollout::stepwise` meets its contract: the loop comes along one entry a turn.
+use Prim.Native.Nat.{ℕ, ◌+◌, ◌-◌, ◌≤◌}
+use mathlib.Core.Path.{◌≡◌, refl, ap, ◌∙◌}
+use mathlib.Core.List.{List}
+use native.Mathlib.Omega.{arith}
+use lib.ListN.{length}
+use lib.Ieee.{Float, binary64}
+use Rattle.course.specs.declared.Run.{Run}
+use Rattle.workspace.specs.declared.Workspace.{Workspace}
+use Rattle.rollout.specs.declared.Law.{Law}
+use Rattle.course.specs.Plant.{State}
+use Rattle.course.specs.Forecast.{Forecast}
+use Rattle.course.specs.Of.{CameAlong}
+use Rattle.rollout.specs.Of.{leg_of, AlongLeg}
+use Rattle.rollout.proofs.Along.{legged_next}
+use Rattle.course.proofs.Along.{along_zero, along_sum, along_at}
+use Rattle.rollout.proofs.stepwise.Invariants.{Coming}
+use Rattle.rollout.proofs.stepwise.Goals as goal
+
+pub loop-k-init : goal.loop-k-init
+loop-k-init c =
+    record {
+      turns = omega arith;
+      same = refl;
+      written = omega arith;
+      comes = λ t stand l k go h. along_zero t stand l k _ _ h;
+    }
+
+pub advance-next-requires : goal.advance-next-requires
+advance-next-requires c = let s = c in (s.requires.0, s.requires.1, omega (arith, s.requires.2))
+
+pub overflow_add-k : goal.overflow_add-k
+overflow_add-k c = omega arith
+
+pub loop-k-smaller : goal.loop-k-smaller
+loop-k-smaller c = omega arith
+
+pub loop-k-preserved : goal.loop-k-preserved
+loop-k-preserved c =
+    let s = c in
+    let i = c.loop-k in
+    let call = c.advance-next in record {
+      turns = omega arith;
+      same = call.auto.1.1.1.1.1.0 ∙ i.invariant.same;
+      written = omega (arith, call.ensures.0, i.invariant.written);
+      comes = λ t stand l k go h.
+          along_sum t stand l k _ _ i.k 1
+          (call.ensures.1 t stand l (k + i.k)
+          (legged_next binary64 _ t stand l k s.args.count i.k s.args.run i.r s.args.slack.now i.slack h go (i.invariant.comes t stand l k go h) (omega arith))
+          (i.invariant.comes t stand l k go h));
+    }
+
+pub shape_of-slack : goal.shape_of-slack
+shape_of-slack c = c.loop-k.invariant.same
+
+pub returns : goal.returns
+returns c =
+    let s = c in
+    let i = c.loop-k in
+    let e : i.k ≡ s.args.count = omega arith in
+    (omega (arith, i.invariant.written), λ t stand l k go h. along_at t stand l (k + s.args.count) _ _ (k + i.k) (ap (λ (m : ℕ). k + m) e) (i.invariant.comes t stand l k go h))

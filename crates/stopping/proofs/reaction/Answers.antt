@@ -1,0 +1,6 @@
+-- `stopping::reaction` meets its contract.
+use borrow.Author.Rules.{rules}
+use Rattle.stopping.proofs.reaction.Goals as goal
+
+pub returns : goal.returns
+returns c = rw c.finite-sound.ensures

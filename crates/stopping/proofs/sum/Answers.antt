@@ -1,0 +1,6 @@
+-- `stopping::sum` meets its contract.
+use borrow.Author.Rules.{rules}
+use Rattle.stopping.proofs.sum.Goals as goal
+
+pub returns : goal.returns
+returns c = rw c.finite-fine.ensures

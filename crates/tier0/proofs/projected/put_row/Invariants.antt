@@ -1,0 +1,16 @@
+-- `tier0::projected::put_row` meets its contract: the loop puts one number a turn and keeps the length.
+use Prim.Native.Nat.{◌≤◌, ◌-◌}
+use mathlib.Core.Path.{◌≡◌, refl, ap, ◌∙◌}
+use native.Mathlib.Nat.{le_antisymm}
+use native.Mathlib.Omega.{arith}
+use borrow.Author.Rules.{rules}
+use lib.ListN.{length}
+use Rattle.tier0.specs.Chunk.{put_row}
+use Rattle.tier0.proofs.Rows.{put_turn, length_put}
+use Rattle.tier0.proofs.projected.put_row.Given as goal
+
+abbrev pub invariant-loop-i : goal.invariant-loop-i
+invariant-loop-i l = (l.i ≤ l.n) × (l.out ≡ put_row l.r l.initial.out l.k l.i)
+
+abbrev pub decreases-loop-i : goal.decreases-loop-i
+decreases-loop-i l = l.n - l.i

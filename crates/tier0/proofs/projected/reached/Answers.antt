@@ -1,0 +1,14 @@
+-- `tier0::projected::reached` meets its contract, armed or not.
+use mathlib.Core.Bool.{not}
+use mathlib.Core.Path.{ap}
+use borrow.Author.Tests.{not-true, not-false}
+use lib.Ieee.{binary64}
+use Rattle.tier0.proofs.Steps.{reached_off, reached_on}
+use borrow.Author.Rules.{rules}
+use Rattle.tier0.proofs.projected.reached.Goals as goal
+
+pub returns-then-not-armed : goal.returns-then-not-armed
+returns-then-not-armed c = reached_off binary64 _ _ _ c.armed.ensures (not-true _ (ap not c.if-not-armed.true))
+
+pub returns : goal.returns
+returns c = reached_on binary64 _ _ _ c.armed.ensures (not-false _ (ap not c.if-not-armed.false)) c.box_dims-n.ensures c.pulled.ensures

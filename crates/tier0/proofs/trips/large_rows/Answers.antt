@@ -1,0 +1,27 @@
+-- `tier0::trips::large_rows` meets its contract: the loop keeps the answer so far.
+use Prim.Native.Nat.{◌≤◌, ◌-◌}
+use mathlib.Core.Path.{◌≡◌, refl}
+use native.Mathlib.Omega.{arith}
+use borrow.Author.Rules.{rules}
+use lib.Ieee.{binary64}
+use Rattle.checked.specs.Each.{all, some}
+use Rattle.chunk.proofs.Rows.{row_fits}
+use Rattle.tier0.specs.Chunk.{some_of, large_at, further}
+use Rattle.tier0.proofs.Rows.{reads_few, some_turn, some_found}
+use Rattle.tier0.proofs.trips.large_rows.Goals as goal
+
+pub loop-i-init : goal.loop-i-init
+unfolding some_of some all
+loop-i-init c = (omega arith, (refl, refl))
+
+pub overflow_add-i : goal.overflow_add-i
+overflow_add-i c = let k = reads_few c.args.d in let e = c.further-n.ensures in let w = c.requires in omega (arith, e, k, w.1, c.loop-i.invariant.0)
+
+pub large_at-t-requires : goal.large_at-t-requires
+large_at-t-requires c = let w = c.requires in rw (← c.further-n.ensures) (w.0, omega (arith, c.loop-i-test.true, w.1), row_fits _ _ _ _ (omega (arith, c.loop-i-test.true)) w.2)
+
+pub loop-i-preserved : goal.loop-i-preserved
+loop-i-preserved c = let l = c.loop-i in let g = c.args in (omega (arith, c.loop-i-test.true), some_turn (large_at binary64 g.s g.d g.q g.rows.now) l.i _ _ _ l.invariant.1 c.large_at-t.ensures)
+
+pub returns : goal.returns
+returns c = let l = c.loop-i in let g = c.args in let k = c.further-n.ensures in let e : l.i ≡ g.h - further g.d = omega (arith, k, c.loop-i-test.false, l.invariant.0) in some_found (large_at binary64 g.s g.d g.q g.rows.now) e l.invariant.1

@@ -1,0 +1,18 @@
+-- `tier1::sums::squared_jolts` meets its contract: the loop adds one row a turn.
+use Prim.Native.Nat.{◌+◌, ◌≤◌, ◌-◌}
+use mathlib.Core.Path.{◌≡◌, refl}
+use native.Mathlib.Nat.{le_antisymm}
+use native.Mathlib.Omega.{arith}
+use lib.Ieee.{binary64, of_bits}
+use lib.ListN.{length}
+use Rattle.chunk.proofs.Rows.{row_fits}
+use Rattle.tier1.specs.Rule.{sum_rows, jolts}
+use Rattle.tier1.proofs.Rows.{row_long, rows_more}
+use borrow.Author.Rules.{rules}
+use Rattle.tier1.proofs.sums.squared_jolts.Given as goal
+
+abbrev pub invariant-loop-i : goal.invariant-loop-i
+invariant-loop-i l = (l.i ≤ l.n) × (l.s ≡ (sum_rows binary64 (jolts binary64 l.m l.b) l.m.dim l.i).value)
+
+abbrev pub decreases-loop-i : goal.decreases-loop-i
+decreases-loop-i l = l.n - l.i
