@@ -32,10 +32,6 @@ taken_in n a hn ha e j hj = ap (λ (l : List Float). at l j) (all_padded a hn ha
 pub returns-then-not-run : goal.returns-then-not-run
 returns-then-not-run c = (omega arith, λ t stand l k go h. along_rest t stand l k _ _ (not-true _ c.if-not-run.true) h c.args.count)
 
--- the plant's arrays are eight long
-long : (s : goal.Start) → (length s.args.run.plant.p ≡ 8) × (length s.args.run.plant.v ≡ 8)
-long s = (search rules, search rules)
-
 pub loop-s-init : goal.loop-s-init
 loop-s-init c =
     let s = c.args in record {
@@ -71,7 +67,7 @@ returns-then-not-room c =
           (wide_fails binary64 t stand l (k + i.s) i.moved s.args.run.plant s.args.n i.margin i.at i.slack s.args.g s.args.w s.args.a.now c.padded-aim.result
           (i.invariant.comes t stand l k go h)
           (legged_next binary64 _ t stand l k s.args.count i.s (first s.args.run.plant s.args.run.margin s.args.run.done) (running i.moved s.args.run.plant s.args.n i.margin i.at) s.args.slack.now i.slack h go (i.invariant.comes t stand l k go h) (omega arith))
-          s.requires.0 s.requires.3 i.invariant.places i.invariant.rates (long s).0 (long s).1 (taken_in s.args.n s.args.a.now s.requires.0 s.requires.1 c.padded-aim.ensures) c.substep-next.result c.substep-next.ensures c.slack_abreast-room.result c.slack_abreast-room.ensures (not-true _ c.if-not-room.true))
+          s.requires.0 s.requires.3 i.invariant.places i.invariant.rates (search rules) (search rules) (taken_in s.args.n s.args.a.now s.requires.0 s.requires.1 c.padded-aim.ensures) c.substep-next.result c.substep-next.ensures c.slack_abreast-room.result c.slack_abreast-room.ensures (not-true _ c.if-not-room.true))
           (s.args.count - i.s - 1)),
     )
 
@@ -105,7 +101,7 @@ loop-s-preserved c =
           (wide_advances binary64 t stand l (k + i.s) i.moved s.args.run.plant s.args.n i.margin i.at i.slack s.args.g s.args.w s.args.a.now c.padded-aim.result
           (i.invariant.comes t stand l k go h)
           (legged_next binary64 _ t stand l k s.args.count i.s (first s.args.run.plant s.args.run.margin s.args.run.done) (running i.moved s.args.run.plant s.args.n i.margin i.at) s.args.slack.now i.slack h go (i.invariant.comes t stand l k go h) (omega arith))
-          s.requires.0 s.requires.3 i.invariant.places i.invariant.rates (long s).0 (long s).1 (taken_in s.args.n s.args.a.now s.requires.0 s.requires.1 c.padded-aim.ensures) c.substep-next.result c.substep-next.ensures c.slack_abreast-room.result c.slack_abreast-room.ensures (not-false _ c.if-not-room.false) _ c.min-margin.ensures);
+          s.requires.0 s.requires.3 i.invariant.places i.invariant.rates (search rules) (search rules) (taken_in s.args.n s.args.a.now s.requires.0 s.requires.1 c.padded-aim.ensures) c.substep-next.result c.substep-next.ensures c.slack_abreast-room.result c.slack_abreast-room.ensures (not-false _ c.if-not-room.false) _ c.min-margin.ensures);
     }
 
 pub shape_of-slack : goal.shape_of-slack

@@ -41,7 +41,7 @@ loop-k-preserved c =
     let i = c.loop-k in
     let call = c.advance-next in record {
       turns = omega arith;
-      same = call.auto.1.1.1.1.1.0 ∙ i.invariant.same;
+      same = call.auto.slack ∙ i.invariant.same;
       written = omega (arith, call.ensures.0, i.invariant.written);
       comes = λ t stand l k go h.
           along_sum t stand l k _ _ i.k 1

@@ -16,36 +16,30 @@ use Rattle.rollout.specs.Of.{leg_of, leg_roomy}
 use Rattle.rollout.proofs.Room.{leg_room_of}
 use Rattle.rollout.proofs.towards.Goals as goal
 
-roomless : (c : goal.Then-not-roomy) → let s = c.args in leg_roomy s.n (length s.a.now) s.count (length s.slack.now) ≡ false
-unfolding leg_roomy every every_from
-roomless c = not-true _ c.if-not-roomy.true
-
 pub returns-then-not-roomy : goal.returns-then-not-roomy
-unfolding of_bits div
-returns-then-not-roomy c = rw (roomless c) (refl, refl)
-
-has_room : (c : goal.Else-not-roomy) → let s = c.args in leg_roomy s.n (length s.a.now) s.count (length s.slack.now) ≡ true
-unfolding leg_roomy every every_from
-has_room c = not-false _ c.if-not-roomy.false
+unfolding of_bits div leg_roomy every every_from
+returns-then-not-roomy c =
+    let s = c.args in
+    let roomless : leg_roomy s.n (length s.a.now) s.count (length s.slack.now) ≡ false = c.if-not-roomy.true in
+    rw roomless (record { value = refl; slack_after = refl })
 
 pub hold-requires : goal.hold-requires
-hold-requires c = let r = leg_room_of _ _ _ _ (has_room c) in (r.1, r.2, omega (arith, r.3), r.0)
-
-abbrev leg_for : goal.Start → Leg
-leg_for s = leg_of binary64 s.args.g s.args.w s.args.n s.args.a.now
-
-comes : (c : goal.After-hold) → let s = c in
-    CameAlong (leg binary64 (leg_for s) (state_of s.args.start) s.args.count) (reached binary64 (leg_for s) (state_of s.args.start)) s.args.slack.now s.args.count c.hold.result c.hold.new.1.1.1.1.1.1.0
-unfolding of_bits div reached
-comes c =
-    let s = c in
-    let q = leg binary64 (leg_for s) (state_of s.args.start) s.args.count in
-    let stand = reached binary64 (leg_for s) (state_of s.args.start) in
-    along_at q stand s.args.slack.now s.args.count c.hold.result c.hold.new.1.1.1.1.1.1.0 (0 + s.args.count) (zero-add s.args.count)
-    (c.hold.ensures.1 q stand s.args.slack.now 0 (λ _ j b. record { moves = refl; measures = refl }) (along_start q stand s.args.slack.now s.args.start refl))
+unfolding leg_roomy every every_from
+hold-requires c =
+    let s = c.args in
+    let r = leg_room_of s.n (length s.a.now) s.count (length s.slack.now) c.if-not-roomy.false in
+    (r.1, r.2, omega (arith, r.3), r.0)
 
 pub returns : goal.returns
+unfolding of_bits div leg_roomy every every_from reached
 returns c =
-    let s = c in
-    let r = comes c in
-    rw (has_room c) (run_is _ _ s.args.slack.now _ _ r, written_is _ _ s.args.slack.now _ _ r)
+    let s = c.args in
+    let v = leg_of binary64 s.g s.w s.n s.a.now in
+    let q = leg binary64 v (state_of s.start) s.count in
+    let stand = reached binary64 v (state_of s.start) in
+    let has_room : leg_roomy s.n (length s.a.now) s.count (length s.slack.now) ≡ true = c.if-not-roomy.false in
+    let comes : CameAlong q stand s.slack.now s.count c.hold.result c.hold.new.slack =
+        along_at q stand s.slack.now s.count c.hold.result c.hold.new.slack (0 + s.count) (zero-add s.count)
+        (c.hold.ensures.1 q stand s.slack.now 0 (λ _ j b. record { moves = refl; measures = refl }) (along_start q stand s.slack.now s.start refl))
+    in
+    rw has_room (record { value = run_is _ _ s.slack.now _ _ comes; slack_after = written_is _ _ s.slack.now _ _ comes })

@@ -12,10 +12,10 @@ pub returns-then-not-react-g : goal.returns-then-not-react-g
 unfolding of_bits div
 returns-then-not-react-g c =
     let s = c in
-    rw c.halted.ensures (omega arith, λ ticks rows g w. start_fails binary64 (task_of s.args.arm ticks s.args.w s.args.c s.args.start rows) s.args.slack.now s.args.start refl s.args.g g s.args.react w c.radius-r.result c.radius-r.ensures c.slack_r-gap.result c.slack_r-gap.ensures (not-true _ c.if-not-react-g.true))
+    rw c.halted.ensures (omega arith, λ ticks rows g w. start_fails binary64 (task_of s.args.arm ticks s.args.w s.args.c s.args.start rows) s.args.slack.now s.args.start refl s.args.g g s.args.react w c.radius-r.result c.radius-r.ensures c.slack_r-gap.result c.slack_r-gap.ensures c.if-not-react-g.true)
 
 pub returns : goal.returns
 unfolding of_bits div
 returns c =
     let s = c in
-    (omega arith, λ ticks rows g w. start_enters binary64 (task_of s.args.arm ticks s.args.w s.args.c s.args.start rows) s.args.slack.now s.args.start refl s.args.g g s.args.react w c.radius-r.result c.radius-r.ensures c.slack_r-gap.result c.slack_r-gap.ensures (not-false _ c.if-not-react-g.false) _ c.min-margin.ensures)
+    (omega arith, λ ticks rows g w. start_enters binary64 (task_of s.args.arm ticks s.args.w s.args.c s.args.start rows) s.args.slack.now s.args.start refl s.args.g g s.args.react w c.radius-r.result c.radius-r.ensures c.slack_r-gap.result c.slack_r-gap.ensures c.if-not-react-g.false _ c.min-margin.ensures)

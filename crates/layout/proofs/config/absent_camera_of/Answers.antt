@@ -1,0 +1,19 @@
+-- `layout::config::absent_camera_of` meets its contract: by cases on the code.
+use mathlib.Core.Path.{◌≡◌, refl}
+use Prim.Native.Nat.{ℕ, zero, suc}
+use Rattle.envelope.specs.declared.AbsentCamera.TheVariants as A
+use Rattle.layout.specs.Config.{absent_camera_of}
+use Rattle.layout.proofs.config.absent_camera_of.Goals as goal
+
+other : (k : ℕ) → (k ≡ 1 → ⊥) → A.Slow ≡ absent_camera_of k
+unfolding absent_camera_of
+other zero a = refl
+other (suc zero) a = absurd (a refl)
+other (suc (suc k)) a = refl
+
+pub returns-in-1 : goal.returns-in-1
+unfolding absent_camera_of
+returns-in-1 c = rw c.in-1.keys1
+
+pub returns-in_default : goal.returns-in_default
+returns-in_default c = other c.args.k c.in-1.rest.1

@@ -1,0 +1,8 @@
+-- `layout::config::walls_of` meets its contract: each part is what its own function gives.
+use Rattle.layout.specs.Config.{walls_of}
+use borrow.Author.Rules.{rules}
+use Rattle.layout.proofs.config.walls_of.Goals as goal
+
+pub returns : goal.returns
+unfolding walls_of
+returns c = rw (c.eight-hi.ensures, c.eight-lo.ensures)

@@ -1,0 +1,8 @@
+-- `layout::scores::scores_of` meets its contract: each part is what its own function gives.
+use Rattle.layout.specs.Scores.{scores_of}
+use borrow.Author.Rules.{rules}
+use Rattle.layout.proofs.scores.scores_of.Goals as goal
+
+pub returns : goal.returns
+unfolding scores_of
+returns c = rw (c.twelve-f.ensures, c.twelve-z.ensures, c.to_u32-valid.ensures, c.to_u32-fired.ensures)
