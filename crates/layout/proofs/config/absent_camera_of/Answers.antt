@@ -1,5 +1,6 @@
 -- `layout::config::absent_camera_of` meets its contract: by cases on the code.
 use mathlib.Core.Path.{◌≡◌, refl}
+use native.Mathlib.Omega.{arith}
 use Prim.Native.Nat.{ℕ, zero, suc}
 use Rattle.envelope.specs.declared.AbsentCamera.TheVariants as A
 use Rattle.layout.specs.Config.{absent_camera_of}
@@ -13,7 +14,7 @@ other (suc (suc k)) a = refl
 
 pub returns-in-1 : goal.returns-in-1
 unfolding absent_camera_of
-returns-in-1 c = rw c.in-1.keys1
+returns-in-1 c = rw c.in-1.is
 
 pub returns-in_default : goal.returns-in_default
-returns-in_default c = other c.args.k c.in-1.rest.1
+returns-in_default c = other c.args.k (λ e. omega arith)

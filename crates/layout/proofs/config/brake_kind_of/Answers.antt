@@ -1,5 +1,6 @@
 -- `layout::config::brake_kind_of` meets its contract: by cases on the code.
 use mathlib.Core.Path.{◌≡◌, refl}
+use native.Mathlib.Omega.{arith}
 use Prim.Native.Nat.{ℕ, zero, suc}
 use lib.Ieee.{Float}
 use Rattle.envelope.specs.declared.BrakeKind.TheVariants as B
@@ -16,19 +17,19 @@ other (suc (suc (suc (suc k)))) x y z a b c d = refl
 
 pub returns-in-0 : goal.returns-in-0
 unfolding brake_kind_of
-returns-in-0 c = rw c.in-0.keys1
+returns-in-0 c = rw c.in-0.is
 
 pub returns-in-1 : goal.returns-in-1
 unfolding brake_kind_of
-returns-in-1 c = rw c.in-0.keys2
+returns-in-1 c = rw c.in-1.is
 
 pub returns-in-2 : goal.returns-in-2
 unfolding brake_kind_of
-returns-in-2 c = rw c.in-0.keys3
+returns-in-2 c = rw c.in-2.is
 
 pub returns-in-3 : goal.returns-in-3
 unfolding brake_kind_of
-returns-in-3 c = rw c.in-0.keys4
+returns-in-3 c = rw c.in-3.is
 
 pub returns-in_default : goal.returns-in_default
-returns-in_default c = let s = c.args in let r = c.in-0.rest in other s.k s.k_p s.k_v s.dt r.0.0.0.1 r.0.0.1 r.0.1 r.1
+returns-in_default c = let s = c.args in other s.k s.k_p s.k_v s.dt (λ e. omega arith) (λ e. omega arith) (λ e. omega arith) (λ e. omega arith)

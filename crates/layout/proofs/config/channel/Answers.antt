@@ -15,7 +15,7 @@ beside-a-misfit : (own other : ℕ) → 255 < other → 255 ≡ channel_of own o
 beside-a-misfit own other h = rw (lt-leb other 255 h)
 
 pub returns-then-other-le255 : goal.returns-then-other-le255
-returns-then-other-le255 c = let s = c.args in beside-one-that-fits s.own_val s.other c.if-other-le255.true c.to_u8.ensures
+returns-then-other-le255 c = let s = c.args in beside-one-that-fits s.own s.other c.if-other-le255.true c.to_u8.ensures
 
 pub returns-else-other-le255 : goal.returns-else-other-le255
-returns-else-other-le255 c = let s = c.args in beside-a-misfit s.own_val s.other c.if-other-le255.false
+returns-else-other-le255 c = let s = c.args in beside-a-misfit s.own s.other c.if-other-le255.false

@@ -1,5 +1,6 @@
 -- `layout::config::clamp_of` meets its contract: by cases on the code.
 use mathlib.Core.Path.{◌≡◌, refl}
+use native.Mathlib.Omega.{arith}
 use Prim.Native.Nat.{ℕ, zero, suc}
 use Rattle.envelope.specs.declared.ClampMode.TheVariants as M
 use Rattle.layout.specs.Config.{clamp_of}
@@ -12,7 +13,7 @@ other (suc k) a = refl
 
 pub returns-in-0 : goal.returns-in-0
 unfolding clamp_of
-returns-in-0 c = rw c.in-0.keys1
+returns-in-0 c = rw c.in-0.is
 
 pub returns-in_default : goal.returns-in_default
-returns-in_default c = other c.args.k c.in-0.rest.1
+returns-in_default c = other c.args.k (λ e. omega arith)

@@ -1,5 +1,6 @@
 -- `layout::config::shape_of` meets its contract: by cases on the code.
 use mathlib.Core.Path.{◌≡◌, refl}
+use native.Mathlib.Omega.{arith}
 use Prim.Native.Nat.{ℕ, zero, suc}
 use lib.Ieee.{Float}
 use Rattle.workspace.specs.declared.Shape.TheVariants as S
@@ -14,7 +15,7 @@ other (suc (suc k)) x y radius a = refl
 
 pub returns-in-1 : goal.returns-in-1
 unfolding shape_of
-returns-in-1 c = rw c.in-1.keys1
+returns-in-1 c = rw c.in-1.is
 
 pub returns-in_default : goal.returns-in_default
-returns-in_default c = let s = c.args in other s.k s.x s.y s.radius c.in-1.rest.1
+returns-in_default c = let s = c.args in other s.k s.x s.y s.radius (λ e. omega arith)

@@ -1,0 +1,19 @@
+-- `brake::slowed` meets its contract, coordinate by coordinate.
+use Prim.Native.Nat.{◌-◌, ◌≤◌}
+use mathlib.Core.Path.{◌≡◌, refl}
+use native.Mathlib.Omega.{arith}
+use borrow.Author.Rules.{rules}
+use lib.ListN.{replicate}
+use lib.Ieee.{binary64, of_bits}
+use Rattle.checked.specs.Finite.{+0}
+use Rattle.checked.specs.Checked.{each}
+use Rattle.checked.proofs.Told.{each_value, each_sound}
+use Rattle.brake.specs.Rule.{scaled_at, slowed}
+use Rattle.brake.proofs.Told.{scaled_tells}
+use Rattle.brake.proofs.slowed.Given as goal
+
+abbrev pub invariant-loop-j : goal.invariant-loop-j
+invariant-loop-j l = (l.j ≤ l.n) × (l.at ≡ (each (scaled_at binary64 l.k l.vel) (replicate 8 +0) l.j).value) × (l.sound ≡ (each (scaled_at binary64 l.k l.vel) (replicate 8 +0) l.j).sound)
+
+abbrev pub decreases-loop-j : goal.decreases-loop-j
+decreases-loop-j l = l.n - l.j
