@@ -28,6 +28,14 @@ use Rattle.brake.specs.Of.{workspace_for, course_for, start_for, count_for}
 abbrev pub Other : BrakeKind → Type 0
 Other k = OneOf (1 ∷ 2 ∷ 3 ∷ 4 ∷ []) (tag_of kind.the_type k)
 
+-- not the second-order one
+pub other_of : (k : BrakeKind) → ((x y z : Float) → k ≡ PdSecondOrder x y z → ⊥) → Other k
+other_of (PdSecondOrder x y z) h = absurd (h x y z refl)
+other_of (FirstOrderDecay x y z) h = inl refl
+other_of (BoundedAccel x y z) h = inr (inl refl)
+other_of (JerkLimited x y z) h = inr (inr (inl refl))
+other_of (ZeroVelocityHold x y z) h = inr (inr (inr refl))
+
 no_tag : OneOf (1 ∷ 2 ∷ 3 ∷ 4 ∷ []) 0 → ⊥
 no_tag (inl e) = omega arith
 no_tag (inr (inl e)) = omega arith

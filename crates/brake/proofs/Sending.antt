@@ -49,6 +49,14 @@ use Rattle.brake.specs.Answer.{last_short, last_unfit, row_lent, sent_at, masks_
 abbrev pub Position : ActionKind → Type 0
 Position k = OneOf (0 ∷ 2 ∷ 4 ∷ []) (tag_of kind.the_type k)
 
+-- neither of the two velocity kinds
+pub position_of : (k : ActionKind) → (k ≡ JointVelocity → ⊥) → (k ≡ EeDelta → ⊥) → Position k
+position_of EePosition a b = inl refl
+position_of EeDelta a b = absurd (b refl)
+position_of JointPosition a b = inr (inl refl)
+position_of JointVelocity a b = absurd (a refl)
+position_of Other a b = inr (inr refl)
+
 -- what holds of each of the three holds of any
 pub by_position : (P : ActionKind → Type 0) → P EePosition → P JointPosition → P Other → (k : ActionKind) → Position k → P k
 by_position P a b c EePosition h = a

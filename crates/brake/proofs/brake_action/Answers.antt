@@ -52,10 +52,6 @@ returns-then-not-row c =
     let w = row_unsound binary64 g.c t (length g.last.now) g.out.now (either n.all_finite.ensures n.all_finite-2.ensures n.last_unfit.ensures) (brake_sent binary64 g.c g.pos.now g.vel.now g.last.now) (sent.Done (masks_sent binary64 g.c g.pos.now)) (brake_judged binary64 g.c g.pos.now g.vel.now g.last.now t (length g.out.now)) (sym (n.row_refusal-number.ensures _ (compiled_number n.compile-compiled.ensures)) ∙ e.if-number-ne0.false) (brake_is_sent binary64 g.c g.pos.now g.vel.now g.last.now walls r.brake_row-made.ensures r.sent_row-row.ensures) (not-true _ c.if-not-row.true) c.of-then-not-row.ensures in
     (w.gives, w.leaves)
 
--- the row has eight numbers
-long : (c : goal.After-put) → length c.sent_row-row.result.at ≡ 8
-long c = search rules
-
 pub returns : goal.returns
 unfolding brake_answer brake_output
 returns c =
@@ -66,5 +62,5 @@ returns c =
     let g = n.args in
     let t = tables g.center.now g.scale.now in
     let walls = e.workspace_of-w.ensures ∙ ap (workspace_from g.c.shape) (compiled_derived n.compile-compiled.ensures) in
-    let w = row_done binary64 g.c t (length g.last.now) g.out.now (either n.all_finite.ensures n.all_finite-2.ensures n.last_unfit.ensures) (brake_sent binary64 g.c g.pos.now g.vel.now g.last.now) (sent.Done (masks_sent binary64 g.c g.pos.now)) (brake_judged binary64 g.c g.pos.now g.vel.now g.last.now t (length g.out.now)) (sym (n.row_refusal-number.ensures _ (compiled_number n.compile-compiled.ensures)) ∙ e.if-number-ne0.false) (brake_is_sent binary64 g.c g.pos.now g.vel.now g.last.now walls r.brake_row-made.ensures r.sent_row-row.ensures) (not-false _ u.if-not-row.false) (long u) u.put.ensures (masks_are_sent binary64 g.c g.pos.now walls c.sent_masks.ensures) in
+    let w = row_done binary64 g.c t (length g.last.now) g.out.now (either n.all_finite.ensures n.all_finite-2.ensures n.last_unfit.ensures) (brake_sent binary64 g.c g.pos.now g.vel.now g.last.now) (sent.Done (masks_sent binary64 g.c g.pos.now)) (brake_judged binary64 g.c g.pos.now g.vel.now g.last.now t (length g.out.now)) (sym (n.row_refusal-number.ensures _ (compiled_number n.compile-compiled.ensures)) ∙ e.if-number-ne0.false) (brake_is_sent binary64 g.c g.pos.now g.vel.now g.last.now walls r.brake_row-made.ensures r.sent_row-row.ensures) (not-false _ u.if-not-row.false) (search rules) u.put.ensures (masks_are_sent binary64 g.c g.pos.now walls c.sent_masks.ensures) in
     (w.gives, w.leaves)

@@ -4,7 +4,7 @@ use lib.Ieee.{binary64}
 use Rattle.workspace.specs.Of.{walls_of}
 use Rattle.brake.specs.Rule.{brake_row}
 use Rattle.checked.specs.Of.{row_from}
-use Rattle.brake.proofs.Sending.{position_brakes}
+use Rattle.brake.proofs.Sending.{position_brakes, position_of}
 use borrow.Author.Rules.{rules}
 use Rattle.brake.proofs.brake_row.Goals as goal
 
@@ -20,4 +20,4 @@ pub returns-in_default : goal.returns-in_default
 returns-in_default c =
     let s = c.args in
     c.setpoint.ensures
-    ∙ sym (ap row_from (position_brakes (walls_of s.w) s.pos.now s.n binary64 s.a_max s.dt s.vel.now s.kind c.in-JointVelocity.keys3))
+    ∙ sym (ap row_from (position_brakes (walls_of s.w) s.pos.now s.n binary64 s.a_max s.dt s.vel.now s.kind (position_of c.args.kind c.in_default.not-JointVelocity c.in_default.not-EeDelta)))

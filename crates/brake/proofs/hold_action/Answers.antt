@@ -45,10 +45,6 @@ returns-then-not-held c =
     let w = row_unsound binary64 g.c t (length g.last.now) g.out.now (either n.all_finite.ensures n.last_unfit.ensures) (hold_sent binary64 g.c g.pos.now g.last.now) (sent.Done (masks_sent binary64 g.c g.pos.now)) (hold_judged binary64 g.c g.pos.now g.last.now t (length g.out.now)) (sym (n.row_refusal-number.ensures _ (compiled_number n.compile-compiled.ensures)) ∙ e.if-number-ne0.false) (hold_is_sent binary64 g.c g.pos.now g.last.now walls r.hold_row-made.ensures r.sent_row-held.ensures) (not-true _ c.if-not-held.true) c.of-then-not-held.ensures in
     (w.gives, w.leaves)
 
--- the row has eight numbers
-long : (c : goal.After-put) → length c.sent_row-held.result.at ≡ 8
-long c = search rules
-
 pub returns : goal.returns
 unfolding hold_answer hold_output
 returns c =
@@ -59,5 +55,5 @@ returns c =
     let g = n.args in
     let t = tables g.center.now g.scale.now in
     let walls = e.workspace_of-w.ensures ∙ ap (workspace_from g.c.shape) (compiled_derived n.compile-compiled.ensures) in
-    let w = row_done binary64 g.c t (length g.last.now) g.out.now (either n.all_finite.ensures n.last_unfit.ensures) (hold_sent binary64 g.c g.pos.now g.last.now) (sent.Done (masks_sent binary64 g.c g.pos.now)) (hold_judged binary64 g.c g.pos.now g.last.now t (length g.out.now)) (sym (n.row_refusal-number.ensures _ (compiled_number n.compile-compiled.ensures)) ∙ e.if-number-ne0.false) (hold_is_sent binary64 g.c g.pos.now g.last.now walls r.hold_row-made.ensures r.sent_row-held.ensures) (not-false _ u.if-not-held.false) (long u) u.put.ensures (masks_are_sent binary64 g.c g.pos.now walls c.sent_masks.ensures) in
+    let w = row_done binary64 g.c t (length g.last.now) g.out.now (either n.all_finite.ensures n.last_unfit.ensures) (hold_sent binary64 g.c g.pos.now g.last.now) (sent.Done (masks_sent binary64 g.c g.pos.now)) (hold_judged binary64 g.c g.pos.now g.last.now t (length g.out.now)) (sym (n.row_refusal-number.ensures _ (compiled_number n.compile-compiled.ensures)) ∙ e.if-number-ne0.false) (hold_is_sent binary64 g.c g.pos.now g.last.now walls r.hold_row-made.ensures r.sent_row-held.ensures) (not-false _ u.if-not-held.false) (search rules) u.put.ensures (masks_are_sent binary64 g.c g.pos.now walls c.sent_masks.ensures) in
     (w.gives, w.leaves)

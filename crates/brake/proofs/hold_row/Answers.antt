@@ -4,7 +4,7 @@ use lib.Ieee.{binary64, of_bits}
 use Rattle.checked.specs.Of.{row_from}
 use Rattle.workspace.specs.Of.{walls_of}
 use Rattle.brake.specs.Rule.{hold_row}
-use Rattle.brake.proofs.Sending.{position_holds}
+use Rattle.brake.proofs.Sending.{position_holds, position_of}
 use borrow.Author.Rules.{rules}
 use Rattle.brake.proofs.hold_row.Goals as goal
 
@@ -17,4 +17,4 @@ unfolding hold_row of_bits
 returns-in-EeDelta c = rw c.in-EeDelta.is
 
 pub returns-in_default : goal.returns-in_default
-returns-in_default c = let s = c.args in c.setpoint.ensures ∙ sym (ap row_from (position_holds (walls_of s.w) s.pos.now s.n binary64 s.kind c.in-JointVelocity.keys3))
+returns-in_default c = let s = c.args in c.setpoint.ensures ∙ sym (ap row_from (position_holds (walls_of s.w) s.pos.now s.n binary64 s.kind (position_of c.args.kind c.in_default.not-JointVelocity c.in_default.not-EeDelta)))

@@ -11,6 +11,6 @@ returns c =
     let law = c.law_of-law.ensures in
     let live = c.fewer-live.ensures in
     let start = c.start_of-start.ensures in (
-      run_is binary64 s.args.c s.args.setpoint.now s.args.pos.now s.args.vel.now s.args.n s.requires.0 law s.requires.1 live start run.0,
-      written_is binary64 s.args.c s.args.setpoint.now s.args.pos.now s.args.vel.now s.args.n s.requires.0 law s.requires.1 live start s.args.slack.now run.1,
+      run_is binary64 s.args.c s.args.setpoint.now s.args.pos.now s.args.vel.now s.args.n s.requires.0 law s.requires.1 live start run.value,
+      written_is binary64 s.args.c s.args.setpoint.now s.args.pos.now s.args.vel.now s.args.n s.requires.0 law s.requires.1 live start s.args.slack.now run.slack_after,
     )

@@ -21,20 +21,12 @@ returns-then-number-ne0 c =
     let w = refused binary64 g.c (tables g.center.now g.scale.now) g.setpoint.now g.pos.now g.vel.now g.n g.slack.now (r.run_refusal-number.ensures _ (compiled_number r.compile-compiled.ensures)) c.if-number-ne0.true c.of.ensures in
     (w.gives, w.slacks, w.position, w.velocity)
 
--- ---- where nothing is refused yet
-
-passed : (c : goal.Else-number-ne0) → let g = c.args in refusal (before binary64 g.c (tables g.center.now g.scale.now) g.setpoint.now g.pos.now g.vel.now g.n (length g.slack.now)) ≡ 0
-passed c = let r = c in sym (r.run_refusal-number.ensures _ (compiled_number r.compile-compiled.ensures)) ∙ c.if-number-ne0.false
-
-lent : (c : goal.Else-number-ne0) → let g = c.args in Lends g.c (length g.setpoint.now) (length g.pos.now) (length g.vel.now) g.n (length g.slack.now)
-lent c = let g = c.args in lends binary64 g.c (tables g.center.now g.scale.now) g.setpoint.now g.pos.now g.vel.now g.n (length g.slack.now) (passed c)
-
 pub run_of-run-requires : goal.run_of-run-requires
 run_of-run-requires c =
     let e = c in
     let r = e in
     let g = r.args in
-    (lent e, c.workspace_of-w.ensures ∙ ap (workspace_from g.c.shape) (compiled_derived r.compile-compiled.ensures))
+    ((lends binary64 c.args.c (tables c.args.center.now c.args.scale.now) c.args.setpoint.now c.args.pos.now c.args.vel.now c.args.n (length c.args.slack.now) (sym (c.run_refusal-number.ensures _ (compiled_number c.compile-compiled.ensures)) ∙ c.if-number-ne0.false)), c.workspace_of-w.ensures ∙ ap (workspace_from g.c.shape) (compiled_derived r.compile-compiled.ensures))
 
 pub overflow_add-result : goal.overflow_add-result
 overflow_add-result c =
@@ -42,7 +34,7 @@ overflow_add-result c =
     let e = q in
     let s = e in
     let g = s.args in
-    let within : q.run_of-run.result.done ≤ length g.slack.now = omega (arith, (lent e).space, done-within binary64 g.c (tables g.center.now g.scale.now) g.setpoint.now g.pos.now g.vel.now g.n g.slack.now (passed e) q.run_of-run.ensures.0) in
+    let within : q.run_of-run.result.done ≤ length g.slack.now = omega (arith, (lends binary64 c.args.c (tables c.args.center.now c.args.scale.now) c.args.setpoint.now c.args.pos.now c.args.vel.now c.args.n (length c.args.slack.now) (sym (c.run_refusal-number.ensures _ (compiled_number c.compile-compiled.ensures)) ∙ c.if-number-ne0.false)).space, done-within binary64 g.c (tables g.center.now g.scale.now) g.setpoint.now g.pos.now g.vel.now g.n g.slack.now (sym (c.run_refusal-number.ensures _ (compiled_number c.compile-compiled.ensures)) ∙ c.if-number-ne0.false) q.run_of-run.ensures.0) in
     search (rules, within, s.well_formed.1.1.1.1.1.1.1.0)
 
 pub returns-then-not-run : goal.returns-then-not-run
@@ -50,14 +42,12 @@ returns-then-not-run c =
     let q = c in
     let e = q in
     let g = e.args in
-    let w = failed binary64 g.c (tables g.center.now g.scale.now) g.setpoint.now g.pos.now g.vel.now g.n g.slack.now (passed e) q.run_of-run.ensures.0 q.run_of-run.ensures.1 (not-true _ c.if-not-run.true) in
+    let w = failed binary64 g.c (tables g.center.now g.scale.now) g.setpoint.now g.pos.now g.vel.now g.n g.slack.now (sym (c.run_refusal-number.ensures _ (compiled_number c.compile-compiled.ensures)) ∙ c.if-number-ne0.false) q.run_of-run.ensures.0 q.run_of-run.ensures.1 (not-true _ c.if-not-run.true) in
     (w.gives, w.slacks, w.position, w.velocity)
-
--- ---- where the run is sound
 
 pub put_plant-requires : goal.put_plant-requires
 put_plant-requires c =
-    let fits = lent c in
+    let fits = (lends binary64 c.args.c (tables c.args.center.now c.args.scale.now) c.args.setpoint.now c.args.pos.now c.args.vel.now c.args.n (length c.args.slack.now) (sym (c.run_refusal-number.ensures _ (compiled_number c.compile-compiled.ensures)) ∙ c.if-number-ne0.false)) in
     let live = c.fewer-live.ensures in
     (omega (arith, live, fits.narrow), omega (arith, live, fits.places), omega (arith, live, fits.rates))
 
@@ -69,7 +59,7 @@ returns c =
     let live = c.fewer-live.ensures in
     let put = c.put_plant.ensures in
     let end = q.run_of-run.result.plant in
-    let w = ran-through binary64 g.c (tables g.center.now g.scale.now) g.setpoint.now g.pos.now g.vel.now g.n g.slack.now (passed e) q.run_of-run.ensures.0 q.run_of-run.ensures.1 (not-false _ c.if-not-run.false)
+    let w = ran-through binary64 g.c (tables g.center.now g.scale.now) g.setpoint.now g.pos.now g.vel.now g.n g.slack.now (sym (c.run_refusal-number.ensures _ (compiled_number c.compile-compiled.ensures)) ∙ c.if-number-ne0.false) q.run_of-run.ensures.0 q.run_of-run.ensures.1 (not-false _ c.if-not-run.false)
     (put.0 ∙ ap (over (at end.p) g.pos.now) live)
     (put.1 ∙ ap (over (at end.v) g.vel.now) live) in
     (w.gives, w.slacks, w.position, w.velocity)

@@ -18,13 +18,13 @@ use Rattle.brake.proofs.Gripped.{writes_last, last_past, row_elsewhere, row_with
 use Rattle.brake.proofs.sent_row.Goals as goal
 
 -- in the mode, and of a position kind
-writes : (g : Gripper) (k : ActionKind) {a b : Bool} → a ≡ takes_last g → b ≡ is_position k → (not (a && b) ≡ false) → writes_last g k ≡ true
-writes g k p q e = sym (p &&≡ q) ∙ not-false _ e
+writes : (g : Gripper) (k : ActionKind) {a b : Bool} → a ≡ takes_last g → b ≡ is_position k → (a && b ≡ true) → writes_last g k ≡ true
+writes g k p q e = sym (p &&≡ q) ∙ e
 
 pub returns-then-not-keeps : goal.returns-then-not-keeps
 returns-then-not-keeps c =
     let s = c.args in
-    let elsewhere : writes_last s.gripper s.kind ≡ false = sym (c.takes_last.ensures &&≡ c.is_position.ensures) ∙ not-true _ c.if-not-keeps.true in
+    let elsewhere : writes_last s.gripper s.kind ≡ false = sym (c.takes_last.ensures &&≡ c.is_position.ensures) ∙ c.if-not-keeps.true in
     ap (λ (l : List Float). let r : Row = record { at = l; sound = s.row.sound } in r) (sym (row_elsewhere s.gripper s.kind s.pos_dim s.last.now s.row.at elsewhere s.n))
 
 pub loop-j-init : goal.loop-j-init
