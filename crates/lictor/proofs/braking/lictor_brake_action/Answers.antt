@@ -1,0 +1,18 @@
+-- `lictor::braking::lictor_brake_action` meets its contract: it hands on the answer of its entry, where the counts fit.
+use mathlib.Core.Bool.{not}
+use mathlib.Core.Path.{ap}
+use borrow.Author.Tests.{not-true, not-false}
+use Rattle.conformal.specs.Of.{tables}
+use Rattle.lictor.proofs.Alike.{sent_misfit, sent_fits, brake_alike}
+use borrow.Author.Rules.{rules}
+use Rattle.lictor.proofs.braking.lictor_brake_action.Goals as goal
+
+pub returns-then-not-fits : goal.returns-then-not-fits
+returns-then-not-fits c = sent_misfit (not-true _ (ap not c.if-not-fits.true)) c.counts_fit-fits.ensures
+
+pub returns : goal.returns
+returns c =
+    let s = c.args in
+    sent_fits (not-false _ (ap not c.if-not-fits.false)) c.counts_fit-fits.ensures
+    (brake_alike (tables s.center.now s.scale.now) s.pos.now s.vel.now s.last.now s.out.now c.brake_action-a.ensures c.config_of-c.ensures)
+    c.put_sent.ensures

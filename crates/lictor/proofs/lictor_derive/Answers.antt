@@ -1,0 +1,13 @@
+-- `lictor::lictor_derive` meets its contract: it hands on the answer of its entry.
+use Rattle.lictor.proofs.Alike.{derived_alike, fitting_alike, compile_alike}
+use borrow.Author.Rules.{rules}
+use Rattle.conformal.specs.Of.{tables}
+use Rattle.envelope.proofs.Accepted.{compiled_number, compiled_derived}
+use Rattle.lictor.proofs.lictor_derive.Goals as goal
+
+pub returns : goal.returns
+returns c =
+    let k = c in
+    let s = k.args in
+    let e = compile_alike (tables s.center.now s.scale.now) k.compile-compiled.ensures k.config_of-c.ensures in
+    derived_alike (fitting_alike c.fitting-number.ensures k.counts_fit-fits.ensures (compiled_number e)) (compiled_derived e) c.put_derived.ensures

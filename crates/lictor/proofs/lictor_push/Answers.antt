@@ -1,0 +1,6 @@
+-- `lictor::lictor_push` meets its contract: its entry gives what the rule says.
+use borrow.Author.Rules.{rules}
+use Rattle.lictor.proofs.lictor_push.Goals as goal
+
+pub returns : goal.returns
+returns c = rw c.pushed-next.ensures

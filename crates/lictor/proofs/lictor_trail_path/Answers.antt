@@ -1,0 +1,7 @@
+-- `lictor::lictor_trail_path` meets its contract: it hands on the answer of its entry.
+use Rattle.lictor.proofs.Alike.{number_alike, path_alike}
+use borrow.Author.Rules.{rules}
+use Rattle.lictor.proofs.lictor_trail_path.Goals as goal
+
+pub returns : goal.returns
+returns c = let s = c.args in number_alike (path_alike s.d s.w c.path-found.ensures c.trail_of-t.ensures) c.put_number.ensures
