@@ -35,6 +35,14 @@ goes t room h =
     let p = three t.wrote (eqb t.filled.n room) (not (eqb t.answer.next 0)) h in
     (eqb-true t.filled.n room p.0, eqb-false t.answer.next 0 (not-true _ p.1))
 
+pub goes_wrote : (t : Block) (room : ℕ) → goes_on t room ≡ true → t.wrote ≡ true
+unfolding goes_on
+goes_wrote t room h = first t.wrote (eqb t.filled.n room) (not (eqb t.answer.next 0)) h
+  where
+    first : (a b c : Bool) → (a && b && c) ≡ true → a ≡ true
+    first true b c e = refl
+    first false b c e = let z : ◌≡◌ {A = ℕ} 0 1 = cc in absurd (omega arith)
+
 -- a bound on the blocks to come
 abbrev pub left : Block → ℕ
 left t = cond (goes_on t 65472) (suc (18446744073709551615 - t.answer.next)) 0

@@ -5,7 +5,7 @@ use mathlib.Core.List.{List, [], ◌∷◌}
 use Prim.Native.Nat.{ℕ, ◌+◌, ◌-◌, ◌%◌, ◌≤◌, ◌<◌}
 use native.Mathlib.Nat.{le_refl}
 use native.Mathlib.Omega.{arith}
-use borrow.Author.Tests.{le-ltb, ltb-true, ltb-false}
+use borrow.Author.Tests.{lt-ltb, le-ltb, ltb-true, ltb-false}
 use borrow.Rule.Slice.PartMut.{mid_of, mid_len}
 use lib.Dec.{T, ltb}
 use lib.IntN.{ℤ, pos, negsuc, nat_abs}
@@ -13,9 +13,9 @@ use lib.ListN.{length}
 use lib.Signed.{lt_z, non_neg}
 use mir.Syntax.{w64}
 use mir.Val.{Fits, SFits}
-use Rattle.libc.specs.Io.{Moved}
+use Rattle.std.specs.Prelude.{Result, Ok, Err, IfOk}
 use Rattle.input.specs.declared.Filled.{Filled}
-use Rattle.input.specs.Reads.{failed, given, after, reads_on, after_all, Told, answered}
+use Rattle.input.specs.Reads.{answer, failed, given, after, reads_on, after_all, Told, answered}
 
 -- ---- by the sign
 
@@ -44,18 +44,27 @@ read_is n got e f = rw (e, f)
 
 -- ---- by how much is given
 
-pub moved_most : (z : ℤ) (n : ℕ) → Moved n z → given z ≤ n
-unfolding given
-moved_most (pos k) n h = h
-moved_most (negsuc k) n h = omega arith
+pub answer_given : {E : Type 0} (r : Result ℕ E) (n : ℕ) → IfOk r (λ k. k ≤ n) → given (answer r) ≤ n
+unfolding answer given
+answer_given (Ok k) n h = h
+answer_given (Err e) n h = omega arith
 
--- a read into what lies behind n bytes
-pub behind : (z : ℤ) (n : ℕ) (l : List ℕ) → n ≤ length l → Moved (length (mid_of n (length l - n) l)) z → n + given z ≤ length l
-behind z n l h m = omega (arith, moved_most z (length (mid_of n (length l - n) l)) m, mid_len n (length l) l (le_refl (length l)))
+pub answer_fits : {E : Type 0} (r : Result ℕ E) → IfOk r (λ k. k < 9223372036854775808) → SFits w64 (answer r)
+unfolding answer
+answer_fits (Ok k) h = record { sfits = h }
+answer_fits (Err e) h = record { sfits = omega arith }
+
+-- what lies behind n bytes has room for the rest
+pub room : (n : ℕ) (l ys : List ℕ) → n ≤ length l → length ys ≡ length (mid_of n (length l - n) l) → n + length ys ≡ length l
+room n l ys h e = omega (arith, h, e, mid_len n (length l) l (le_refl (length l)))
 
 pub fills : (n room : ℕ) (got : ℤ) {f : Filled} → f ≡ after n got → n + given got ≤ room → f.n ≤ room
 unfolding after
 fills n room got e h = rw e h
+
+pub grows : (n : ℕ) (got : ℤ) {f : Filled} → f ≡ after n got → n ≤ f.n
+unfolding after
+grows n got e = rw e (omega arith)
 
 -- how many reads there are at most: one for each byte that is missing, and one that gives nothing
 abbrev pub left : Filled → ℕ → ℕ
@@ -68,6 +77,10 @@ both false b h = let z : ◌≡◌ {A = ℕ} 0 1 = cc in absurd (omega arith)
 pub has_room : (f : Filled) (room : ℕ) → reads_on f room ≡ true → (f.n < room) × (ltb 0 f.more ≡ true)
 unfolding reads_on
 has_room f room h = let p = both (ltb f.n room) (ltb 0 f.more) h in (ltb-true f.n room p.0, p.1)
+
+pub spent : (f : Filled) (room : ℕ) → reads_on f room ≡ false → f.n < room → f.more ≡ 0
+unfolding reads_on
+spent f room h k = omega (arith, ltb-false 0 f.more (rw (lt-ltb f.n room k) at h))
 
 -- the same read, with what it gave above 0 or not
 nearer : (b : Bool) (n more room : ℕ) → ltb 0 more ≡ b → n < room → n + more ≤ room → room - (n + more) + cond b 1 0 < room - n + 1

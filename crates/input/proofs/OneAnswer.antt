@@ -1,5 +1,9 @@
--- Each public function has one answer: `answered` for each input, and `fill` for each input and what the system answered to its reads.
+-- Each public function has one answer: `answered` for each input, and `fill` for each reader, each input and what the system answered to its reads.
 use mathlib.Core.Path.{◌≡◌, sym, ap, ◌∙◌}
+use denote.RattleType.{RattleType}
+use denote.Param.Laws.{Laws}
+use mir.Syntax.{Dict}
+use Rattle.std.specs.declared.io.traits.Read.{Ghosts}
 use Rattle.input.specs.Reads.{after_all}
 use Rattle.input.proofs.answered.Reads as answered
 use Rattle.input.proofs.fill.Reads as fill
@@ -15,5 +19,5 @@ OneTold {L} {A} {R} {E} Post told = (l : L) (a : A) (r s : R) (x y : E) (p : Pos
 pub one_answered : One answered.Post
 one_answered l a r s x y p q = p ∙ sym q
 
-pub one_fill : OneTold fill.Post (λ l a r x p. p.told.answers)
-one_fill l a r s x y p q e = p.told.is ∙ ap after_all e ∙ sym q.told.is
+pub one_fill : (T : RattleType) (L : Laws T) (G : Ghosts T.Denot) (d : Dict) → OneTold (fill.Post T L G d) (λ l a r x p. p.0.told.answers)
+one_fill T L G d l a r s x y p q e = p.0.told.is ∙ ap after_all e ∙ sym q.0.told.is

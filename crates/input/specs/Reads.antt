@@ -1,8 +1,13 @@
 -- What the contracts of `input` cite: what the answers of reads decide.
-use Rattle.std.specs.Prelude.{◌≡◌, Bool, true, false, cond, ◌&&◌, List, [], ◌∷◌, ℕ, ◌+◌, ◌-◌, ◌%◌, ◌≤◌, ltb, ℤ, pos, negsuc, length, take}
+use Rattle.std.specs.Prelude.{◌≡◌, Bool, true, false, cond, ◌&&◌, List, [], ◌∷◌, ℕ, ◌+◌, ◌-◌, ◌%◌, ◌≤◌, ◌<◌, ltb, ℤ, pos, negsuc, length, take, Option, Result, Ok, Err}
+use Rattle.std.specs.Io.KnownBytes.{IsAtEnd}
 use Rattle.input.specs.declared.Filled.{Filled}
 
--- a read's answer is -1 where it failed, else how many bytes it gave, 0 at the end of the input
+-- what a read answered, as one number: -1 where it failed, else how many bytes it gave, 0 at the end of the input
+unfoldable pub answer : {E : Type 0} → Result ℕ E → ℤ
+answer (Ok n) = pos n
+answer (Err e) = negsuc 0
+
 unfoldable pub failed : ℤ → Bool
 failed (pos k) = false
 failed (negsuc k) = true
@@ -42,6 +47,14 @@ pub record Fills (room : ℕ) (f : Filled) : Type 0 where
   pub told : Told f
   pub fits : f.n ≤ room
   pub ends : reads_on f room ≡ false
+
+-- a read that gave nothing and did not fail leaves a reader of known bytes at its end
+abbrev pub HasEnded : Filled → Option (List ℕ) → Type 0
+HasEnded f known = f.failed ≡ false → f.more ≡ 0 → IsAtEnd known
+
+-- a block that is not full, where no read failed, leaves a reader of known bytes at its end
+abbrev pub EndsShort : ℕ → Filled → Option (List ℕ) → Type 0
+EndsShort room f known = f.failed ≡ false → f.n < room → IsAtEnd known
 
 -- how many of a block's bytes are answered: all or, where a read failed, its whole records of so many bytes, since the input has not ended
 unfoldable pub answered : Filled → ℕ → ℕ

@@ -1,12 +1,14 @@
-// Blocks read from standard input.
+// Blocks read from a reader, as standard input is one.
 //
-// No contract can speak of what a read gives. The answers of the reads are kept as they came, and every contract says what follows from them.
+// What the system gives to a read no contract can say. The answers of the reads are kept as they came, and every contract says what follows from
+// them. Of a reader whose bytes are known, as one over memory, the contracts say besides that these bytes stand in the block, in order.
 #![tactic(auto)]
 
-ghost use Rattle.std.specs.Prelude.{◌≡◌, ◌+◌, ◌^◌, ◌≤◌, ◌<◌, length};
-ghost use Rattle.input.specs.Reads.{given, after, Read, reads_on, Fills, answered};
+ghost use Rattle.std.specs.Prelude.{◌≡◌, ◌+◌, ◌^◌, ◌≤◌, ◌<◌, length, take, drop, IfOk};
+ghost use Rattle.std.specs.Io.KnownBytes.{Consumes};
+ghost use Rattle.input.specs.Reads.{answer, given, after, Read, reads_on, Fills, HasEnded, EndsShort, answered};
 
-use libc::STDIN_FILENO;
+use std::io;
 
 // How many bytes a block holds, how many of them the last read gave, and whether it failed.
 #[derive(Clone, Copy)]
@@ -14,6 +16,17 @@ pub struct Filled {
     pub n: usize,
     pub more: usize,
     pub failed: bool,
+}
+
+// A read's answer as one number: how many bytes it gave, or -1 where it failed.
+fn answer(got: io::Result<usize>) -> isize
+    requires { IfOk got (λ n. n < 2 ^ 63) }
+    ensures { result ≡ answer got }
+{
+    match got {
+        Ok(n) => n as isize,
+        Err(_) => -1,
+    }
 }
 
 // How many bytes a read gave.
@@ -37,11 +50,13 @@ fn after(n: usize, got: isize) -> Filled
 }
 
 // Reads once, behind the n bytes that the block holds.
-fn read(buf: &mut [u8], n: usize) -> Filled
+fn read<R: io::Read>(from: &mut R, buf: &mut [u8], n: usize) -> Filled
     requires { n ≤ length buf.old }
-    ensures { Read n buf.old buf.new result }
+    ensures read { Read n buf.old buf.new result }
+    ensures bytes { Consumes (R.remaining from.old) (R.remaining from.new) (drop n (take result.n buf.new)) }
+    ensures end { n < length buf.old → HasEnded result (R.remaining from.new) }
 {
-    let got = libc::read(STDIN_FILENO, &mut buf[n..]);
+    let got = answer(from.read(&mut buf[n..]));
     after(n, got)
 }
 
@@ -53,8 +68,10 @@ fn reads_on(f: Filled, room: usize) -> bool
 }
 
 // Reads until the block is full, the input ends or a read fails.
-pub fn fill(buf: &mut [u8]) -> Filled
-    ensures { Fills (length buf.new) result }
+pub fn fill<R: io::Read>(from: &mut R, buf: &mut [u8]) -> Filled
+    ensures fills { Fills (length buf.new) result }
+    ensures bytes { Consumes (R.remaining from.old) (R.remaining from.new) (take result.n buf.new) }
+    ensures end { EndsShort (length buf.new) result (R.remaining from.new) }
 {
     let mut f = Filled {
         n: 0,
@@ -62,7 +79,7 @@ pub fn fill(buf: &mut [u8]) -> Filled
         failed: false,
     };
     while reads_on(f, buf.len()) {
-        f = read(buf, f.n);
+        f = read(from, buf, f.n);
     }
     f
 }

@@ -3,7 +3,6 @@
 
 use card::Card;
 use conformal::TimeBin;
-use libc::STDOUT_FILENO;
 
 // The bin of tick t on a horizon of 200, or 16 where there is none.
 fn bin_of(t: u32) -> u64 {
@@ -40,17 +39,15 @@ fn number_of(brake_steps: u16) -> u64 {
 }
 
 // One line: what is asked, and the number.
-fn line(asked: &[u8], number: u64) {
-    io::write_all(STDOUT_FILENO, asked);
-    io::print_decimal(STDOUT_FILENO, number);
-    io::write_all(STDOUT_FILENO, b"\n");
+fn line(to: &impl Print, asked: &str, number: u64) {
+    let _ = println!(to; "{asked}{number}");
 }
 
-fn main() {
-    line(b"horizon_ticks 200, t 12: bin ", bin_of(12));
-    line(b"horizon_ticks 200, t 13: bin ", bin_of(13));
-    line(b"horizon_ticks 200, t 14: bin ", bin_of(14));
-    line(b"horizon_ticks 200, t 200: bin ", bin_of(200));
-    line(b"commit 64, brake_steps 0, substeps 64: ", number_of(0));
-    line(b"commit 64, brake_steps 1, substeps 64: ", number_of(1));
+fn main(rt: HostRuntime) {
+    line(&rt, "horizon_ticks 200, t 12: bin ", bin_of(12));
+    line(&rt, "horizon_ticks 200, t 13: bin ", bin_of(13));
+    line(&rt, "horizon_ticks 200, t 14: bin ", bin_of(14));
+    line(&rt, "horizon_ticks 200, t 200: bin ", bin_of(200));
+    line(&rt, "commit 64, brake_steps 0, substeps 64: ", number_of(0));
+    line(&rt, "commit 64, brake_steps 1, substeps 64: ", number_of(1));
 }

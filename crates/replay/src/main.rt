@@ -3,7 +3,7 @@
 // It is a test: what it says is seen in its runs (tools/test-replay), and only that it ends and stays in bounds is proved.
 #![tactic(auto)]
 
-ghost use Rattle.std.specs.Prelude.{◌≤◌};
+ghost use Rattle.std.specs.Prelude.{◌≡◌, ◌≤◌, length};
 
 use crate::arithmetic::{dist_agrees, norm_agrees, sqrt_agrees, time_bin_agrees};
 use crate::checks::{check_action_agrees, check_chunk_agrees};
@@ -12,8 +12,7 @@ use crate::features::features_agree;
 use crate::gate::gate_agrees;
 use crate::record::{Numbers, Record, Words, record_of};
 use crate::stops::{forecast_agrees, rows_agree};
-use libc::{STDERR_FILENO, STDOUT_FILENO};
-use std::num::wrapping_add_u64;
+use std::io;
 
 mod arithmetic;
 mod checks;
@@ -110,9 +109,9 @@ fn start() -> Tally {
 // The tally after one more record.
 fn told(t: Tally, ok: bool) -> Tally {
     let mut u = t;
-    u.seen = wrapping_add_u64(t.seen, 1);
+    u.seen = t.seen.wrapping_add(1);
     if ok {
-        u.agreed = wrapping_add_u64(t.agreed, 1);
+        u.agreed = t.agreed.wrapping_add(1);
     } else if t.first == 0 {
         u.first = u.seen;
     }
@@ -134,13 +133,20 @@ fn cut(t: Tally, failed: bool) -> Tally {
     u
 }
 
+// Room for the longest record, and zeros behind a shorter one.
+fn record_buffer() -> [u8; 4096]
+    ensures { 4096 ≡ length result }
+{
+    [0; 4096]
+}
+
 // What the next n words of the input stand for.
-fn next_record(n: usize) -> Next
+fn next_record<R: io::Read>(from: &mut R, n: usize) -> Next
     requires { n ≤ 358 }
 {
     let size = 8 * n;
-    let mut space = io::buffer();
-    let f = input::fill(&mut space[..size]);
+    let mut space = record_buffer();
+    let f = input::fill(from, &mut space[..size]);
     let record = record_of(&space);
     Next {
         record,
@@ -150,12 +156,12 @@ fn next_record(n: usize) -> Next
 }
 
 // Replays so many records of an entry, as far as the input has them.
-fn replay(entry: Entry, count: u64) -> Tally {
+fn replay<R: io::Read>(from: &mut R, entry: Entry, count: u64) -> Tally {
     let n = words_of(entry);
     let mut t = start();
     let mut k = 0;
     while k < count {
-        let next = next_record(n);
+        let next = next_record(from, n);
         if !next.whole {
             return cut(t, next.failed);
         }
@@ -166,20 +172,20 @@ fn replay(entry: Entry, count: u64) -> Tally {
 }
 
 // Replays an entry, which begins with the number of its records.
-fn replay_entry(entry: Entry) -> Tally {
-    let head = next_record(1);
+fn replay_entry<R: io::Read>(from: &mut R, entry: Entry) -> Tally {
+    let head = next_record(from, 1);
     if !head.whole {
         return cut(start(), head.failed);
     }
     let first = head.record;
-    replay(entry, first.words[0])
+    replay(from, entry, first.words[0])
 }
 
 // One entry more, whose line was written or not. No record is named: each entry numbers its own. A sum wraps past 2^64 records, more than can be read.
 fn joined(a: Tally, b: Tally, wrote: bool) -> Tally {
     Tally {
-        seen: wrapping_add_u64(a.seen, b.seen),
-        agreed: wrapping_add_u64(a.agreed, b.agreed),
+        seen: a.seen.wrapping_add(b.seen),
+        agreed: a.agreed.wrapping_add(b.agreed),
         first: 0,
         ended: a.ended | b.ended,
         failed: a.failed | b.failed,
@@ -187,84 +193,87 @@ fn joined(a: Tally, b: Tally, wrote: bool) -> Tally {
     }
 }
 
-fn put(text: &[u8]) -> bool {
-    io::write_all(STDOUT_FILENO, text)
+fn put(to: &impl Print, text: &str) -> bool {
+    to.print(text).is_ok()
 }
 
-fn put_number(n: u64) -> bool {
-    io::print_decimal(STDOUT_FILENO, n)
+fn put_number(to: &impl Print, n: u64) -> bool {
+    to.print(n).is_ok()
 }
 
-fn put_counts(name: &[u8], t: Tally) -> bool {
-    put(name)
-        & put(b": ")
-        & put_number(t.seen)
-        & put(b" replayed, ")
-        & put_number(t.agreed)
-        & put(b" agree")
+fn put_counts(to: &impl Print, name: &str, t: Tally) -> bool {
+    put(to, name)
+        & put(to, ": ")
+        & put_number(to, t.seen)
+        & put(to, " replayed, ")
+        & put_number(to, t.agreed)
+        & put(to, " agree")
 }
 
-fn put_first(t: Tally) -> bool {
+fn put_first(to: &impl Print, t: Tally) -> bool {
     if t.first == 0 {
         return true;
     }
-    put(b", the first difference in record ") & put_number(t.first)
+    put(to, ", the first difference in record ") & put_number(to, t.first)
 }
 
-fn put_input(t: Tally) -> bool {
+fn put_input(to: &impl Print, t: Tally) -> bool {
     if t.failed {
-        return put(b", a read failed");
+        return put(to, ", a read failed");
     }
     if t.ended {
-        return put(b", the input ended");
+        return put(to, ", the input ended");
     }
     true
 }
 
 // The line of an entry; whether it was written.
-fn say(name: &[u8], t: Tally) -> bool {
-    put_counts(name, t) & put_first(t) & put_input(t) & put(b"\n")
+fn say(to: &impl Print, name: &str, t: Tally) -> bool {
+    put_counts(to, name, t) & put_first(to, t) & put_input(to, t) & put(to, "\n")
 }
 
 // Replays an entry, says its line, and gives the tally of all entries so far.
-fn add(name: &[u8], entry: Entry, all: Tally) -> Tally {
-    let t = replay_entry(entry);
-    let wrote = say(name, t);
+fn add<R: io::Read>(from: &mut R, to: &impl Print, name: &str, entry: Entry, all: Tally) -> Tally {
+    let t = replay_entry(from, entry);
+    let wrote = say(to, name, t);
     joined(all, t, wrote)
 }
 
 // The entries, in the order that tests/oracle-sample/README.md gives.
-fn add_helpers(all: Tally) -> Tally {
-    let a = add(b"sqrt", Entry::Sqrt, all);
-    let b = add(b"norm", Entry::Norm, a);
-    let c = add(b"dist", Entry::Dist, b);
-    add(b"time_bin", Entry::TimeBin, c)
+fn add_helpers<R: io::Read>(from: &mut R, to: &impl Print, all: Tally) -> Tally {
+    let a = add(from, to, "sqrt", Entry::Sqrt, all);
+    let b = add(from, to, "norm", Entry::Norm, a);
+    let c = add(from, to, "dist", Entry::Dist, b);
+    add(from, to, "time_bin", Entry::TimeBin, c)
 }
 
-fn add_checks(all: Tally) -> Tally {
-    let a = add(b"standardise, aggregate, trip", Entry::Gate, all);
-    let b = add(b"derive", Entry::Derive, a);
-    let c = add(b"check_chunk", Entry::CheckChunk, b);
-    add(b"check_action", Entry::CheckAction, c)
+fn add_checks<R: io::Read>(from: &mut R, to: &impl Print, all: Tally) -> Tally {
+    let a = add(from, to, "standardise, aggregate, trip", Entry::Gate, all);
+    let b = add(from, to, "derive", Entry::Derive, a);
+    let c = add(from, to, "check_chunk", Entry::CheckChunk, b);
+    add(from, to, "check_action", Entry::CheckAction, c)
 }
 
-fn add_stops(all: Tally) -> Tally {
-    let a = add(b"brake_feasible", Entry::Forecast, all);
-    let b = add(b"brake_action, hold_action", Entry::Rows, a);
-    add(b"features", Entry::Features, b)
+fn add_stops<R: io::Read>(from: &mut R, to: &impl Print, all: Tally) -> Tally {
+    let a = add(from, to, "brake_feasible", Entry::Forecast, all);
+    let b = add(from, to, "brake_action, hold_action", Entry::Rows, a);
+    add(from, to, "features", Entry::Features, b)
 }
 
-fn complain(text: &[u8]) {
-    io::write_all(STDERR_FILENO, text);
+fn complain(to: &impl Eprint, text: &str) {
+    let _ = to.eprintln(text);
 }
 
 // What broke the replay off is said on standard error, in one line.
-fn main() {
-    let all = add_stops(add_checks(add_helpers(start())));
-    let wrote = say(b"in all", all);
+fn main(rt: HostRuntime) {
+    let mut stdin = rt.stdin();
+    let helpers = add_helpers(&mut stdin, &rt, start());
+    let checks = add_checks(&mut stdin, &rt, helpers);
+    let all = add_stops(&mut stdin, &rt, checks);
+    let wrote = say(&rt, "in all", all);
     if !(all.wrote & wrote) {
-        complain(b"replay: a write failed\n");
+        complain(&rt, "replay: a write failed");
     } else if all.failed {
-        complain(b"replay: a read failed\n");
+        complain(&rt, "replay: a read failed");
     }
 }

@@ -8,8 +8,8 @@
 ghost use Rattle.std.specs.Prelude.{◌≡◌, length};
 
 use brake::BrakeOut;
-use libc::{STDERR_FILENO, STDOUT_FILENO};
 use refusal::Refusal;
+use std::io;
 
 // Room for one record.
 fn record_buffer() -> [u8; 96]
@@ -25,26 +25,27 @@ fn slack_buffer() -> [f64; 4096]
     [0.0; 4096]
 }
 
-fn put(text: &[u8]) -> bool {
-    io::write_all(STDOUT_FILENO, text)
+fn put(to: &impl Print, text: &str) -> bool {
+    to.print(text).is_ok()
 }
 
 // A number, with a space before it.
-fn put_number(n: u64) -> bool {
-    put(b" ") & io::print_decimal(STDOUT_FILENO, n)
+fn put_number(to: &impl Print, n: u64) -> bool {
+    print!(to; " {n}").is_ok()
 }
 
 // The bits of a slack, with a space before them.
-fn put_slack(x: f64) -> bool {
-    put(b" ") & io::print_hex(STDOUT_FILENO, words::pattern(x), 16)
+fn put_slack(to: &impl Print, x: f64) -> bool {
+    let bits = words::pattern(x);
+    print!(to; " {bits:016x}").is_ok()
 }
 
 // The first slacks, until a write fails.
-fn put_slacks(slacks: &[f64], count: u64) -> bool {
+fn put_slacks(to: &impl Print, slacks: &[f64], count: u64) -> bool {
     let n = fmath::fewer(count as usize, slacks.len());
     let mut i = 0usize;
     while i < n {
-        if !put_slack(slacks[i]) {
+        if !put_slack(to, slacks[i]) {
             return false;
         }
         i += 1;
@@ -53,66 +54,67 @@ fn put_slacks(slacks: &[f64], count: u64) -> bool {
 }
 
 // The line of record n; whether all of it was written.
-fn put_line(n: u64, number: u64, count: u64, slacks: &[f64]) -> bool {
-    io::print_decimal(STDOUT_FILENO, n)
-        & put_number(number)
-        & put_number(count)
-        & put_slacks(slacks, count)
-        & put(b"\n")
+fn put_line(to: &impl Print, n: u64, number: u64, count: u64, slacks: &[f64]) -> bool {
+    to.print(n).is_ok()
+        & put_number(to, number)
+        & put_number(to, count)
+        & put_slacks(to, slacks, count)
+        & put(to, "\n")
 }
 
 // The line of a whole record.
-fn put_card(n: u64, record: &[u8]) -> bool {
+fn put_card(to: &impl Print, n: u64, record: &[u8]) -> bool {
     let mut space = slack_buffer();
     let slacks: &mut [f64] = &mut space;
     let card = card::decode(record);
     let outcome: BrakeOut = card::run(card, slacks);
     let answer = card::answer_of(outcome);
-    put_line(n, answer.number, answer.count, slacks)
+    put_line(to, n, answer.number, answer.count, slacks)
 }
 
 // The line of a rest that is no record.
-fn put_rest(n: u64) -> bool {
-    put_line(n, Refusal::LEFTOVER as u64, 0, &[])
+fn put_rest(to: &impl Print, n: u64) -> bool {
+    put_line(to, n, Refusal::LEFTOVER as u64, 0, &[])
 }
 
 // Says on standard error what broke the run off; nothing more is read.
-fn complain(text: &[u8]) -> bool {
-    io::write_all(STDERR_FILENO, text);
+fn complain(to: &impl Eprint, text: &str) -> bool {
+    let _ = to.eprintln(text);
     false
 }
 
 // Reads record n and puts its line. Whether there may be another.
-fn turn(n: u64) -> bool {
+fn turn<R: io::Read>(from: &mut R, to: &(impl Print + Eprint), n: u64) -> bool {
     let mut space = record_buffer();
     let record: &mut [u8] = &mut space;
-    let filled = input::fill(record);
+    let filled = input::fill(from, record);
     if filled.failed {
-        return complain(b"slacks: a read failed\n");
+        return complain(to, "slacks: a read failed");
     }
     if filled.n == 0 {
         return false;
     }
     let whole = filled.n == 96;
     let wrote = if whole {
-        put_card(n, record)
+        put_card(to, n, record)
     } else {
-        put_rest(n)
+        put_rest(to, n)
     };
     if !wrote {
-        return complain(b"slacks: a write failed\n");
+        return complain(to, "slacks: a write failed");
     }
     whole
 }
 
 // Record after record. Their numbers have 64 bits, so the run ends there.
-fn main() {
+fn main(rt: HostRuntime) {
+    let mut stdin = rt.stdin();
     let mut n: u64 = 0;
     while n < 0xffff_ffff_ffff_ffff {
         n += 1;
-        if !turn(n) {
+        if !turn(&mut stdin, &rt, n) {
             return;
         }
     }
-    complain(b"slacks: the numbers of records ended\n");
+    complain(&rt, "slacks: the numbers of records ended");
 }

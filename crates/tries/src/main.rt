@@ -12,7 +12,6 @@ ghost use Rattle.std.specs.Prelude.{◌≡◌, length};
 
 use envelope::FuseConfig;
 use fmath::put;
-use libc::{STDERR_FILENO, STDOUT_FILENO};
 use refusal::Refusal;
 use tier0::Tier0Out;
 
@@ -77,36 +76,37 @@ fn unread() -> [f64; 192] {
     [0.0; 192]
 }
 
-fn say(text: &[u8]) -> bool {
-    io::write_all(STDOUT_FILENO, text)
+fn say(to: &impl Print, text: &str) -> bool {
+    to.print(text).is_ok()
 }
 
-fn say_count(n: u64) -> bool {
-    io::print_decimal(STDOUT_FILENO, n)
+fn say_count(to: &impl Print, n: u64) -> bool {
+    to.print(n).is_ok()
 }
 
 // The bits of a number, with a space before them.
-fn say_number(x: f64) -> bool {
-    say(b" ") & io::print_hex(STDOUT_FILENO, words::pattern(x), 16)
+fn say_number(to: &impl Print, x: f64) -> bool {
+    let bits = words::pattern(x);
+    print!(to; " {bits:016x}").is_ok()
 }
 
-fn say_row(row: &[f64; 8]) -> bool {
-    say_number(row[0])
-        & say_number(row[1])
-        & say_number(row[2])
-        & say_number(row[3])
-        & say_number(row[4])
-        & say_number(row[5])
-        & say_number(row[6])
-        & say_number(row[7])
+fn say_row(to: &impl Print, row: &[f64; 8]) -> bool {
+    say_number(to, row[0])
+        & say_number(to, row[1])
+        & say_number(to, row[2])
+        & say_number(to, row[3])
+        & say_number(to, row[4])
+        & say_number(to, row[5])
+        & say_number(to, row[6])
+        & say_number(to, row[7])
 }
 
-fn say_refusal(r: Refusal) -> bool {
-    say_count(r.number as u64) & say(b"\n")
+fn say_refusal(to: &impl Print, r: Refusal) -> bool {
+    say_count(to, r.number as u64) & say(to, "\n")
 }
 
 // The line of an answer; whether it was written.
-fn say_answer(a: Tier0Out, row: &[f64; 8]) -> bool {
+fn say_answer(to: &impl Print, a: Tier0Out, row: &[f64; 8]) -> bool {
     match a {
         Tier0Out::Passed {
             trips,
@@ -114,28 +114,28 @@ fn say_answer(a: Tier0Out, row: &[f64; 8]) -> bool {
             peak_speed,
             walls,
         } => {
-            say(b"0 ")
-                & say_count(trips as u64)
-                & say(b" ")
-                & say_count(clamped_dims as u64)
-                & say_number(peak_speed)
-                & say_row(row)
-                & say(b" ")
-                & say_count(walls.low as u64)
-                & say(b" ")
-                & say_count(walls.high as u64)
-                & say(b"\n")
+            say(to, "0 ")
+                & say_count(to, trips as u64)
+                & say(to, " ")
+                & say_count(to, clamped_dims as u64)
+                & say_number(to, peak_speed)
+                & say_row(to, row)
+                & say(to, " ")
+                & say_count(to, walls.low as u64)
+                & say(to, " ")
+                & say_count(to, walls.high as u64)
+                & say(to, "\n")
         }
-        Tier0Out::Refused(r) => say_refusal(r),
+        Tier0Out::Refused(r) => say_refusal(to, r),
     }
 }
 
 // Checks the record's action and says the answer. A count or a code that no configuration has is 255, as for callers in C.
-fn answer(w: &Words, x: &Numbers) -> bool {
+fn answer(to: &impl Print, w: &Words, x: &Numbers) -> bool {
     let n = config_numbers(x);
     let k = config_counts(w);
     if !layout::config::counts_fit(&k) {
-        return say(b"255\n");
+        return say(to, "255\n");
     }
     let c: FuseConfig = layout::config::config_of(&n, &k);
     let t = unread();
@@ -145,29 +145,29 @@ fn answer(w: &Words, x: &Numbers) -> bool {
     let act = part(x, 114, w[53]);
     let mut out = [0.0; 8];
     let a = tier0::check_action(c, &t, &t, pos, aux, prev, act, &mut out);
-    say_answer(a, &out)
+    say_answer(to, a, &out)
 }
 
-fn complain(text: &[u8]) {
-    io::write_all(STDERR_FILENO, text);
+fn complain(to: &impl Eprint, text: &str) {
+    let _ = to.eprintln(text);
 }
 
-fn main() {
+fn main(rt: HostRuntime) {
     let mut space = record_buffer();
     let bytes: &mut [u8] = &mut space;
-    let f = input::fill(bytes);
+    let f = input::fill(&mut rt.stdin(), bytes);
     if f.failed {
-        complain(b"tries: a read failed\n");
+        complain(&rt, "tries: a read failed");
         return;
     }
     if f.n < 976 {
-        complain(b"tries: the input ends inside the record\n");
+        complain(&rt, "tries: the input ends inside the record");
         return;
     }
     let r = record_of(bytes);
     let w = r.words;
     let x = r.numbers;
-    if !answer(&w, &x) {
-        complain(b"tries: a write failed\n");
+    if !answer(&rt, &w, &x) {
+        complain(&rt, "tries: a write failed");
     }
 }
