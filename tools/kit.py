@@ -2,7 +2,7 @@
 """What `rt` has no command for: the kit's rattle on one crate of this repository, over the libraries below it as they stand proved.
 
 usage: tools/kit.py made-of                 prints a sum of the kit, and of all files that proofs read
-       tools/kit.py proved                  notes that rt ci has just proved the crates as they are
+       tools/kit.py proved SUM              notes that rt ci has proved the crates of that sum
        tools/kit.py is-built PROGRAM        whether the program that rt ci built is there, and nothing has changed since
        tools/kit.py build CRATE [FLAG..]    proves and builds a crate: `rattle build`, which has the flags in its --help
 
@@ -111,10 +111,10 @@ def words(verb, crate):
 def main(verb='', *given):
     if verb == 'made-of' and not given:
         print(made_of())
-    elif verb == 'proved' and not given:
+    elif verb == 'proved' and len(given) == 1:
         os.makedirs(os.path.dirname(NOTE), exist_ok=True)
         with open(NOTE, 'w', encoding='utf-8') as file:
-            file.write(made_of() + '\n')
+            print(*given, file=file)
     elif verb == 'is-built' and len(given) == 1:
         return 0 if is_built(*given) else 1
     elif verb == 'build' and given and given[0] in listed()[0]:
