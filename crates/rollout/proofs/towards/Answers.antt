@@ -39,7 +39,7 @@ returns c =
     let stand = reached binary64 v (state_of s.start) in
     let has_room : leg_roomy s.n (length s.a.now) s.count (length s.slack.now) ≡ true = c.if-not-roomy.false in
     let comes : CameAlong q stand s.slack.now s.count c.hold.result c.hold.new.slack =
-        along_at q stand s.slack.now s.count c.hold.result c.hold.new.slack (0 + s.count) (zero-add s.count)
-        (c.hold.ensures.1 q stand s.slack.now 0 (λ _ j b. record { moves = refl; measures = refl }) (along_start q stand s.slack.now s.start refl))
+    along_at q stand s.slack.now s.count c.hold.result c.hold.new.slack (0 + s.count) (zero-add s.count)
+    (c.hold.ensures.1 q stand s.slack.now 0 (λ _ j b. record { moves = refl; measures = refl }) (along_start q stand s.slack.now s.start refl))
     in
     rw has_room (record { value = run_is _ _ s.slack.now _ _ comes; slack_after = written_is _ _ s.slack.now _ _ comes })

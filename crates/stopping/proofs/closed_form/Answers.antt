@@ -38,8 +38,8 @@ returns c =
     let pull : reckoned_from (gain binary64 t) ≡ c.ratio-g.result = sym c.ratio-g.ensures in
     let delay : reckoned_from (reaction binary64 t) ≡ c.reaction-react.result = sym c.reaction-react.ensures in
     let a : Along binary64 t s.slack.now (suc (left_of s.c).0) c.follow.result c.follow.new.slack =
-        c.follow.ensures.1 s.react_ticks s.start s.slack.now
-        (record { pull = ap (λ (x : Reckoned). x.value) pull; delay = ap (λ (x : Reckoned). x.value) delay })
-        (c.begin-first.ensures.1 s.react_ticks s.rows.now pull delay)
+    c.follow.ensures.1 s.react_ticks s.start s.slack.now
+    (record { pull = ap (λ (x : Reckoned). x.value) pull; delay = ap (λ (x : Reckoned). x.value) delay })
+    (c.begin-first.ensures.1 s.react_ticks s.rows.now pull delay)
     in
     rw (sym c.roomy.ensures ∙ c.if-not-roomy.false) (record { value = run_is (forecast binary64 t) (stand binary64 t) s.slack.now _ _ a; slack_after = written_is (forecast binary64 t) (stand binary64 t) s.slack.now _ _ a })
