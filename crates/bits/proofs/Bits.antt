@@ -9,7 +9,7 @@ use native.Mathlib.Numerals.{add-one}
 use borrow.Author.Count.{below_more}
 use lib.Bits.{bit_or, or_block}
 use lib.Pow.{pow_mono, pow_pos, pow-add}
-use Rattle.bits.specs.Choice.{if◌then◌else◌}
+use Rattle.std.specs.Prelude.{if◌then◌else◌}
 use Rattle.bits.specs.Bits.{bit, bits_where}
 
 pub weight_most : (t : Bool) (w : ℕ) → (if t then w else 0) ≤ w

@@ -1,1 +1,2 @@
 pub mod Bits
+pub mod Choice

@@ -1,6 +1,5 @@
 -- The bits of a word: feature j is bit j of a mask.
-use Rattle.std.specs.Prelude.{ℕ, zero, suc, ◌+◌, ◌/◌, ◌%◌, ◌^◌, Bool, eqb}
-use Rattle.bits.specs.Choice.{if◌then◌else◌}
+use Rattle.std.specs.Prelude.{ℕ, zero, suc, ◌+◌, ◌/◌, ◌%◌, ◌^◌, Bool, eqb, if◌then◌else◌}
 
 -- bit j of w is set
 unfoldable pub bit : ℕ → ℕ → Bool

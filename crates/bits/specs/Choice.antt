@@ -1,7 +1,6 @@
--- One of two, by a test.
-use Rattle.std.specs.Prelude.{Bool, true, false}
+-- One of two, by a test: what the kit's `if b then x else y` is, by which every rule chooses.
+use Rattle.std.specs.Prelude.{◌≡◌, Bool, true, false, if◌then◌else◌}
 
-infixr 5 if◌then◌else◌
-abbrev pub if◌then◌else◌ : {A : Type 0} → Bool → A → A → A
-if◌then◌else◌ true x y = x
-if◌then◌else◌ false x y = y
+pub record Choice {A : Type 0} (x y : A) : Type 0 where
+  pub where_true : (if true then x else y) ≡ x
+  pub where_false : (if false then x else y) ≡ y

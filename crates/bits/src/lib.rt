@@ -1,8 +1,7 @@
 // Bits and their weights.
 #![tactic(auto)]
 
-ghost use Rattle.std.specs.Prelude.{◌≡◌, ◌≤◌};
-ghost use Rattle.bits.specs.Choice.{if◌then◌else◌};
+ghost use Rattle.std.specs.Prelude.{◌≡◌, ◌≤◌, if◌then◌else◌};
 
 // The weight of a bit that is set, else 0.
 pub fn weight(on: bool, w: u32) -> u32

@@ -5,7 +5,7 @@ use mathlib.Core.Bool.{Bool, true, false, ◌&&◌}
 use mathlib.Core.List.{List}
 use lib.Dec.{ltb}
 use lib.Ieee.{Float, binary64}
-use Rattle.bits.specs.Choice.{if◌then◌else◌}
+use Rattle.std.specs.Prelude.{if◌then◌else◌}
 use Rattle.checked.specs.Checked.{Checked, pure}
 use Rattle.workspace.specs.declared.Shape.TheVariants.{Box}
 use Rattle.workspace.specs.Rule.{Walls, inward, slack}

@@ -11,7 +11,7 @@ use borrow.Author.Tests.{ltb-false, le-ltb, lt-ltb, not-false}
 use lib.Dec.{ltb}
 use lib.ListN.{length}
 use lib.Ieee.{Float, binary64}
-use Rattle.bits.specs.Choice.{if◌then◌else◌}
+use Rattle.std.specs.Prelude.{if◌then◌else◌}
 use Rattle.refusal.specs.Order.{Judged, short, not_finite, computed, ◌when◌, refusal}
 use Rattle.refusal.specs.Chain.{chain, first_passes, both_pass, passes_at}
 use Rattle.fmath.specs.Answer.{some_not_finite}

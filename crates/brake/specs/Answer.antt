@@ -1,9 +1,8 @@
 -- What the brake's entries judge (R7), and what they answer.
-use Rattle.std.specs.Prelude.{ℕ, Bool, not, ◌&&◌, ◌||◌, List, [], ◌∷◌, ◌++◌, ltb, eqb, length, Float}
+use Rattle.std.specs.Prelude.{ℕ, Bool, not, ◌&&◌, ◌||◌, List, [], ◌∷◌, ◌++◌, ltb, eqb, length, Float, if◌then◌else◌}
 use Rattle.std.specs.Float.{Format}
 use Rattle.refusal.specs.declared.Refusal.{Refusal}
 use Rattle.refusal.specs.Order.{Judged, width, short, not_finite, computed, number_of, ◌when◌, refusal, refused_for, answer_by, left_by}
-use Rattle.bits.specs.Choice.{if◌then◌else◌}
 use Rattle.fmath.specs.Answer.{some_not_finite, some_lent_not_finite}
 use Rattle.checked.specs.Each.{at, over}
 use Rattle.checked.specs.Checked.{Checked}

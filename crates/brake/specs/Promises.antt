@@ -1,7 +1,6 @@
 -- What is promised of one call of `brake_feasible` with the second-order brake, said of its own answer and of the entries that were lent to it; that the rows of brake and
 -- hold lie in the box of each axis that has one, in the gripper's new mode of each within pos_dim, what they have past pos_dim in either mode, and what their masks say. The proofs are `proofs/Promises.antt`, `proofs/Boxed.antt`, `proofs/Modes.antt` and `proofs/Walled.antt`.
-use Rattle.std.specs.Prelude.{ℕ, suc, ◌+◌, ◌-◌, ◌*◌, ◌≤◌, ◌<◌, ◌≡◌, Bool, true, false, ◌&&◌, List, T, length, Float}
-use Rattle.bits.specs.Choice.{if◌then◌else◌}
+use Rattle.std.specs.Prelude.{ℕ, suc, ◌+◌, ◌-◌, ◌*◌, ◌≤◌, ◌<◌, ◌≡◌, Bool, true, false, ◌&&◌, List, T, length, Float, if◌then◌else◌}
 use Rattle.std.specs.Float.{binary64, inf}
 use Rattle.std.specs.Float.Ieee.{lt, le, sub, fits}
 use Rattle.refusal.specs.declared.Refusal.{Refusal}

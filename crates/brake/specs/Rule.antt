@@ -1,7 +1,6 @@
 -- Module 7 at a configuration: the forecast of its brake, and the rows that brake and hold send. Over the format.
-use Rattle.std.specs.Prelude.{ℕ, min, Bool, true, false, ◌&&◌, List, ltb, leb, length, replicate, Float}
+use Rattle.std.specs.Prelude.{ℕ, min, Bool, true, false, ◌&&◌, List, ltb, leb, length, replicate, Float, if◌then◌else◌}
 use Rattle.std.specs.Float.{Format}
-use Rattle.bits.specs.Choice.{if◌then◌else◌}
 use Rattle.checked.specs.Constants.{1!, eps}
 use Rattle.checked.specs.Each.{at, over}
 use Rattle.checked.specs.Finite.{+0}

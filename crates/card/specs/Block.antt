@@ -1,8 +1,7 @@
 -- What the contracts of `card::block` cite: the lines of a block of records.
-use Rattle.std.specs.Prelude.{◌≡◌, Bool, ◌&&◌, List, [], ◌∷◌, ◌++◌, ℕ, zero, suc, ◌+◌, ◌-◌, ◌*◌, ◌/◌, ◌%◌, ltb, leb, eqb, length}
+use Rattle.std.specs.Prelude.{◌≡◌, Bool, ◌&&◌, List, [], ◌∷◌, ◌++◌, ℕ, zero, suc, ◌+◌, ◌-◌, ◌*◌, ◌/◌, ◌%◌, ltb, leb, eqb, length, if◌then◌else◌}
 use Rattle.std.proofs.lemmas.List.Edits.{sets}
 use Rattle.refusal.specs.Order.{number_of, leftover}
-use Rattle.bits.specs.Choice.{if◌then◌else◌}
 use Rattle.card.specs.declared.desk.Answer.{Answer}
 use Rattle.card.specs.declared.block.Answered.{Answered}
 use Rattle.card.specs.Record.{card_at}

@@ -1,9 +1,8 @@
 -- What the contracts of `card::desk` cite: the configuration of a card (R9.2), its forecast by the brake's rule, and what the desk is answered.
-use Rattle.std.specs.Prelude.{ℕ, ◌-◌, false, List, [], ◌∷◌, eqb, replicate, Float}
+use Rattle.std.specs.Prelude.{ℕ, ◌-◌, false, List, [], ◌∷◌, eqb, replicate, Float, if◌then◌else◌}
 use Rattle.std.specs.Float.{binary64}
 use Rattle.std.specs.Float.Ieee.{of_bits, to_bits}
 use Rattle.refusal.specs.Order.{computed, number_of}
-use Rattle.bits.specs.Choice.{if◌then◌else◌}
 use Rattle.checked.specs.Constants.{1! }
 use Rattle.checked.specs.Finite.{+0}
 use Rattle.chunk.specs.declared.Header.{Header}

@@ -13,7 +13,7 @@ use lib.Pow.{pow_pos}
 use lib.Seq.{paste, take_all, get_or-take, get_or-drop}
 use Rattle.checked.specs.Each.{at}
 use Rattle.checked.proofs.Each.{and_right}
-use Rattle.bits.specs.Choice.{if◌then◌else◌}
+use Rattle.std.specs.Prelude.{if◌then◌else◌}
 use Rattle.chunk.specs.declared.Part.{Part}
 use Rattle.chunk.specs.Rule.{row_start, row_within, row_in, row_of, row_set}
 use Rattle.chunk.specs.Of.{part_of}

@@ -1,10 +1,9 @@
 -- The rules at the declared structs.
-use Rattle.std.specs.Prelude.{ℕ, ◌+◌, ◌*◌, ◌≡◌, Bool, true, false, List, eqb, Float, length, replicate}
+use Rattle.std.specs.Prelude.{ℕ, ◌+◌, ◌*◌, ◌≡◌, Bool, true, false, List, eqb, Float, length, replicate, if◌then◌else◌}
 use Rattle.std.proofs.Math.Seq.{paste}
 use Rattle.std.specs.Borrow.{Bor, MutBor}
 use Rattle.checked.specs.Finite.{+0}
 use Rattle.refusal.specs.Order.{refusal, refused_for}
-use Rattle.bits.specs.Choice.{if◌then◌else◌}
 use Rattle.chunk.specs.declared.ChunkBuf.{ChunkBuf}
 use Rattle.chunk.specs.declared.ChunkView.{ChunkView}
 use Rattle.chunk.specs.declared.Filled.{Filled}

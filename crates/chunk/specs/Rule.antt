@@ -1,7 +1,6 @@
 -- The rules of a chunk's rows (R2), over the list of a chunk's numbers, horizon h and dim d.
-use Rattle.std.specs.Prelude.{ℕ, ◌+◌, ◌-◌, ◌*◌, min, Bool, ◌&&◌, not, List, [], eqb, leb, Float, length, take, drop}
+use Rattle.std.specs.Prelude.{ℕ, ◌+◌, ◌-◌, ◌*◌, min, Bool, ◌&&◌, not, List, [], eqb, leb, Float, length, take, drop, if◌then◌else◌}
 use Rattle.std.proofs.Math.Seq.{paste}
-use Rattle.bits.specs.Choice.{if◌then◌else◌}
 
 -- the row that an index names: at or past the horizon, the last
 abbrev pub row_index : ℕ → ℕ → ℕ

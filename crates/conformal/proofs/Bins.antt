@@ -7,7 +7,7 @@ use native.Mathlib.Nat.{add-sub_cancel, zero-div, mul-le-mul_right, le-div_iff_m
 use lib.Dec.{eqb}
 use lib.Ieee.Nearest.{div_mono}
 use borrow.Author.Tests.{ne_eqb}
-use Rattle.bits.specs.Choice.{if◌then◌else◌}
+use Rattle.std.specs.Prelude.{if◌then◌else◌}
 use Rattle.conformal.specs.Rule.{bin_at}
 use Rattle.conformal.specs.Answer.{on_horizon, time_bin_of}
 use Rattle.conformal.specs.Promises.{from_zero, TimeBins}

@@ -6,7 +6,7 @@ use mathlib.Core.Logic.{◌⊎◌, inl, inr, ⊎_elim}
 use native.Mathlib.Omega.{arith}
 use borrow.Author.Count.{below_more}
 use lib.Ieee.{Float, nan, inf, fin, lt, is_nan}
-use Rattle.bits.specs.Choice.{if◌then◌else◌}
+use Rattle.std.specs.Prelude.{if◌then◌else◌}
 use Rattle.checked.specs.Each.{Among}
 use Rattle.checked.specs.Least.{lesser, greater}
 use Rattle.checked.proofs.Extremes.{not_above_inf}

@@ -10,7 +10,7 @@ use lib.ListN.{get_or}
 use lib.Ieee.{Float, Format}
 use Rattle.refusal.specs.Order.{size, withdrawn, among, refused_for}
 use Rattle.refusal.specs.Exactly.{exactly_none}
-use Rattle.bits.specs.Choice.{if◌then◌else◌}
+use Rattle.std.specs.Prelude.{if◌then◌else◌}
 use Rattle.bits.specs.Bits.{bit}
 use Rattle.bits.proofs.Bits.{bit_where}
 use Rattle.checked.specs.Each.{at}

@@ -1,8 +1,7 @@
 -- The answers of the gate's entries (R8): the number of the first refusal that applies, or what the rule gives.
-use Rattle.std.specs.Prelude.{ℕ, Bool, true, not, [], ◌∷◌, List, eqb, Float}
+use Rattle.std.specs.Prelude.{ℕ, Bool, true, not, [], ◌∷◌, List, eqb, Float, if◌then◌else◌}
 use Rattle.std.specs.Float.{Format}
 use Rattle.refusal.specs.Order.{Judged, size, number, steps, withdrawn, not_finite, computed, ◌when◌, refusal, refused_for}
-use Rattle.bits.specs.Choice.{if◌then◌else◌}
 use Rattle.checked.specs.Checked.{Checked}
 use Rattle.conformal.specs.Rule.{Tables, live, standards, aggregate, fired_bits, trips, bin_at}
 use Rattle.conformal.specs.Refusals.{sizes_ok, numbers_ok, features_ok, scores_ok}

@@ -1,8 +1,7 @@
 -- The rules of the gate (R8), over the format: standardise, aggregate, trip and the time bin.
-use Rattle.std.specs.Prelude.{ℕ, zero, suc, ◌+◌, ◌-◌, ◌*◌, ◌/◌, min, Bool, not, ◌&&◌, ◌||◌, true, false, List, ltb, eqb, get_or, Float}
+use Rattle.std.specs.Prelude.{ℕ, zero, suc, ◌+◌, ◌-◌, ◌*◌, ◌/◌, min, Bool, not, ◌&&◌, ◌||◌, true, false, List, ltb, eqb, get_or, Float, if◌then◌else◌}
 use Rattle.std.specs.Float.{Format, inf}
 use Rattle.std.specs.Float.Ieee.{lt}
-use Rattle.bits.specs.Choice.{if◌then◌else◌}
 use Rattle.checked.specs.Each.{at, all, some, table}
 use Rattle.checked.specs.Finite.{+0}
 use Rattle.checked.specs.Least.{lesser, greater}

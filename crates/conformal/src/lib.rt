@@ -1,10 +1,9 @@
 // Module 8: scores held against a calibration. Standardise, aggregate over the gate, trip strictly; and the time bin.
 #![tactic(auto)]
 
-ghost use Rattle.std.specs.Prelude.{◌≡◌, not, ◌<◌, ◌-◌, min};
+ghost use Rattle.std.specs.Prelude.{◌≡◌, not, ◌<◌, ◌-◌, min, if◌then◌else◌};
 ghost use Rattle.std.specs.Float.{binary64};
 ghost use Rattle.std.specs.Float.Ieee.{is_nan};
-ghost use Rattle.bits.specs.Choice.{if◌then◌else◌};
 ghost use Rattle.checked.specs.Least.{lesser, greater};
 ghost use Rattle.bits.specs.Bits.{bit};
 ghost use Rattle.conformal.specs.Rule.{live, standard, standards, aggregate, fired_bits};

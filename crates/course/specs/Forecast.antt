@@ -1,7 +1,6 @@
 -- A forecast: its slack entries in order, each with all that its place computes, and the stop distance after them.
-use Rattle.std.specs.Prelude.{ℕ, zero, suc, Bool, List, Float}
+use Rattle.std.specs.Prelude.{ℕ, zero, suc, Bool, List, Float, if◌then◌else◌}
 use Rattle.std.specs.Float.Ieee.{le}
-use Rattle.bits.specs.Choice.{if◌then◌else◌}
 use Rattle.checked.specs.Each.{all, over}
 use Rattle.checked.specs.Finite.{+0}
 use Rattle.checked.specs.Least.{least}

@@ -1,8 +1,7 @@
 -- What is derived from a configuration (R4), over the format, in the source's operation order.
-use Rattle.std.specs.Prelude.{ℕ, min, Bool, ◌&&◌, List, ltb, Float}
+use Rattle.std.specs.Prelude.{ℕ, min, Bool, ◌&&◌, List, ltb, Float, if◌then◌else◌}
 use Rattle.std.specs.Float.{Format}
 use Rattle.std.specs.Float.Ieee.{add, sub, mul, div}
-use Rattle.bits.specs.Choice.{if◌then◌else◌}
 use Rattle.checked.specs.Constants.{1! }
 use Rattle.checked.specs.Each.{at, table}
 use Rattle.checked.specs.Finite.{+0}

@@ -11,7 +11,7 @@ use lib.IntN.{ℤ, pos, negsuc}
 use lib.Ieee.{Float, Format, nan, inf, fin, prec, odd, lt, up, down}
 use lib.Ieee.Fits.{up_pos}
 use Rattle.refusal.specs.Order.{computed, ◌when◌, refusal, refused_for}
-use Rattle.bits.specs.Choice.{if◌then◌else◌}
+use Rattle.std.specs.Prelude.{if◌then◌else◌}
 use Rattle.root.specs.Root.{number, root_of}
 use Rattle.fmath.specs.declared.Number.{Number}
 use Rattle.fmath.specs.declared.Number.TheVariants.{Value, Refused}

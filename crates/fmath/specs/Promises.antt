@@ -1,8 +1,7 @@
 -- What `sqrt` promises, over the format, and what `clamp` promises of the side. The proof is `proofs/Promises.promised`.
-use Rattle.std.specs.Prelude.{◌≡◌, Bool, true, false, ℤ, pos, negsuc, Float}
+use Rattle.std.specs.Prelude.{◌≡◌, Bool, true, false, ℤ, pos, negsuc, Float, if◌then◌else◌}
 use Rattle.std.specs.Float.{Format, nan, fin}
 use Rattle.std.specs.Float.Ieee.{lt, le}
-use Rattle.bits.specs.Choice.{if◌then◌else◌}
 use Rattle.refusal.specs.Order.{refused_for}
 use Rattle.root.specs.Root.{root_of}
 use Rattle.fmath.specs.declared.Number.TheVariants.{Value, Refused}

@@ -37,7 +37,7 @@ use Rattle.brake.specs.declared.Ran.{Ran}
 use Rattle.brake.specs.declared.Sent.{Sent}
 use Rattle.brake.specs.Answer.{forecast_answer, forecast_slacks, brake_answer, brake_output, hold_answer, hold_output}
 use Rattle.brake.specs.Towards.{run_answer, run_slacks, run_position, run_velocity}
-use Rattle.bits.specs.Choice.{if◌then◌else◌}
+use Rattle.std.specs.Prelude.{if◌then◌else◌}
 use Rattle.refusal.specs.Order.{refusal}
 use Rattle.chunk.specs.Refusals.{lent_reasons}
 use Rattle.chunk.specs.Of.{fill_of}

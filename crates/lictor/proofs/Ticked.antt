@@ -7,7 +7,7 @@ use native.Mathlib.Omega.{arith}
 use borrow.Author.Tests.{eq-eqb, ne_eqb, le-leb}
 use lib.ListN.{length}
 use lib.Ieee.{Float, Format}
-use Rattle.bits.specs.Choice.{if◌then◌else◌}
+use Rattle.std.specs.Prelude.{if◌then◌else◌}
 use Rattle.checked.specs.Each.{at, over}
 use Rattle.checked.proofs.Copy.{all_pasted}
 use Rattle.chunk.specs.Of.{held_of}

@@ -1,6 +1,5 @@
 -- What C is given of an answer: the number of the table (R0), 0 for an accepted call, and each place as it stands at exit. A refusal leaves the places as they were.
-use Rattle.std.specs.Prelude.{ℕ, ◌≡◌, Bool, List, [], ◌∷◌, eqb, Float}
-use Rattle.bits.specs.Choice.{if◌then◌else◌}
+use Rattle.std.specs.Prelude.{ℕ, ◌≡◌, Bool, List, [], ◌∷◌, eqb, Float, if◌then◌else◌}
 use Rattle.fmath.specs.declared.Number.{Number}
 use Rattle.fmath.specs.declared.Number.TheVariants as N
 use Rattle.chunk.specs.declared.Filled.{Filled}

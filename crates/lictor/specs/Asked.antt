@@ -1,7 +1,6 @@
 -- What C asks, in the port's structs.
-use Rattle.std.specs.Prelude.{ℕ, false, List, leb, Float, length}
+use Rattle.std.specs.Prelude.{ℕ, false, List, leb, Float, length, if◌then◌else◌}
 use Rattle.std.proofs.Math.Seq.{paste}
-use Rattle.bits.specs.Choice.{if◌then◌else◌}
 use Rattle.chunk.specs.declared.ChunkBuf.{ChunkBuf}
 use Rattle.chunk.specs.declared.Header.{Header}
 use Rattle.conformal.specs.declared.Calibration.{Calibration}

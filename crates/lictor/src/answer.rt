@@ -1,7 +1,6 @@
 // Answers, put where C reads them: the number is returned, and a refusal leaves every place as it was, but for the place that a forecast
 // or a run names.
-ghost use Rattle.std.specs.Prelude.{◌≡◌, true};
-ghost use Rattle.bits.specs.Choice.{if◌then◌else◌};
+ghost use Rattle.std.specs.Prelude.{◌≡◌, true, if◌then◌else◌};
 ghost use Rattle.layout.specs.Chunk.{header_from};
 ghost use Rattle.lictor.specs.Asked.{rows_over};
 ghost use Rattle.lictor.specs.Answer.{fitting, NumberGiven, MaskGiven, RecordedGiven, CountGiven, EmptinessGiven, DerivedGiven, CheckPut, ClearedGiven, ForecastPut, RanPut, SentPut, ScoredGiven, VerdictGiven, BinGiven};

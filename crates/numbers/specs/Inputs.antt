@@ -1,8 +1,7 @@
 -- The inputs of the numbers on the wall that are proved (R10.7), and the whole answers that the definitions give for them. A float stands as its bits.
-use Rattle.std.specs.Prelude.{ℕ, Bool, false, List, [], ◌∷◌, ◌++◌, map, replicate, Float}
+use Rattle.std.specs.Prelude.{ℕ, Bool, false, List, [], ◌∷◌, ◌++◌, map, replicate, Float, if◌then◌else◌}
 use Rattle.std.specs.Float.{binary64}
 use Rattle.std.specs.Float.Ieee.{to_bits}
-use Rattle.bits.specs.Choice.{if◌then◌else◌}
 use Rattle.refusal.specs.declared.Refusal.{Refusal}
 use Rattle.checked.specs.Constants.{1! as one}
 use Rattle.checked.specs.Finite.{+0}

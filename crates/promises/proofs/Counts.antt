@@ -9,7 +9,7 @@ use borrow.Author.Tests.{ltb-true, ltb-false, leb-true, leb-false, eqb-true, eqb
 use lib.Dec.{leb, ltb, eqb}
 use lib.Ieee.{Float}
 use Rattle.refusal.specs.Order.{refusal}
-use Rattle.bits.specs.Choice.{if◌then◌else◌}
+use Rattle.std.specs.Prelude.{if◌then◌else◌}
 use Rattle.checked.specs.Each.{at, all, every, every_from}
 use Rattle.checked.proofs.Each.{and_left, and_right, all_at, all_same, all_fails, all_fails_at, every_at}
 use Rattle.chunk.specs.declared.Header.{Header}

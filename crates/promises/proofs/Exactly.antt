@@ -11,7 +11,7 @@ use lib.Ieee.{Float, Format, binary64}
 use lib.ListN.{length}
 use Rattle.refusal.specs.declared.Refusal.{Refusal}
 use Rattle.refusal.specs.Order.{Reason, Judged, size, steps, short, not_finite, computed, ◌when◌, number_of, order, among, given, refusal, refused_for, ◌or◌}
-use Rattle.bits.specs.Choice.{if◌then◌else◌}
+use Rattle.std.specs.Prelude.{if◌then◌else◌}
 use Rattle.refusal.specs.Exactly.{First, here, later, exactly_first, exactly_none}
 use Rattle.checked.specs.Checked.{root}
 use Rattle.fmath.specs.Norm.{norm, dist}

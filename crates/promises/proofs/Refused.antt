@@ -10,7 +10,7 @@ use lib.Ieee.{Float, binary64}
 use Rattle.refusal.specs.declared.Refusal.{Refusal}
 use Rattle.refusal.specs.Order.{given, refusal, refused_for}
 use Rattle.refusal.proofs.Entry.{left_kept}
-use Rattle.bits.specs.Choice.{if◌then◌else◌}
+use Rattle.std.specs.Prelude.{if◌then◌else◌}
 use Rattle.chunk.specs.Refusals.{lent_reasons}
 use Rattle.chunk.specs.declared.ChunkBuf.{ChunkBuf}
 use Rattle.chunk.specs.declared.Filled.{Filled}

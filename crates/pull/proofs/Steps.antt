@@ -11,7 +11,7 @@ use Rattle.checked.specs.Checked.{pure, each}
 use Rattle.checked.specs.declared.Row.{Row}
 use Rattle.checked.specs.Of.{row_from}
 use Rattle.fmath.specs.Norm.{dist}
-use Rattle.bits.specs.Choice.{if◌then◌else◌}
+use Rattle.std.specs.Prelude.{if◌then◌else◌}
 use Rattle.checked.proofs.Each.{over_keeps, length_over}
 use Rattle.checked.proofs.Sums.{each_same, each_over}
 use Rattle.fmath.proofs.Lengths.{dist_sound, dist_same}

@@ -1,8 +1,7 @@
 -- The pull: a row shortened towards a point from which it is too far. Over the format; whatever is computed is checked.
-use Rattle.std.specs.Prelude.{ℕ, false, List, negsuc, Float}
+use Rattle.std.specs.Prelude.{ℕ, false, List, negsuc, Float, if◌then◌else◌}
 use Rattle.std.specs.Float.{Format, binary32, binary64, fin}
 use Rattle.std.specs.Float.Ieee.{lt}
-use Rattle.bits.specs.Choice.{if◌then◌else◌}
 use Rattle.checked.specs.Each.{at}
 use Rattle.checked.specs.Checked.{Checked, ◌>>=◌, pure, plus, minus, times, divided, each}
 use Rattle.fmath.specs.Norm.{dist}

@@ -4,7 +4,7 @@ use mathlib.Core.Path.{◌≡◌, refl, sym, ap, ◌∙◌}
 use mathlib.Core.Bool.{Bool, true, false, not}
 use mathlib.Core.List.{List, [], ◌∷◌, ◌++◌}
 use native.Mathlib.Omega.{arith}
-use Rattle.bits.specs.Choice.{if◌then◌else◌}
+use Rattle.std.specs.Prelude.{if◌then◌else◌}
 use Rattle.refusal.specs.Order.{Judged, computed, ◌when◌, refused_for, answer_by, left_by}
 use Rattle.refusal.specs.Chain.{chain, first_refuses, first_passes}
 use Rattle.refusal.specs.declared.Refusal.{Refusal}

@@ -5,7 +5,7 @@ use mathlib.Core.List.{List, [], ◌∷◌}
 use borrow.Author.Tests.{eq-eqb, ne_eqb}
 use lib.Dec.{eqb}
 use Rattle.refusal.specs.Order.{Reason, computed, number_of, order, first_of, given, ◌when◌, among, ◌or◌, named, earlier}
-use Rattle.bits.specs.Choice.{if◌then◌else◌}
+use Rattle.std.specs.Prelude.{if◌then◌else◌}
 use Rattle.refusal.specs.Exactly.{NoneOf, none_zero, not_zero}
 
 -- ---- no reason stands twice in the order

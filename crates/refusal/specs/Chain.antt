@@ -1,10 +1,9 @@
 -- What is judged in the order of the list: its first reason that applies. So a list of two parts is refused by the first part, and by the second where
 -- the first passes. For a list whose reasons stand in order `refusal` computes to `chain`.
-use Rattle.std.specs.Prelude.{ℕ, ◌≡◌, refl, Bool, true, false, List, [], ◌∷◌, ◌++◌, eqb}
+use Rattle.std.specs.Prelude.{ℕ, ◌≡◌, refl, Bool, true, false, List, [], ◌∷◌, ◌++◌, eqb, if◌then◌else◌}
 use Rattle.std.proofs.Common.{sym, ◌∙◌, eqb-true}
 use Rattle.std.proofs.lemmas.Bool.{eqb-false}
 use Rattle.refusal.specs.Order.{Reason, Judged, number_of, ◌when◌, or_later}
-use Rattle.bits.specs.Choice.{if◌then◌else◌}
 use Rattle.refusal.specs.Exactly.{not_zero}
 
 abbrev pub chain : List Judged → ℕ

@@ -1,8 +1,7 @@
 -- "Given exactly when": a number is given if and only if its reason applies and none before it in the order does, and 0 if and only if none applies.
-use Rattle.std.specs.Prelude.{ℕ, ◌≡◌, refl, Bool, true, false, List, [], ◌∷◌, eqb}
+use Rattle.std.specs.Prelude.{ℕ, ◌≡◌, refl, Bool, true, false, List, [], ◌∷◌, eqb, if◌then◌else◌}
 use Rattle.std.proofs.Common.{sym, ap, ◌∙◌, subst, arith}
 use Rattle.refusal.specs.Order.{Reason, size, number, steps, channels, shape, withdrawn, empty, too_long, too_wide, exec_exceeds_horizon, len_mismatch, width, short, not_finite, computed, leftover, number_of, order, first_of, given}
-use Rattle.bits.specs.Choice.{if◌then◌else◌}
 
 -- k is the first of some reasons that applies
 pub data First (applies : Reason → Bool) : List Reason → Reason → Type 0 where

@@ -1,8 +1,7 @@
 // Why a call is refused: a number of the table (R0) and, for a computed number that isn't finite, its place.
 #![tactic(auto)]
 
-ghost use Rattle.std.specs.Prelude.{◌≡◌};
-ghost use Rattle.bits.specs.Choice.{if◌then◌else◌};
+ghost use Rattle.std.specs.Prelude.{◌≡◌, if◌then◌else◌};
 ghost use Rattle.refusal.specs.Order.{earlier, or_later, refused_for};
 
 #[derive(Clone, Copy)]

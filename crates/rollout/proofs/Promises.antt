@@ -11,7 +11,7 @@ use lib.ListN.{length, set, get_or-eq_default}
 use lib.Seq.{set_out, get_or-set_same, get_or-set_other}
 use lib.Ieee.{Float, Format, nan, lt, le, fits, mul}
 use lib.Ieee.Fits.{nan-fits, add-fits}
-use Rattle.bits.specs.Choice.{if◌then◌else◌}
+use Rattle.std.specs.Prelude.{if◌then◌else◌}
 use Rattle.checked.specs.Each.{at}
 use Rattle.checked.specs.Finite.{+0}
 use Rattle.checked.specs.Checked.{Checked, pure}

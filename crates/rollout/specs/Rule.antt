@@ -1,7 +1,6 @@
 -- The second-order brake: the committed rows, then the setpoint inside the workspace, each held for its substeps; the slack after each substep.
-use Rattle.std.specs.Prelude.{ℕ, zero, suc, ◌+◌, ◌/◌, List, ltb, Float}
+use Rattle.std.specs.Prelude.{ℕ, zero, suc, ◌+◌, ◌/◌, List, ltb, Float, if◌then◌else◌}
 use Rattle.std.specs.Float.{Format}
-use Rattle.bits.specs.Choice.{if◌then◌else◌}
 use Rattle.checked.specs.Finite.{+0}
 use Rattle.checked.specs.Checked.{Checked, ◌>>=◌, pure, plus}
 use Rattle.fmath.specs.Norm.{dist}

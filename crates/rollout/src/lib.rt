@@ -2,9 +2,8 @@
 // rows and then holds the braking setpoint.
 #![tactic(auto)]
 
-ghost use Rattle.std.specs.Prelude.{◌≡◌, true, List, ℕ, ◌+◌, ◌≤◌, ◌<◌, length, Float};
+ghost use Rattle.std.specs.Prelude.{◌≡◌, true, List, ℕ, ◌+◌, ◌≤◌, ◌<◌, length, Float, if◌then◌else◌};
 ghost use Rattle.std.specs.Float.{binary64};
-ghost use Rattle.bits.specs.Choice.{if◌then◌else◌};
 ghost use Rattle.envelope.specs.Steps.{substeps_of};
 ghost use Rattle.rollout.specs.Plant.{axis, substep};
 ghost use Rattle.course.specs.Plant.{State};

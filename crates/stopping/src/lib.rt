@@ -1,10 +1,9 @@
 // The closed kinds of brake: a stopping radius at the start and at each committed row, and the slack that it leaves.
 #![tactic(auto)]
 
-ghost use Rattle.std.specs.Prelude.{◌≡◌, true, List, ℕ, suc, ◌+◌, ◌≤◌, ◌<◌, length, pos, Float};
+ghost use Rattle.std.specs.Prelude.{◌≡◌, true, List, ℕ, suc, ◌+◌, ◌≤◌, ◌<◌, length, pos, Float, if◌then◌else◌};
 ghost use Rattle.std.specs.Float.{binary64};
 ghost use Rattle.std.specs.Float.Ieee.{of_int};
-ghost use Rattle.bits.specs.Choice.{if◌then◌else◌};
 ghost use Rattle.stopping.specs.Rule.{ratio, ramp, ease, d_stop, radius, commanded, command, step, row_at, gain, reaction, stand, stop_distance, forecast};
 ghost use Rattle.checked.specs.Of.{row_from, reckoned_from};
 ghost use Rattle.stopping.specs.Of.{sum_of, task_of, halted_at, Along, Under, roomy};

@@ -12,7 +12,7 @@ use Rattle.checked.specs.Each.{at}
 use Rattle.checked.specs.Finite.{+0}
 use Rattle.checked.specs.Row.{padded}
 use Rattle.checked.specs.Checked.{pure}
-use Rattle.bits.specs.Choice.{if◌then◌else◌}
+use Rattle.std.specs.Prelude.{if◌then◌else◌}
 use Rattle.checked.proofs.Each.{over_same}
 use Rattle.fmath.specs.Answer.{some_not_finite, some_from, some_lent_not_finite}
 use Rattle.fmath.proofs.Lengths.{dist_same}

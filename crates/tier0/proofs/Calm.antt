@@ -12,7 +12,7 @@ use lib.Dec.{eqb}
 use lib.ListN.{length, replicate, take, drop}
 use lib.Seq.{take-length, take_at, length-take-le, get_or-take}
 use lib.Ieee.{Float, Format, nan, lt}
-use Rattle.bits.specs.Choice.{if◌then◌else◌}
+use Rattle.std.specs.Prelude.{if◌then◌else◌}
 use Rattle.bits.proofs.Bits.{bits_same}
 use Rattle.checked.specs.Each.{at, all, over}
 use Rattle.checked.specs.Finite.{+0, finite, all_finite}

@@ -11,7 +11,7 @@ use lib.Dec.{eqb}
 use lib.ListN.{length, replicate}
 use lib.Ieee.{Float, Format, mul, lt}
 use Rattle.bits.specs.Bits.{bits_where}
-use Rattle.bits.specs.Choice.{if◌then◌else◌}
+use Rattle.std.specs.Prelude.{if◌then◌else◌}
 use Rattle.checked.specs.Each.{at, some, over}
 use Rattle.checked.specs.Finite.{+0, finite}
 use Rattle.checked.specs.Row.{padded}

@@ -4,7 +4,7 @@ use mathlib.Core.Path.{◌≡◌, refl, sym, ◌∙◌}
 use mathlib.Core.Bool.{Bool, true, false, ◌&&◌, false≢true}
 use mathlib.Core.List.{List}
 use lib.Ieee.{Float, Format}
-use Rattle.bits.specs.Choice.{if◌then◌else◌}
+use Rattle.std.specs.Prelude.{if◌then◌else◌}
 use Rattle.checked.specs.Checked.{Checked, pure}
 use Rattle.checked.specs.Each.{some}
 use Rattle.checked.proofs.Each.{and_right, neither, some_none_at}

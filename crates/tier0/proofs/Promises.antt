@@ -9,7 +9,7 @@ use borrow.Author.Tests.{eq-eqb}
 use lib.ListN.{drop, get_or}
 use lib.Seq.{get_or-drop}
 use lib.Ieee.{Float, Format, nan, inf, fin, mul, lt, le, ne, eq, up, down}
-use Rattle.bits.specs.Choice.{if◌then◌else◌}
+use Rattle.std.specs.Prelude.{if◌then◌else◌}
 use Rattle.checked.specs.Each.{at, all, over}
 use Rattle.checked.specs.Finite.{finite}
 use Rattle.checked.specs.Checked.{Checked, pure}

@@ -8,7 +8,7 @@ use native.Mathlib.Omega.{arith}
 use borrow.Author.Tests.{leb-true, not-true}
 use lib.Dec.{leb}
 use lib.Ieee.{Float, Format, lt}
-use Rattle.bits.specs.Choice.{if◌then◌else◌}
+use Rattle.std.specs.Prelude.{if◌then◌else◌}
 use Rattle.checked.specs.Each.{at, some, over}
 use Rattle.checked.specs.Checked.{Checked, pure}
 use Rattle.checked.specs.Row.{padded}

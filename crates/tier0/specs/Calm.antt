@@ -1,9 +1,8 @@
 -- A calm chunk is not touched: what is promised of an accepted call that raises no check which can move a row, when each check is raised, and that ACCEL and JERK move none.
 -- `proofs/Calm.calm` is all of it. It is said of every configuration: of a box and a disc, of none to four zones, and under either choice for an absent camera.
-use Rattle.std.specs.Prelude.{ℕ, ◌-◌, ◌*◌, ◌<◌, ◌≡◌, Bool, true, false, ◌&&◌, List, [], ◌∷◌, ◌++◌, length, take, drop, Float}
+use Rattle.std.specs.Prelude.{ℕ, ◌-◌, ◌*◌, ◌<◌, ◌≡◌, Bool, true, false, ◌&&◌, List, [], ◌∷◌, ◌++◌, length, take, drop, Float, if◌then◌else◌}
 use Rattle.std.specs.Float.{Format}
 use Rattle.std.specs.Float.Ieee.{mul, lt, le}
-use Rattle.bits.specs.Choice.{if◌then◌else◌}
 use Rattle.checked.specs.Each.{at, some}
 use Rattle.checked.specs.Finite.{+0}
 use Rattle.checked.specs.Checked.{pure}

@@ -1,9 +1,8 @@
 -- The rules of the checks for a chunk (R5): trips over the rows as they came, and projection row by row from the projected row before.
-use Rattle.std.specs.Prelude.{ℕ, zero, suc, ◌+◌, ◌-◌, ◌*◌, Bool, false, ◌&&◌, List, eqb, drop, set, replicate, Float}
+use Rattle.std.specs.Prelude.{ℕ, zero, suc, ◌+◌, ◌-◌, ◌*◌, Bool, false, ◌&&◌, List, eqb, drop, set, replicate, Float, if◌then◌else◌}
 use Rattle.std.specs.Int.Bits.{bit_or}
 use Rattle.std.specs.Float.{Format}
 use Rattle.std.specs.Float.Ieee.{lt}
-use Rattle.bits.specs.Choice.{if◌then◌else◌}
 use Rattle.checked.specs.Constants.{2!, 3! }
 use Rattle.checked.specs.Each.{at, all, some, over}
 use Rattle.checked.specs.Finite.{+0}

@@ -1,10 +1,9 @@
 -- What is promised of the answers of `check_chunk` and `check_action`, and what follows from the rules that they cite. `proofs/Zones.promised` is all of it; a chunk that is
 -- not touched has a file of its own, `Calm`. A projected row that passes its check again is not promised.
-use Rattle.std.specs.Prelude.{ℕ, ◌+◌, ◌-◌, ◌*◌, ◌/◌, ◌%◌, ◌≤◌, ◌<◌, min, ◌≡◌, Bool, true, false, not, ◌&&◌, ◌||◌, ◌⊎◌, List, [], ◌∷◌, eqb, length, replicate, Float}
+use Rattle.std.specs.Prelude.{ℕ, ◌+◌, ◌-◌, ◌*◌, ◌/◌, ◌%◌, ◌≤◌, ◌<◌, min, ◌≡◌, Bool, true, false, not, ◌&&◌, ◌||◌, ◌⊎◌, List, [], ◌∷◌, eqb, length, replicate, Float, if◌then◌else◌}
 use Rattle.std.specs.Float.{Format}
 use Rattle.std.specs.Float.Ieee.{mul, lt, le, eq}
 use Rattle.bits.specs.Bits.{bit, bits_where}
-use Rattle.bits.specs.Choice.{if◌then◌else◌}
 use Rattle.checked.specs.Each.{at, all, some, over, Among}
 use Rattle.checked.specs.Row.{padded}
 use Rattle.checked.specs.Finite.{+0, finite}

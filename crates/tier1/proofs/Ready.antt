@@ -9,7 +9,7 @@ use lib.Dec.{eqb}
 use lib.ListN.{length}
 use lib.Ieee.{Float, Format}
 use Rattle.refusal.specs.Order.{Reason, leftover, width, not_finite, ◌when◌, among, given, refusal, ◌or◌, earlier}
-use Rattle.bits.specs.Choice.{if◌then◌else◌}
+use Rattle.std.specs.Prelude.{if◌then◌else◌}
 use Rattle.refusal.specs.Chain.{first_passes, both_pass}
 use Rattle.refusal.proofs.Joint.{given_or, neither_applies}
 use Rattle.fmath.specs.Answer.{some_not_finite}

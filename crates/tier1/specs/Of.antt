@@ -1,8 +1,7 @@
 -- The rules at the declared structs.
-use Rattle.std.specs.Prelude.{ℕ, zero, suc, ◌-◌, Bool, true, false, not, ◌&&◌, ◌||◌, List, [], ◌∷◌, leb, length, replicate, Float}
+use Rattle.std.specs.Prelude.{ℕ, zero, suc, ◌-◌, Bool, true, false, not, ◌&&◌, ◌||◌, List, [], ◌∷◌, leb, length, replicate, Float, if◌then◌else◌}
 use Rattle.std.specs.Float.{Format}
 use Rattle.refusal.specs.Order.{Reason, computed, ◌when◌, among, given, ◌or◌, refused_for}
-use Rattle.bits.specs.Choice.{if◌then◌else◌}
 use Rattle.checked.specs.Each.{table}
 use Rattle.checked.specs.Finite.{+0}
 use Rattle.checked.specs.Checked.{Checked, ◌>>=◌, pure}

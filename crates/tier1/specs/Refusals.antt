@@ -1,7 +1,6 @@
 -- What `features` and `reset` judge, argument by argument; a reason applies to a call where it does to one of its arguments.
-use Rattle.std.specs.Prelude.{ℕ, Bool, false, not, ◌&&◌, ◌||◌, List, [], ◌∷◌, eqb, Float}
+use Rattle.std.specs.Prelude.{ℕ, Bool, false, not, ◌&&◌, ◌||◌, List, [], ◌∷◌, eqb, Float, if◌then◌else◌}
 use Rattle.refusal.specs.Order.{Reason, width, not_finite, ◌when◌, among, ◌or◌}
-use Rattle.bits.specs.Choice.{if◌then◌else◌}
 use Rattle.fmath.specs.Answer.{some_not_finite}
 use Rattle.checked.specs.Finite.{all_finite}
 use Rattle.chunk.specs.Refusals.{chunk_reasons, held_reasons}

@@ -1,8 +1,7 @@
 -- The rules of the features (R6), over the format: each feature in the source's operation order. Whatever is computed is checked.
-use Rattle.std.specs.Prelude.{ℕ, zero, suc, ◌+◌, ◌-◌, ◌*◌, min, Bool, true, false, ◌&&◌, List, [], ◌∷◌, ltb, leb, eqb, pos, length, get_or, drop, Float}
+use Rattle.std.specs.Prelude.{ℕ, zero, suc, ◌+◌, ◌-◌, ◌*◌, min, Bool, true, false, ◌&&◌, List, [], ◌∷◌, ltb, leb, eqb, pos, length, get_or, drop, Float, if◌then◌else◌}
 use Rattle.std.specs.Float.{Format}
 use Rattle.std.specs.Float.Ieee.{neg, of_int}
-use Rattle.bits.specs.Choice.{if◌then◌else◌}
 use Rattle.checked.specs.Constants.{1!, 3!, eps}
 use Rattle.checked.specs.Each.{at, all, table, over}
 use Rattle.checked.specs.Finite.{+0}

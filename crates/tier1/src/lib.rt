@@ -1,9 +1,8 @@
 // Tier 1: the scores that the gate decides on, each larger the less ordinary the motion is.
 #![tactic(auto)]
 
-ghost use Rattle.std.specs.Prelude.{◌≡◌, true, ◌*◌, ◌≤◌};
+ghost use Rattle.std.specs.Prelude.{◌≡◌, true, ◌*◌, ◌≤◌, if◌then◌else◌};
 ghost use Rattle.std.specs.Float.{binary64};
-ghost use Rattle.bits.specs.Choice.{if◌then◌else◌};
 ghost use Rattle.refusal.specs.Order.{refusal, refused_for};
 ghost use Rattle.conformal.specs.Of.{tables};
 ghost use Rattle.tier1.specs.Of.{whole_answer, kept_of, manifest_from, new_rt, held_from, out_of, after_chunk, features_of, reset_of};

@@ -6,7 +6,7 @@ use mathlib.Core.List.{[], ◌∷◌}
 use native.Mathlib.Omega.{arith}
 use lib.Ieee.{Float}
 use Rattle.refusal.specs.Order.{◌when◌, size, not_finite, computed, refusal}
-use Rattle.bits.specs.Choice.{if◌then◌else◌}
+use Rattle.std.specs.Prelude.{if◌then◌else◌}
 use Rattle.fmath.specs.Answer.{number_or}
 use Rattle.checked.specs.Checked.{Checked}
 use Rattle.checked.specs.Finite.{finite}

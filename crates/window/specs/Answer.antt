@@ -1,8 +1,7 @@
 -- The answers: the number of the table (R0) and the values, for each case.
-use Rattle.std.specs.Prelude.{ℕ, Bool, not, ◌||◌, List, [], ◌∷◌, eqb, ltb, Float}
+use Rattle.std.specs.Prelude.{ℕ, Bool, not, ◌||◌, List, [], ◌∷◌, eqb, ltb, Float, if◌then◌else◌}
 use Rattle.std.specs.Float.{Format}
 use Rattle.refusal.specs.Order.{Judged, number_of, ◌when◌, size, not_finite, computed, refusal, refused_for}
-use Rattle.bits.specs.Choice.{if◌then◌else◌}
 use Rattle.fmath.specs.declared.Number.{Number}
 use Rattle.fmath.specs.Answer.{number_or, some_not_finite}
 use Rattle.checked.specs.Finite.{finite, all_finite}

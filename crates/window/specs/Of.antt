@@ -1,7 +1,6 @@
 -- The rules at the declared structs.
-use Rattle.std.specs.Prelude.{ℕ, ◌+◌, ◌%◌, min, Bool, List, eqb, Float, replicate}
+use Rattle.std.specs.Prelude.{ℕ, ◌+◌, ◌%◌, min, Bool, List, eqb, Float, replicate, if◌then◌else◌}
 use Rattle.refusal.specs.Order.{refusal}
-use Rattle.bits.specs.Choice.{if◌then◌else◌}
 use Rattle.checked.specs.Finite.{+0}
 use Rattle.window.specs.declared.Window.{Window}
 use Rattle.window.specs.declared.Trail.{Trail}

@@ -1,5 +1,5 @@
 -- The rules of the window and the trail (R3).
-use Rattle.std.specs.Prelude.{ℕ, ◌+◌, ◌-◌, ◌*◌, ◌%◌, ◌^◌, min, Bool, true, false, ◌||◌, List, [], ◌∷◌, ltb, eqb, Float, length, take, drop}
+use Rattle.std.specs.Prelude.{ℕ, ◌+◌, ◌-◌, ◌*◌, ◌%◌, ◌^◌, min, Bool, true, false, ◌||◌, List, [], ◌∷◌, ltb, eqb, Float, length, take, drop, if◌then◌else◌}
 use Rattle.std.specs.Int.Bits.{bit_and}
 use Rattle.std.specs.Int.Count.{ones}
 use Rattle.std.specs.Float.{Format}
@@ -8,7 +8,6 @@ use Rattle.checked.specs.Finite.{+0}
 use Rattle.checked.specs.Checked.{Checked, pure, sum_from}
 use Rattle.fmath.specs.Norm.{dist}
 use Rattle.refusal.specs.Order.{◌when◌, size, refusal}
-use Rattle.bits.specs.Choice.{if◌then◌else◌}
 
 -- ---- the hit window
 

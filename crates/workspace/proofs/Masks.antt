@@ -15,7 +15,7 @@ use lib.ListN.{length}
 use lib.Signed.{lt_z}
 use lib.Ieee.{Float, Format, lt, eq, ne}
 use Rattle.bits.specs.Bits.{bit, bits_where}
-use Rattle.bits.specs.Choice.{if◌then◌else◌}
+use Rattle.std.specs.Prelude.{if◌then◌else◌}
 use Rattle.bits.proofs.Bits.{bit_where, no_bits, no_bit_past, bits_cut, bits_none, bits_or}
 use Rattle.checked.specs.Each.{at, some}
 use Rattle.checked.proofs.Each.{and_left, and_right, neither, some_none, some_none_at}

@@ -8,7 +8,7 @@ use native.Mathlib.Omega.{arith}
 use borrow.Author.Tests.{le-leb, lt-leb, leb-true}
 use lib.Dec.{T, leb}
 use lib.Ieee.{Float, Format, lt, sub, fits}
-use Rattle.bits.specs.Choice.{if◌then◌else◌}
+use Rattle.std.specs.Prelude.{if◌then◌else◌}
 use Rattle.bits.proofs.Bits.{no_bit_past, bits_same}
 use Rattle.checked.specs.Each.{at, some}
 use Rattle.checked.specs.Finite.{+0}

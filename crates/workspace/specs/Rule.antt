@@ -1,9 +1,8 @@
 -- The workspace, over the format: whether a point is outside, a point moved inside and by which walls, the setpoint at a position, and the slack that is
 -- left. Nothing else reads the shape or the walls, and whatever is computed is checked.
-use Rattle.std.specs.Prelude.{ℕ, zero, suc, ◌-◌, Bool, false, ◌&&◌, ◌||◌, List, [], ◌∷◌, Float}
+use Rattle.std.specs.Prelude.{ℕ, zero, suc, ◌-◌, Bool, false, ◌&&◌, ◌||◌, List, [], ◌∷◌, Float, if◌then◌else◌}
 use Rattle.std.specs.Float.{Format}
 use Rattle.std.specs.Float.Ieee.{lt}
-use Rattle.bits.specs.Choice.{if◌then◌else◌}
 use Rattle.checked.specs.Each.{at, some, over}
 use Rattle.checked.specs.Least.{lesser}
 use Rattle.checked.specs.Row.{eight}

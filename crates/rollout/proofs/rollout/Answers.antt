@@ -1,6 +1,6 @@
 -- `rollout::rollout` meets its contract: the committed rows, then the setpoint that they leave, come along all N entries (`Along`), or the run stops before a setpoint that is
 -- not sound (`Setpoint`).
-use Prim.Native.Nat.{ℕ, ◌+◌, ◌*◌, ◌≤◌}
+use Prim.Native.Nat.{ℕ, ◌+◌, ◌*◌}
 use mathlib.Core.Path.{◌≡◌, refl, sym, ap, ◌∙◌}
 use mathlib.Core.Bool.{true}
 use native.Mathlib.Nat.{add-mul, zero-add}
@@ -10,10 +10,10 @@ use borrow.Author.Tests.{not-true, not-false}
 use lib.ListN.{length}
 use lib.Ieee.{binary64, of_bits, div}
 use Rattle.checked.specs.declared.Row.{Row}
-use Rattle.rollout.specs.Rule.{Task, row_substeps, total, after, forecast}
+use Rattle.rollout.specs.Rule.{row_substeps, total, after, forecast}
 use Rattle.rollout.specs.Of.{task_of, Along, leg_to, AlongLeg, roomy}
 use Rattle.course.specs.declared.Course.{Course}
-use Rattle.course.specs.Of.{left_of, shaped}
+use Rattle.course.specs.Of.{left_of}
 use Rattle.course.proofs.Along.{along_start, along_at}
 use Rattle.course.proofs.Room.{shape_of}
 use Rattle.rollout.proofs.Room.{room_of}
@@ -64,14 +64,14 @@ returns c =
     let sound = not-false _ c.if-not-inside.false in
     -- where the rows leave the plant, the setpoint is made
     let to_setpoint : AlongLeg binary64 (leg_to binary64 t c.inward-inside.result.at) (forecast binary64 t) (after binary64 t) (row_substeps t) c.substeps_in-count.result f.result =
-        λ e j b.
-            let m = made_is binary64 t s.slack.now f.result f.new.slack along_rows c.inward-inside.ensures e in
-            aimed_step binary64 t (row_substeps t + j) _ (aims_setpoint binary64 t (row_substeps t + j) (omega arith) ∙ sym (λ i. record { value = (m i).at; sound = (sym sound ∙ ap (λ (x : Row). x.sound) m) i }))
+    λ e j b.
+    let m = made_is binary64 t s.slack.now f.result f.new.slack along_rows c.inward-inside.ensures e in
+    aimed_step binary64 t (row_substeps t + j) _ (aims_setpoint binary64 t (row_substeps t + j) (omega arith) ∙ sym (λ i. record { value = (m i).at; sound = (sym sound ∙ ap (λ (x : Row). x.sound) m) i }))
     in
     let along_whole : Along binary64 t s.slack.now (total t) c.hold.result c.hold.new.slack =
-        along_at (forecast binary64 t) (after binary64 t) s.slack.now (total t) c.hold.result c.hold.new.slack (row_substeps t + c.substeps_in-count.result)
-        (ap (λ (n : ℕ). row_substeps t + n) c.substeps_in-count.ensures ∙ whole s.c)
-        (c.hold.ensures.1 (forecast binary64 t) (after binary64 t) s.slack.now (row_substeps t) to_setpoint along_rows)
+    along_at (forecast binary64 t) (after binary64 t) s.slack.now (total t) c.hold.result c.hold.new.slack (row_substeps t + c.substeps_in-count.result)
+    (ap (λ (n : ℕ). row_substeps t + n) c.substeps_in-count.ensures ∙ whole s.c)
+    (c.hold.ensures.1 (forecast binary64 t) (after binary64 t) s.slack.now (row_substeps t) to_setpoint along_rows)
     in
     let all = all_come binary64 t s.slack.now f.result f.new.slack along_rows c.inward-inside.ensures sound c.hold.result c.hold.new.slack along_whole in
     rw (sym c.roomy.ensures ∙ c.if-not-roomy.false) (record { value = all.0; slack_after = all.1 })

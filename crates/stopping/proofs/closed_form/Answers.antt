@@ -1,18 +1,14 @@
 -- `stopping::closed_form` meets its contract: the start, then the committed rows, come along all the entries (`Along`).
-use Prim.Native.Nat.{suc, ◌<◌}
+use Prim.Native.Nat.{suc}
 use mathlib.Core.Path.{◌≡◌, refl, sym, ap, ◌∙◌}
-use mathlib.Core.Bool.{true}
 use native.Mathlib.Omega.{arith}
-use borrow.Author.Rules.{rules}
-use borrow.Author.Tests.{not-true, not-false}
-use lib.ListN.{length}
 use lib.Ieee.{binary64, of_bits, div}
 use Rattle.course.proofs.Along.{run_is, written_is}
 use Rattle.checked.specs.declared.Reckoned.{Reckoned}
-use Rattle.stopping.specs.Rule.{Task, stand, reaction, gain, forecast}
-use Rattle.stopping.specs.Of.{task_of, Along, roomy}
+use Rattle.stopping.specs.Rule.{stand, reaction, gain, forecast}
+use Rattle.stopping.specs.Of.{task_of, Along}
 use Rattle.checked.specs.Of.{reckoned_from}
-use Rattle.course.specs.Of.{left_of, shaped}
+use Rattle.course.specs.Of.{left_of}
 use Rattle.course.proofs.Room.{shape_of}
 use Rattle.stopping.proofs.Room.{room_of}
 use Rattle.stopping.proofs.closed_form.Goals as goal
@@ -38,8 +34,8 @@ returns c =
     let pull : reckoned_from (gain binary64 t) ≡ c.ratio-g.result = sym c.ratio-g.ensures in
     let delay : reckoned_from (reaction binary64 t) ≡ c.reaction-react.result = sym c.reaction-react.ensures in
     let a : Along binary64 t s.slack.now (suc (left_of s.c).0) c.follow.result c.follow.new.slack =
-        c.follow.ensures.1 s.react_ticks s.start s.slack.now
-        (record { pull = ap (λ (x : Reckoned). x.value) pull; delay = ap (λ (x : Reckoned). x.value) delay })
-        (c.begin-first.ensures.1 s.react_ticks s.rows.now pull delay)
+    c.follow.ensures.1 s.react_ticks s.start s.slack.now
+    (record { pull = ap (λ (x : Reckoned). x.value) pull; delay = ap (λ (x : Reckoned). x.value) delay })
+    (c.begin-first.ensures.1 s.react_ticks s.rows.now pull delay)
     in
     rw (sym c.roomy.ensures ∙ c.if-not-roomy.false) (record { value = run_is (forecast binary64 t) (stand binary64 t) s.slack.now _ _ a; slack_after = written_is (forecast binary64 t) (stand binary64 t) s.slack.now _ _ a })

@@ -10,7 +10,7 @@ use borrow.Author.Tests.{ne_eqb}
 use lib.Dec.{eqb}
 use lib.ListN.{length, get_or, drop}
 use Rattle.refusal.specs.Order.{Reason, number_of, order, first_of, ◌or◌, named, earlier}
-use Rattle.bits.specs.Choice.{if◌then◌else◌}
+use Rattle.std.specs.Prelude.{if◌then◌else◌}
 use Rattle.refusal.proofs.Refusal.earlier.Goals as goal
 
 abbrev numbers : List Reason → List ℕ

@@ -5,7 +5,7 @@ use borrow.Author.Tests.{eq-eqb, ne_eqb}
 use lib.Dec.{eqb}
 use Rattle.refusal.specs.declared.Refusal.{Refusal}
 use Rattle.refusal.specs.Order.{refusal, refused_for}
-use Rattle.bits.specs.Choice.{if◌then◌else◌}
+use Rattle.std.specs.Prelude.{if◌then◌else◌}
 use Rattle.window.specs.declared.Trail.{Trail}
 use Rattle.window.specs.declared.Emptiness.{Emptiness}
 use Rattle.window.specs.declared.Emptiness.TheVariants as emptiness
