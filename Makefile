@@ -4,7 +4,7 @@
 PREFIX ?= /usr/local
 
 help:
-	@echo 'make test              passes all tests, from nothing: half an hour on two cores'
+	@echo 'make test              passes all tests; what rt ci passed on this machine is not proved again'
 	@echo 'make check [CRATE=..]  proves one crate and what it stands on, or all, where they changed'
 	@echo 'make cards             runs the card program on the shipped cards'
 	@echo 'make lib               makes the static library for this machine, where something changed'
@@ -16,7 +16,7 @@ test:
 	@tools/test
 
 check:
-	@bash -o pipefail -c 'rt check $(CRATE) 2>&1 | tools/progress'
+	@bash -o pipefail -c '{ $(if $(CRATE),cd crates/$(CRATE) && rt check,rt all check); } 2>&1 | tools/progress'
 
 cards:
 	@tools/cards
@@ -31,4 +31,4 @@ bench: lib
 	@cd tests && cargo run --offline --locked --quiet --release --package bench
 
 clean:
-	rm -rf target tests/target bindings/rust/target
+	rm -rf target tests/target bindings/rust/target crates/*/out

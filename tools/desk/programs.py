@@ -9,7 +9,7 @@ ROOT = os.path.dirname(os.path.dirname(os.path.dirname(os.path.realpath(__file__
 
 def run(name, records):
     """What a program writes for records, as text; Trouble where it is not there or breaks off."""
-    if not os.path.exists(os.path.join(ROOT, 'target', 'bin', name)):
+    if not os.path.exists(os.path.join(ROOT, 'crates', name, 'out', name)):
         raise Trouble(f'tools/card: the program {name} is not built: run make cards')
     try:
         done = subprocess.run([os.path.join(ROOT, 'tools', 'program'), name], input=records, capture_output=True)

@@ -10,8 +10,7 @@ ghost use Rattle.lictor.specs.Asked.{sizes_asked};
 
 use chunk::Header;
 
-#[unsafe(no_mangle)]
-pub extern "C" fn lictor_brake_feasible(
+pub fn lictor_brake_feasible(
     numbers: &[f64; 53],
     counts: &[u64; 35],
     center: &[f64; 192],
@@ -46,8 +45,7 @@ pub extern "C" fn lictor_brake_feasible(
     crate::answer::put_forecast(a, marks, distances, place)
 }
 
-#[unsafe(no_mangle)]
-pub extern "C" fn lictor_run_towards(
+pub fn lictor_run_towards(
     numbers: &[f64; 53],
     counts: &[u64; 35],
     center: &[f64; 192],
@@ -72,8 +70,7 @@ pub extern "C" fn lictor_run_towards(
     crate::answer::put_ran(run, count, margin, place)
 }
 
-#[unsafe(no_mangle)]
-pub extern "C" fn lictor_brake_action(
+pub fn lictor_brake_action(
     numbers: &[f64; 53],
     counts: &[u64; 35],
     center: &[f64; 192],
@@ -95,8 +92,7 @@ pub extern "C" fn lictor_brake_action(
     crate::answer::put_sent(a, walls)
 }
 
-#[unsafe(no_mangle)]
-pub extern "C" fn lictor_hold_action(
+pub fn lictor_hold_action(
     numbers: &[f64; 53],
     counts: &[u64; 35],
     center: &[f64; 192],

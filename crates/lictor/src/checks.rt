@@ -9,8 +9,7 @@ ghost use Rattle.lictor.specs.Asked.{sizes_asked};
 
 use chunk::Header;
 
-#[unsafe(no_mangle)]
-pub extern "C" fn lictor_check_chunk(
+pub fn lictor_check_chunk(
     numbers: &[f64; 53],
     counts: &[u64; 35],
     center: &[f64; 192],
@@ -43,8 +42,7 @@ pub extern "C" fn lictor_check_chunk(
     crate::answer::put_check(a, marks, speed)
 }
 
-#[unsafe(no_mangle)]
-pub extern "C" fn lictor_check_action(
+pub fn lictor_check_action(
     numbers: &[f64; 53],
     counts: &[u64; 35],
     center: &[f64; 192],

@@ -1,4 +1,4 @@
-// The static library: the guard's entries for C, on numbers and slices. include/lictor.h says of each what it gives and refuses.
+// The guard's entries for C, on numbers and slices. crates/lictor_c exports each, and include/lictor.h says of each what it gives and refuses.
 #![tactic(auto)]
 
 ghost use Rattle.std.specs.Prelude.{◌≡◌, not, eqb, length};
@@ -36,8 +36,7 @@ pub mod scoring;
 
 // Whether the processor computes as the format says, of 1 and the least normal number. They are arguments so that nothing of it can be
 // computed before the call.
-#[unsafe(no_mangle)]
-pub extern "C" fn lictor_environment(one: f64, least: f64) -> u64
+pub fn lictor_environment(one: f64, least: f64) -> u64
     ensures { result ≡ environment binary64 one least }
 {
     let up = one + one / 9007199254740992.0;
@@ -48,29 +47,25 @@ pub extern "C" fn lictor_environment(one: f64, least: f64) -> u64
 
 // ---- fmath (R1)
 
-#[unsafe(no_mangle)]
-pub extern "C" fn lictor_min(a: f64, b: f64) -> f64
+pub fn lictor_min(a: f64, b: f64) -> f64
     ensures { result ≡ lesser a b }
 {
     fmath::min(a, b)
 }
 
-#[unsafe(no_mangle)]
-pub extern "C" fn lictor_max(a: f64, b: f64) -> f64
+pub fn lictor_max(a: f64, b: f64) -> f64
     ensures { result ≡ greater a b }
 {
     fmath::max(a, b)
 }
 
-#[unsafe(no_mangle)]
-pub extern "C" fn lictor_clamp(x: f64, lo: f64, hi: f64) -> f64
+pub fn lictor_clamp(x: f64, lo: f64, hi: f64) -> f64
     ensures { result ≡ clamping.clamped x lo hi }
 {
     fmath::clamp(x, lo, hi).value
 }
 
-#[unsafe(no_mangle)]
-pub extern "C" fn lictor_clamp_side(x: f64, lo: f64, hi: f64, side: &mut i64) -> f64
+pub fn lictor_clamp_side(x: f64, lo: f64, hi: f64, side: &mut i64) -> f64
     ensures { (result ≡ clamping.clamped x lo hi) × (side.new ≡ clamping.side x lo hi) }
 {
     let c = fmath::clamp(x, lo, hi);
@@ -79,22 +74,19 @@ pub extern "C" fn lictor_clamp_side(x: f64, lo: f64, hi: f64, side: &mut i64) ->
     c.value
 }
 
-#[unsafe(no_mangle)]
-pub extern "C" fn lictor_sqrt(x: f64, root: &mut f64) -> u64
+pub fn lictor_sqrt(x: f64, root: &mut f64) -> u64
     ensures { NumberGiven (sqrt_answer binary64 x) result root.old root.new }
 {
     answer::put_number(fmath::sqrt(x), root)
 }
 
-#[unsafe(no_mangle)]
-pub extern "C" fn lictor_norm(v: &[f64], n: usize, norm: &mut f64) -> u64
+pub fn lictor_norm(v: &[f64], n: usize, norm: &mut f64) -> u64
     ensures { NumberGiven (norm_answer binary64 v.now n) result norm.old norm.new }
 {
     answer::put_number(fmath::norm(v, n), norm)
 }
 
-#[unsafe(no_mangle)]
-pub extern "C" fn lictor_dist(a: &[f64], b: &[f64], n: usize, dist: &mut f64) -> u64
+pub fn lictor_dist(a: &[f64], b: &[f64], n: usize, dist: &mut f64) -> u64
     ensures { NumberGiven (dist_answer binary64 a.now b.now n) result dist.old dist.new }
 {
     answer::put_number(fmath::dist(a, b, n), dist)
@@ -102,8 +94,7 @@ pub extern "C" fn lictor_dist(a: &[f64], b: &[f64], n: usize, dist: &mut f64) ->
 
 // ---- chunk (R2)
 
-#[unsafe(no_mangle)]
-pub extern "C" fn lictor_fill(
+pub fn lictor_fill(
     numbers: &mut [f64; 512],
     header: &mut [u64; 6],
     seq: u32,
@@ -127,14 +118,7 @@ pub extern "C" fn lictor_fill(
     number as u64
 }
 
-#[unsafe(no_mangle)]
-pub extern "C" fn lictor_action(
-    rows: &[f64],
-    horizon: u16,
-    dim: u16,
-    i: usize,
-    row: &mut [f64],
-) -> usize
+pub fn lictor_action(rows: &[f64], horizon: u16, dim: u16, i: usize, row: &mut [f64]) -> usize
     ensures { (result ≡ length (row_of rows.now horizon dim i)) × (row.new ≡ row_set row.old 1 dim 0 (row_of rows.now horizon dim i)) }
 {
     let found = chunk::action(rows, horizon, dim, i);
@@ -142,20 +126,13 @@ pub extern "C" fn lictor_action(
     found.len()
 }
 
-#[unsafe(no_mangle)]
-pub extern "C" fn lictor_set_row(rows: &mut [f64], horizon: u16, dim: u16, i: usize, row: &[f64])
+pub fn lictor_set_row(rows: &mut [f64], horizon: u16, dim: u16, i: usize, row: &[f64])
     ensures { rows.new ≡ row_set rows.old horizon dim i row.now }
 {
     chunk::set_row(rows, horizon, dim, i, row)
 }
 
-#[unsafe(no_mangle)]
-pub extern "C" fn lictor_held_rows(
-    numbers: &[f64; 512],
-    horizon: u16,
-    dim: u16,
-    filled: u64,
-) -> usize
+pub fn lictor_held_rows(numbers: &[f64; 512], horizon: u16, dim: u16, filled: u64) -> usize
     ensures { result ≡ length (held_rows numbers.now horizon dim (not (eqb filled 0))) }
 {
     chunk::held_rows(numbers, horizon, dim, filled != 0).len()
@@ -163,15 +140,13 @@ pub extern "C" fn lictor_held_rows(
 
 // ---- window (R3)
 
-#[unsafe(no_mangle)]
-pub extern "C" fn lictor_mask(n: u8, mask: &mut u64) -> u64
+pub fn lictor_mask(n: u8, mask: &mut u64) -> u64
     ensures { MaskGiven (mask_of n) result mask.old mask.new }
 {
     answer::put_mask(window::mask(n), mask)
 }
 
-#[unsafe(no_mangle)]
-pub extern "C" fn lictor_push(bits: u64, hit: u64, mask: u64) -> u64
+pub fn lictor_push(bits: u64, hit: u64, mask: u64) -> u64
     ensures { result ≡ pushed bits (not (eqb hit 0)) mask }
 {
     let w = Window { bits };
@@ -179,21 +154,14 @@ pub extern "C" fn lictor_push(bits: u64, hit: u64, mask: u64) -> u64
     next.bits
 }
 
-#[unsafe(no_mangle)]
-pub extern "C" fn lictor_hits(bits: u64) -> u64
+pub fn lictor_hits(bits: u64) -> u64
     ensures { result ≡ hits_in bits }
 {
     let w = Window { bits };
     w.hits() as u64
 }
 
-#[unsafe(no_mangle)]
-pub extern "C" fn lictor_trail_push(
-    numbers: &mut [f64; 256],
-    marks: &mut [u64; 2],
-    p: &[f64],
-    d: usize,
-) -> u64
+pub fn lictor_trail_push(numbers: &mut [f64; 256], marks: &mut [u64; 2], p: &[f64], d: usize) -> u64
     ensures { RecordedGiven (push_of (trail_of numbers.old marks.old) p.now d) result numbers.old numbers.new marks.old marks.new }
 {
     let t = layout::trails::trail_of(numbers, marks);
@@ -201,8 +169,7 @@ pub extern "C" fn lictor_trail_push(
     answer::put_recorded(pushed, numbers, marks)
 }
 
-#[unsafe(no_mangle)]
-pub extern "C" fn lictor_trail_clear(numbers: &mut [f64; 256], marks: &mut [u64; 2]) -> u64
+pub fn lictor_trail_clear(numbers: &mut [f64; 256], marks: &mut [u64; 2]) -> u64
     ensures { RecordedGiven (clear_of (trail_of numbers.old marks.old)) result numbers.old numbers.new marks.old marks.new }
 {
     let t = layout::trails::trail_of(numbers, marks);
@@ -210,8 +177,7 @@ pub extern "C" fn lictor_trail_clear(numbers: &mut [f64; 256], marks: &mut [u64;
     answer::put_recorded(cleared, numbers, marks)
 }
 
-#[unsafe(no_mangle)]
-pub extern "C" fn lictor_trail_net(
+pub fn lictor_trail_net(
     numbers: &[f64; 256],
     marks: &[u64; 2],
     d: usize,
@@ -225,8 +191,7 @@ pub extern "C" fn lictor_trail_net(
     answer::put_number(found, net)
 }
 
-#[unsafe(no_mangle)]
-pub extern "C" fn lictor_trail_path(
+pub fn lictor_trail_path(
     numbers: &[f64; 256],
     marks: &[u64; 2],
     d: usize,
@@ -240,8 +205,7 @@ pub extern "C" fn lictor_trail_path(
     answer::put_number(found, path)
 }
 
-#[unsafe(no_mangle)]
-pub extern "C" fn lictor_trail_len(numbers: &[f64; 256], marks: &[u64; 2], len: &mut u64) -> u64
+pub fn lictor_trail_len(numbers: &[f64; 256], marks: &[u64; 2], len: &mut u64) -> u64
     ensures { CountGiven (count_of (trail_of numbers.now marks.now)) result len.old len.new }
 {
     let t = layout::trails::trail_of(numbers, marks);
@@ -249,12 +213,7 @@ pub extern "C" fn lictor_trail_len(numbers: &[f64; 256], marks: &[u64; 2], len: 
     answer::put_count(held, len)
 }
 
-#[unsafe(no_mangle)]
-pub extern "C" fn lictor_trail_is_empty(
-    numbers: &[f64; 256],
-    marks: &[u64; 2],
-    empty: &mut u64,
-) -> u64
+pub fn lictor_trail_is_empty(numbers: &[f64; 256], marks: &[u64; 2], empty: &mut u64) -> u64
     ensures { EmptinessGiven (emptiness_of (trail_of numbers.now marks.now)) result empty.old empty.new }
 {
     let t = layout::trails::trail_of(numbers, marks);
@@ -264,8 +223,7 @@ pub extern "C" fn lictor_trail_is_empty(
 
 // ---- envelope (R4)
 
-#[unsafe(no_mangle)]
-pub extern "C" fn lictor_derive(
+pub fn lictor_derive(
     numbers: &[f64; 53],
     counts: &[u64; 35],
     center: &[f64; 192],
@@ -293,8 +251,7 @@ fn calibration(tau: f64, mask: u32, n_terms: u8, terms: &[u32; 8]) -> Calibratio
     Calibration { mask, gate, tau }
 }
 
-#[unsafe(no_mangle)]
-pub extern "C" fn lictor_standardise(
+pub fn lictor_standardise(
     center: &[f64; 192],
     scale: &[f64; 192],
     tau: f64,
@@ -314,8 +271,7 @@ pub extern "C" fn lictor_standardise(
     answer::put_scored(fits, standardised, scores, marks)
 }
 
-#[unsafe(no_mangle)]
-pub extern "C" fn lictor_aggregate(
+pub fn lictor_aggregate(
     center: &[f64; 192],
     scale: &[f64; 192],
     tau: f64,
@@ -334,8 +290,7 @@ pub extern "C" fn lictor_aggregate(
     answer::put_scored(fits, aggregated, scores, marks)
 }
 
-#[unsafe(no_mangle)]
-pub extern "C" fn lictor_trip(
+pub fn lictor_trip(
     center: &[f64; 192],
     scale: &[f64; 192],
     tau: f64,
@@ -355,8 +310,7 @@ pub extern "C" fn lictor_trip(
     answer::put_verdict(fits, verdict, trips)
 }
 
-#[unsafe(no_mangle)]
-pub extern "C" fn lictor_time_bin(t: u32, horizon_ticks: u32, bin: &mut u64) -> u64
+pub fn lictor_time_bin(t: u32, horizon_ticks: u32, bin: &mut u64) -> u64
     ensures { BinGiven (time_bin_of t horizon_ticks) result bin.old bin.new }
 {
     answer::put_bin(conformal::time_bin(t, horizon_ticks), bin)

@@ -13,8 +13,7 @@ use chunk::Header;
 use conformal::Scores;
 use tier1::Tier1Rt;
 
-#[unsafe(no_mangle)]
-pub extern "C" fn lictor_features(
+pub fn lictor_features(
     numbers: &[f64; 53],
     counts: &[u64; 35],
     center: &[f64; 192],
@@ -75,8 +74,7 @@ pub extern "C" fn lictor_features(
     number
 }
 
-#[unsafe(no_mangle)]
-pub extern "C" fn lictor_tier1_new(
+pub fn lictor_tier1_new(
     before: &mut [f64; 512],
     header: &mut [u64; 6],
     trail: &mut [f64; 256],
@@ -93,8 +91,7 @@ pub extern "C" fn lictor_tier1_new(
     layout::states::put_held(features, rt.have_prev, rt.held_valid, held, kept);
 }
 
-#[unsafe(no_mangle)]
-pub extern "C" fn lictor_tier1_reset(
+pub fn lictor_tier1_reset(
     before: &mut [f64; 512],
     header: &mut [u64; 6],
     trail: &mut [f64; 256],
