@@ -1,6 +1,6 @@
 -- `brake::closed` meets its contract: the run is the forecast's, and so is the stop distance where the run is sound.
 use mathlib.Core.Path.{◌≡◌, sym, ap, ◌∙◌}
-use mathlib.Core.Bool.{true, false≢true}
+use mathlib.Core.Bool.{false≢true}
 use lib.Ieee.{binary64}
 use Rattle.course.specs.declared.Run.{Run}
 use Rattle.course.specs.Plant.{State}

@@ -1,5 +1,4 @@
 -- `brake::slowed` meets its contract, coordinate by coordinate.
-use Prim.Native.Nat.{◌-◌}
 use mathlib.Core.Path.{◌≡◌, refl}
 use native.Mathlib.Omega.{arith}
 use lib.ListN.{replicate}
