@@ -95,7 +95,7 @@ fn run<R: io::Read, W: io::Write>(
     ensures all { end_of result ≡ End.InputEnded → IsAnswered (R.remaining from.old) (W.contents to.old) (W.contents to.new) }
 {
     let mut t = turn(from, to, input, out, 1);
-    while goes_on(t, input.len()) {
+    'turns: while goes_on(t, input.len()) {
         t = turn(from, to, input, out, t.answer.next);
     }
     t

@@ -1,6 +1,5 @@
 -- `brake::brake_feasible` meets its contract: refused by what is judged before anything is computed, or the forecast's own outcome.
 use mathlib.Core.Path.{sym, ap, ◌∙◌}
-use borrow.Author.Rules.{rules}
 use lib.ListN.{length}
 use lib.Ieee.{binary64}
 use Rattle.conformal.specs.Of.{tables}

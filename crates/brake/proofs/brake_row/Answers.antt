@@ -5,7 +5,6 @@ use Rattle.workspace.specs.Of.{walls_of}
 use Rattle.brake.specs.Rule.{brake_row}
 use Rattle.checked.specs.Of.{row_from}
 use Rattle.brake.proofs.Sending.{position_brakes, position_of}
-use borrow.Author.Rules.{rules}
 use Rattle.brake.proofs.brake_row.Goals as goal
 
 pub returns-in-JointVelocity : goal.returns-in-JointVelocity

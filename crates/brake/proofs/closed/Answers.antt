@@ -1,14 +1,13 @@
 -- `brake::closed` meets its contract: the run is the forecast's, and so is the stop distance where the run is sound.
 use mathlib.Core.Path.{◌≡◌, sym, ap, ◌∙◌}
-use mathlib.Core.Bool.{true, false≢true}
-use borrow.Author.Rules.{rules}
+use mathlib.Core.Bool.{false≢true}
 use lib.Ieee.{binary64}
 use Rattle.course.specs.declared.Run.{Run}
 use Rattle.course.specs.Plant.{State}
 use Rattle.course.specs.Forecast.{fine}
 use Rattle.course.specs.Of.{state_of, run_of}
 use Rattle.checked.specs.Of.{reckoned_from}
-use Rattle.stopping.specs.Rule.{Task, reaction, stand, stop_distance, forecast}
+use Rattle.stopping.specs.Rule.{reaction, stand, stop_distance, forecast}
 use Rattle.stopping.specs.Of.{task_of}
 use Rattle.course.proofs.Leading.{leading_whole}
 use Rattle.brake.specs.Of.{Settles}

@@ -1,5 +1,4 @@
 -- `brake::course_of` meets its contract: each field is the configuration's.
-use borrow.Author.Rules.{rules}
 use Rattle.brake.proofs.course_of.Goals as goal
 
 pub returns : goal.returns

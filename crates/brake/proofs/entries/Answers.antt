@@ -1,6 +1,5 @@
 -- `brake::entries` meets its contract: by the kind of brake.
 use native.Mathlib.Numerals.{add-one}
-use borrow.Author.Rules.{rules}
 use Rattle.brake.proofs.ByKind.{other_count, other_of}
 use Rattle.brake.proofs.entries.Goals as goal
 

@@ -1,6 +1,5 @@
 -- `brake::forecast` meets its contract: by the kind of brake, at the walls, the course and the start of the configuration.
 use mathlib.Core.Path.{ap, ◌∙◌}
-use borrow.Author.Rules.{rules}
 use lib.ListN.{length}
 use lib.Ieee.{binary64}
 use Rattle.course.specs.Forecast.{Forecast, written_of}

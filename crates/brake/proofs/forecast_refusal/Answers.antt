@@ -1,6 +1,5 @@
 -- `brake::forecast_refusal` meets its contract: the configuration's number, then the sizes', then that of what is lent.
 use lib.Ieee.{binary64}
-use borrow.Author.Rules.{rules}
 use Rattle.brake.proofs.Judged.{before_is}
 use Rattle.brake.proofs.forecast_refusal.Goals as goal
 

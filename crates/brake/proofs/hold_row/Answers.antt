@@ -5,7 +5,6 @@ use Rattle.checked.specs.Of.{row_from}
 use Rattle.workspace.specs.Of.{walls_of}
 use Rattle.brake.specs.Rule.{hold_row}
 use Rattle.brake.proofs.Sending.{position_holds, position_of}
-use borrow.Author.Rules.{rules}
 use Rattle.brake.proofs.hold_row.Goals as goal
 
 pub returns-in-JointVelocity : goal.returns-in-JointVelocity

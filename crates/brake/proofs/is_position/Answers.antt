@@ -4,7 +4,6 @@ use mathlib.Core.Bool.{true}
 use Rattle.envelope.specs.declared.ActionKind.{ActionKind}
 use Rattle.brake.specs.Rule.{is_position}
 use Rattle.brake.proofs.Sending.{by_position, position_of}
-use borrow.Author.Rules.{rules}
 use Rattle.brake.proofs.is_position.Goals as goal
 
 pub returns-in_default : goal.returns-in_default

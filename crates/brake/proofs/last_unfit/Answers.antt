@@ -6,7 +6,6 @@ use lib.Ieee.{Float}
 use Rattle.envelope.specs.declared.Gripper.{Gripper}
 use Rattle.envelope.specs.declared.Gripper.TheVariants.{ToZero, LastCommand}
 use Rattle.brake.specs.Answer.{last_unfit}
-use borrow.Author.Rules.{rules}
 use Rattle.brake.proofs.last_unfit.Goals as goal
 
 pub returns-in-LastCommand : goal.returns-in-LastCommand

@@ -1,6 +1,5 @@
 -- `brake::law_of` meets its contract: by the kind of brake.
 use mathlib.Core.Path.{sym, ap}
-use borrow.Author.Rules.{rules}
 use Rattle.brake.specs.Towards.{gains_in}
 use Rattle.brake.proofs.law_of.Goals as goal
 

@@ -1,7 +1,6 @@
 -- `brake::lent_refusal` meets its contract, by its three tests.
 use mathlib.Core.Path.{◌∙◌}
 use lib.Ieee.{binary64}
-use borrow.Author.Rules.{rules}
 use Rattle.brake.proofs.Judged.{brief_is}
 use Rattle.brake.proofs.lent_refusal.Goals as goal
 

@@ -6,7 +6,6 @@ use lib.Ieee.{binary64, of_bits}
 use Rattle.fmath.specs.Norm.{norm}
 use Rattle.brake.specs.Rule.{ramp}
 use Rattle.brake.proofs.Told.{ramp_tells}
-use borrow.Author.Rules.{rules}
 use Rattle.brake.proofs.ramp.Goals as goal
 
 pub returns : goal.returns

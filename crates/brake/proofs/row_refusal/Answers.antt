@@ -4,7 +4,6 @@ use mathlib.Core.Path.{◌≡◌, ap, ◌∙◌}
 use mathlib.Core.Bool.{Bool, ◌&&◌, ◌||◌}
 use lib.Dec.{ltb}
 use lib.Ieee.{binary64}
-use borrow.Author.Rules.{rules}
 use Rattle.std.specs.Prelude.{if◌then◌else◌}
 use Rattle.refusal.specs.Order.{refusal}
 use Rattle.refusal.specs.Chain.{joined}

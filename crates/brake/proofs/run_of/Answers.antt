@@ -1,6 +1,5 @@
 -- `brake::run_of` meets its contract: the run is that of the configuration's leg, and has room.
 use lib.Ieee.{binary64}
-use borrow.Author.Rules.{rules}
 use Rattle.brake.proofs.Towards.{run_is, written_is}
 use Rattle.brake.proofs.run_of.Goals as goal
 

@@ -4,7 +4,6 @@ use mathlib.Core.Bool.{Bool, ◌||◌}
 use lib.Dec.{ltb}
 use lib.ListN.{length}
 use lib.Ieee.{binary64}
-use borrow.Author.Rules.{rules}
 use Rattle.brake.specs.Towards.{run_short}
 use Rattle.brake.proofs.Towards.{before_is}
 use Rattle.brake.proofs.run_refusal.Goals as goal

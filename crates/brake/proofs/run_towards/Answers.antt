@@ -1,6 +1,6 @@
 -- `brake::run_towards` meets its contract: refused by what is judged before anything is computed, refused by a computed number with its place, or run through.
 use Prim.Native.Nat.{◌≤◌}
-use mathlib.Core.Path.{◌≡◌, sym, ap, ◌∙◌}
+use mathlib.Core.Path.{sym, ap, ◌∙◌}
 use native.Mathlib.Omega.{arith}
 use borrow.Author.Rules.{rules}
 use borrow.Author.Tests.{not-true, not-false}
@@ -9,9 +9,8 @@ use lib.Ieee.{binary64}
 use Rattle.checked.specs.Each.{at, over}
 use Rattle.conformal.specs.Of.{tables}
 use Rattle.envelope.proofs.Accepted.{compiled_number, compiled_derived}
-use Rattle.refusal.specs.Order.{refusal}
-use Rattle.brake.specs.Of.{workspace_from, Lends}
-use Rattle.brake.proofs.Towards.{before, lends, refused, done-within, failed, ran-through}
+use Rattle.brake.specs.Of.{workspace_from}
+use Rattle.brake.proofs.Towards.{lends, refused, done-within, failed, ran-through}
 use Rattle.brake.proofs.run_towards.Goals as goal
 
 pub returns-then-number-ne0 : goal.returns-then-number-ne0

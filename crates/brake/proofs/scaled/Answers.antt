@@ -2,7 +2,6 @@
 use borrow.Author.Tests.{lt-ltb, le-ltb}
 use lib.Ieee.{of_bits}
 use Rattle.brake.specs.Rule.{scaled_at}
-use borrow.Author.Rules.{rules}
 use Rattle.brake.proofs.scaled.Goals as goal
 
 pub returns-then-j-vel : goal.returns-then-j-vel

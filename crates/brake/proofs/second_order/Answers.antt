@@ -3,7 +3,6 @@
 use Rattle.checked.specs.declared.Reckoned.{Reckoned}
 use mathlib.Core.Path.{◌≡◌, sym, ap, ◌∙◌}
 use mathlib.Core.Bool.{Bool, true, false, ◌&&◌}
-use borrow.Author.Rules.{rules}
 use lib.Ieee.{binary64}
 use Rattle.course.specs.declared.Run.{Run}
 use Rattle.course.specs.Plant.{State}

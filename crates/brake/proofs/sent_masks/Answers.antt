@@ -1,7 +1,6 @@
 -- `brake::sent_masks` meets its contract: by the kind of action.
 use mathlib.Core.Path.{ap, ◌∙◌}
 use mathlib.Core.Logic.{inl, inr}
-use borrow.Author.Rules.{rules}
 use Rattle.workspace.specs.Of.{walls_of}
 use Rattle.workspace.specs.Rule.{setpoint_masks}
 use Rattle.brake.specs.Rule.{live}

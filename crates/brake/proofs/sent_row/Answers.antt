@@ -1,11 +1,9 @@
 -- `brake::sent_row` meets its contract: the row itself, or the last command's numbers one after another past pos_dim.
-use Prim.Native.Nat.{◌-◌, ◌≤◌, min}
+use Prim.Native.Nat.{◌≤◌}
 use mathlib.Core.Path.{◌≡◌, refl, sym, ap, ◌∙◌}
-use mathlib.Core.Bool.{Bool, true, false, not, ◌&&◌}
+use mathlib.Core.Bool.{Bool, true, false, ◌&&◌}
 use mathlib.Core.List.{List}
 use native.Mathlib.Omega.{arith}
-use borrow.Author.Rules.{rules}
-use borrow.Author.Tests.{not-true, not-false}
 use lib.Ieee.{Float}
 use Rattle.checked.specs.declared.Row.{Row}
 use Rattle.checked.proofs.Each.{◌&&≡◌, and_left, over_more}

@@ -1,5 +1,4 @@
 -- `brake::settled` meets its contract: the place after the entries, or the forecast's numbers.
-use borrow.Author.Rules.{rules}
 use lib.Ieee.{of_bits}
 use Rattle.brake.proofs.Outcome.{fails, passes}
 use Rattle.brake.proofs.settled.Goals as goal

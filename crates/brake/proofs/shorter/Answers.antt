@@ -1,6 +1,5 @@
 -- `brake::shorter` meets its contract: the factor, times dt, then each coordinate times it.
 use Rattle.brake.specs.Rule.{shorter}
-use borrow.Author.Rules.{rules}
 use Rattle.brake.proofs.shorter.Goals as goal
 
 pub returns : goal.returns

@@ -1,8 +1,6 @@
 -- `brake::slowed` meets its contract, coordinate by coordinate.
-use Prim.Native.Nat.{◌-◌, ◌≤◌}
 use mathlib.Core.Path.{◌≡◌, refl}
 use native.Mathlib.Omega.{arith}
-use borrow.Author.Rules.{rules}
 use lib.ListN.{replicate}
 use lib.Ieee.{binary64, of_bits}
 use Rattle.checked.specs.Finite.{+0}

@@ -1,15 +1,11 @@
 -- `brake::slowed` meets its contract, coordinate by coordinate.
 use Prim.Native.Nat.{◌-◌, ◌≤◌}
-use mathlib.Core.Path.{◌≡◌, refl}
-use native.Mathlib.Omega.{arith}
-use borrow.Author.Rules.{rules}
+use mathlib.Core.Path.{◌≡◌}
 use lib.ListN.{replicate}
-use lib.Ieee.{binary64, of_bits}
+use lib.Ieee.{binary64}
 use Rattle.checked.specs.Finite.{+0}
 use Rattle.checked.specs.Checked.{each}
-use Rattle.checked.proofs.Told.{each_value, each_sound}
-use Rattle.brake.specs.Rule.{scaled_at, slowed}
-use Rattle.brake.proofs.Told.{scaled_tells}
+use Rattle.brake.specs.Rule.{scaled_at}
 use Rattle.brake.proofs.slowed.Given as goal
 
 abbrev pub invariant-loop-j : goal.invariant-loop-j

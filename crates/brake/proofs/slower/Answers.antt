@@ -1,6 +1,5 @@
 -- `brake::slower` meets its contract: the factor, then each coordinate times it.
 use Rattle.brake.specs.Rule.{slower}
-use borrow.Author.Rules.{rules}
 use Rattle.brake.proofs.slower.Goals as goal
 
 pub returns : goal.returns

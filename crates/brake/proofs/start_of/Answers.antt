@@ -1,7 +1,6 @@
 -- `brake::start_of` meets its contract: both on the axes that move.
 use native.Mathlib.Omega.{arith}
 use Rattle.checked.proofs.Copy.{eight_is}
-use borrow.Author.Rules.{rules}
 use Rattle.brake.proofs.start_of.Goals as goal
 
 pub returns : goal.returns

@@ -1,7 +1,6 @@
 -- `chunk::lent_refusal` meets its contract: the sizes' number, then that of the rows' numbers.
 use mathlib.Core.Path.{◌∙◌}
 use mathlib.Core.List.{[], ◌∷◌}
-use borrow.Author.Rules.{rules}
 use lib.ListN.{length}
 use Rattle.refusal.specs.Order.{not_finite, ◌when◌}
 use Rattle.refusal.specs.Chain.{joined}

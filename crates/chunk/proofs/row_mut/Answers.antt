@@ -2,7 +2,6 @@
 use Prim.Native.Nat.{◌+◌, ◌*◌}
 use mathlib.Core.Path.{ap}
 use native.Mathlib.Omega.{arith}
-use borrow.Author.Rules.{rules}
 use Rattle.chunk.specs.declared.Part.{Part}
 use Rattle.chunk.proofs.Rows.{part_ordered, part_within, part_holds}
 use Rattle.chunk.proofs.row_mut.Goals as goal

@@ -1,6 +1,5 @@
 -- `chunk::row_of` meets its contract: the part that it gives lies among the numbers and holds the row.
 use native.Mathlib.Omega.{arith}
-use borrow.Author.Rules.{rules}
 use Rattle.chunk.proofs.Rows.{part_ordered, part_within, part_holds}
 use Rattle.chunk.proofs.row_of.Goals as goal
 

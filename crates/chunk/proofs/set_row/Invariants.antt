@@ -1,13 +1,8 @@
 -- `chunk::set_row` meets its contract, by its ways out: nothing is written where there is no such row; else the loop has copied the first c numbers.
 use Prim.Native.Nat.{◌-◌, ◌≤◌}
-use mathlib.Core.Path.{◌≡◌, refl, ◌∙◌}
-use native.Mathlib.Nat.{pos_of_ne-zero}
-use native.Mathlib.Omega.{arith}
-use borrow.Author.Rules.{rules}
-use lib.ListN.{length, length-set}
-use lib.Seq.{paste, paste-zero}
-use Rattle.checked.proofs.Copy.{copy_more}
-use Rattle.chunk.proofs.Rows.{start_small, kept_without_rows, kept_past, written_row}
+use mathlib.Core.Path.{◌≡◌}
+use lib.ListN.{length}
+use lib.Seq.{paste}
 use Rattle.chunk.proofs.set_row.Given as goal
 
 abbrev pub invariant-loop-c : goal.invariant-loop-c

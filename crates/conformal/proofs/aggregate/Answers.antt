@@ -1,6 +1,5 @@
 -- `conformal::aggregate` meets its contract: its calls are the parts of the rule.
 use mathlib.Core.Path.{◌∙◌}
-use borrow.Author.Rules.{rules}
 use Rattle.conformal.specs.Answer.{aggregated}
 use Rattle.conformal.proofs.aggregate.Goals as goal
 

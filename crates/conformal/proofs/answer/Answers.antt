@@ -1,6 +1,5 @@
 -- `conformal::answer` meets its contract: by the test on the number.
 use borrow.Author.Tests.{eq-eqb, ne_eqb}
-use borrow.Author.Rules.{rules}
 use Rattle.conformal.proofs.answer.Goals as goal
 
 pub returns-then-number-eq0 : goal.returns-then-number-eq0

@@ -1,6 +1,5 @@
 -- `conformal::bit` meets its contract: a shift right is the division of its definition.
 use mathlib.Core.Path.{refl}
-use borrow.Author.Rules.{rules}
 use Rattle.bits.specs.Bits.{bit}
 use Rattle.conformal.proofs.bit.Goals as goal
 

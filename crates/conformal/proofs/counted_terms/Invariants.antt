@@ -1,12 +1,9 @@
 -- `conformal::counted_terms` meets its contract: the loop keeps both answers so far over all eight terms.
 use Prim.Native.Nat.{ℕ, ◌≤◌, ◌-◌}
-use mathlib.Core.Path.{◌≡◌, refl}
+use mathlib.Core.Path.{◌≡◌}
 use mathlib.Core.Bool.{Bool, ◌||◌}
-use native.Mathlib.Omega.{arith}
-use borrow.Author.Rules.{rules}
 use lib.Dec.{leb}
 use Rattle.checked.specs.Each.{all}
-use Rattle.checked.proofs.Each.{all_more}
 use Rattle.conformal.specs.Rule.{term_at}
 use Rattle.conformal.specs.Refusals.{named, without_stall_of}
 use Rattle.conformal.specs.declared.GateSpec.{GateSpec}

@@ -1,6 +1,5 @@
 -- `conformal::features_ok` meets its contract: its tests are the definition's.
 use native.Mathlib.Omega.{arith}
-use borrow.Author.Rules.{rules}
 use Rattle.checked.specs.Each.{every}
 use Rattle.conformal.specs.Refusals.{features_ok}
 use Rattle.conformal.proofs.features_ok.Goals as goal

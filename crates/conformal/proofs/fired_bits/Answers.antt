@@ -1,5 +1,5 @@
 -- `conformal::fired_bits` meets its contract: the loop keeps the word of the features passed, which stays below the next weight.
-use Prim.Native.Nat.{ℕ, ◌^◌, ◌≤◌, ◌-◌}
+use Prim.Native.Nat.{ℕ}
 use mathlib.Core.Path.{◌≡◌, refl, ◌∙◌}
 use mathlib.Core.Bool.{Bool}
 use native.Mathlib.Omega.{arith}

@@ -1,12 +1,8 @@
 -- `conformal::fired_bits` meets its contract: the loop keeps the word of the features passed, which stays below the next weight.
-use Prim.Native.Nat.{ℕ, ◌^◌, ◌≤◌, ◌-◌}
-use mathlib.Core.Path.{◌≡◌, refl, ◌∙◌}
-use mathlib.Core.Bool.{Bool}
-use native.Mathlib.Omega.{arith}
-use borrow.Author.Rules.{rules}
+use Prim.Native.Nat.{◌^◌, ◌≤◌, ◌-◌}
+use mathlib.Core.Path.{◌≡◌}
 use Rattle.bits.specs.Bits.{bits_where}
-use Rattle.conformal.specs.Rule.{live, fires, fired_bits}
-use Rattle.bits.proofs.Bits.{Turned, turn}
+use Rattle.conformal.specs.Rule.{live, fires}
 use Rattle.conformal.proofs.fired_bits.Given as goal
 
 abbrev pub invariant-loop-j : goal.invariant-loop-j

@@ -1,5 +1,4 @@
 -- `conformal::greater_where` meets its contract: by the test that led to each answer.
-use borrow.Author.Rules.{rules}
 use Rattle.conformal.proofs.greater_where.Goals as goal
 
 pub returns-then-counts : goal.returns-then-counts

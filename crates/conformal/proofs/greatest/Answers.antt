@@ -1,5 +1,5 @@
 -- `conformal::greatest` meets its contract: the loop keeps the greatest of the terms passed.
-use Prim.Native.Nat.{ℕ, ◌≤◌, ◌-◌}
+use Prim.Native.Nat.{ℕ}
 use mathlib.Core.Path.{◌≡◌, refl, ap}
 use mathlib.Core.Bool.{true, ◌&&◌}
 use native.Mathlib.Omega.{arith}
@@ -7,7 +7,7 @@ use borrow.Author.Rules.{rules}
 use lib.Dec.{ltb}
 use lib.Ieee.{inf, of_bits, div, neg}
 use Rattle.checked.specs.Least.{greater}
-use Rattle.conformal.specs.Rule.{live, counts, least_of, term_at, join_where, greatest_where, aggregate}
+use Rattle.conformal.specs.Rule.{live, counts, least_of, term_at, join_where, aggregate}
 use Rattle.conformal.specs.declared.Joined.{Joined}
 use Rattle.conformal.proofs.Turns.{join_more}
 use Rattle.conformal.proofs.greatest.Goals as goal

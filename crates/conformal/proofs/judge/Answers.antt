@@ -2,7 +2,6 @@
 use Prim.Native.Nat.{ℕ}
 use mathlib.Core.Path.{◌≡◌}
 use mathlib.Core.Bool.{Bool, not}
-use borrow.Author.Rules.{rules}
 use Rattle.std.specs.Prelude.{if◌then◌else◌}
 use Rattle.conformal.specs.Rule.{Tables}
 use Rattle.conformal.specs.Refusals.{sizes_ok, numbers_ok, features_ok, scores_ok}

@@ -1,5 +1,4 @@
 -- `conformal::lesser_where` meets its contract: by the test that led to each answer.
-use borrow.Author.Rules.{rules}
 use Rattle.conformal.proofs.lesser_where.Goals as goal
 
 pub returns-then-named : goal.returns-then-named

@@ -1,5 +1,4 @@
 -- `conformal::numbers_ok` meets its contract: its three tests are the definition's.
-use borrow.Author.Rules.{rules}
 use Rattle.checked.specs.Each.{every}
 use Rattle.checked.proofs.Each.{◌&&≡◌}
 use Rattle.conformal.specs.Refusals.{numbers_ok}

@@ -1,5 +1,4 @@
 -- `conformal::scores_ok` meets its contract: its three tests are the definition's.
-use borrow.Author.Rules.{rules}
 use Rattle.checked.specs.Each.{every}
 use Rattle.checked.proofs.Each.{◌&&≡◌}
 use Rattle.conformal.specs.Refusals.{scores_ok}

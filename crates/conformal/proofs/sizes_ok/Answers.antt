@@ -1,5 +1,4 @@
 -- `conformal::sizes_ok` meets its contract: its tests are the definition's.
-use borrow.Author.Rules.{rules}
 use Rattle.checked.specs.Each.{every}
 use Rattle.conformal.specs.Refusals.{sizes_ok}
 use Rattle.conformal.proofs.sizes_ok.Goals as goal

@@ -1,5 +1,4 @@
 -- `conformal::standard` meets its contract: by the test that led to each answer.
-use borrow.Author.Rules.{rules}
 use lib.Ieee.{of_bits}
 use Rattle.conformal.specs.Rule.{standard}
 use Rattle.conformal.proofs.standard.Goals as goal

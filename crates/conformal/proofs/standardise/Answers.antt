@@ -1,6 +1,5 @@
 -- `conformal::standardise` meets its contract: its calls are the parts of the rule.
 use mathlib.Core.Path.{◌∙◌}
-use borrow.Author.Rules.{rules}
 use Rattle.conformal.specs.Answer.{standardised}
 use Rattle.conformal.proofs.standardise.Goals as goal
 

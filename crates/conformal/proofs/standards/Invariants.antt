@@ -2,18 +2,13 @@
 use Prim.Native.Nat.{ℕ, ◌≤◌, ◌-◌}
 use mathlib.Core.Bool.{Bool}
 use mathlib.Core.List.{List}
-use mathlib.Core.Path.{◌≡◌, refl, ap, ◌∙◌}
-use native.Mathlib.Omega.{arith}
-use borrow.Author.Rules.{rules}
+use mathlib.Core.Path.{◌≡◌}
 use lib.Ieee.{Float}
-use lib.ListN.{length, take, length-set}
+use lib.ListN.{length, take}
 use lib.Ieee.{binary64}
-use Rattle.checked.specs.Each.{all, at, table}
-use Rattle.checked.proofs.Each.{all_more, table_more, table_all}
-use Rattle.checked.specs.declared.Reckoned.{Reckoned}
-use Rattle.checked.specs.Of.{reckoned_from}
+use Rattle.checked.specs.Each.{all, table}
 use Rattle.conformal.specs.Of.{tables}
-use Rattle.conformal.specs.Rule.{live, standard_at, standards}
+use Rattle.conformal.specs.Rule.{live, standard_at}
 use Rattle.conformal.proofs.standards.Given as goal
 
 -- the first j features are standardised

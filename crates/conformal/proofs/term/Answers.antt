@@ -1,18 +1,15 @@
 -- `conformal::term` meets its contract: the loop keeps the three folds of the features passed.
-use Prim.Native.Nat.{ℕ, ◌≤◌, ◌-◌}
 use mathlib.Core.Path.{◌≡◌, refl}
-use mathlib.Core.Bool.{Bool, false, not, ◌||◌}
-use mathlib.Core.List.{List}
+use mathlib.Core.Bool.{false}
 use native.Mathlib.Omega.{arith}
 use borrow.Author.Rules.{rules}
-use lib.Ieee.{Float, inf, of_bits, div}
+use lib.Ieee.{inf, of_bits, div}
 use Rattle.checked.specs.Each.{all, some, at}
 use Rattle.checked.specs.Least.{lesser}
 use Rattle.checked.proofs.Each.{all_more, some_more}
 use Rattle.bits.specs.Bits.{bit}
-use Rattle.conformal.specs.Rule.{live, live_term, join_where, least_where, least_of}
+use Rattle.conformal.specs.Rule.{live_term, join_where, least_of}
 use Rattle.conformal.proofs.Turns.{join_more}
-use Rattle.conformal.proofs.term.Invariants.{Looking}
 use Rattle.conformal.proofs.term.Goals as goal
 
 pub loop-j-init : goal.loop-j-init

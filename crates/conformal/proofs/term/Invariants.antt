@@ -1,17 +1,12 @@
 -- `conformal::term` meets its contract: the loop keeps the three folds of the features passed.
 use Prim.Native.Nat.{ℕ, ◌≤◌, ◌-◌}
-use mathlib.Core.Path.{◌≡◌, refl}
-use mathlib.Core.Bool.{Bool, false, not, ◌||◌}
+use mathlib.Core.Path.{◌≡◌}
+use mathlib.Core.Bool.{Bool, not, ◌||◌}
 use mathlib.Core.List.{List}
-use native.Mathlib.Omega.{arith}
-use borrow.Author.Rules.{rules}
-use lib.Ieee.{Float, inf, of_bits, div}
+use lib.Ieee.{Float}
 use Rattle.checked.specs.Each.{all, some, at}
-use Rattle.checked.specs.Least.{lesser}
-use Rattle.checked.proofs.Each.{all_more, some_more}
 use Rattle.bits.specs.Bits.{bit}
-use Rattle.conformal.specs.Rule.{live, live_term, join_where, least_where, least_of}
-use Rattle.conformal.proofs.Turns.{join_more}
+use Rattle.conformal.specs.Rule.{live, least_where}
 use Rattle.conformal.proofs.term.Given as goal
 
 -- the first j features of a term are looked at

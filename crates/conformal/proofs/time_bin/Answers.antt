@@ -1,7 +1,6 @@
 -- `conformal::time_bin` meets its contract: by the test on the horizon, and since the rule's case for tick 0 is no exception.
 use mathlib.Core.Path.{sym, ap}
 use borrow.Author.Tests.{eq-eqb, ne_eqb}
-use borrow.Author.Rules.{rules}
 use Rattle.conformal.specs.Answer.{time_bin_of}
 use Rattle.conformal.specs.Rule.{bin_at}
 use Rattle.conformal.specs.declared.TimeBin.TheVariants.{Bin}

@@ -1,6 +1,5 @@
 -- `conformal::trip` meets its contract: by the test on the number.
 use borrow.Author.Tests.{eq-eqb, ne_eqb}
-use borrow.Author.Rules.{rules}
 use Rattle.conformal.specs.Answer.{tripped}
 use Rattle.conformal.proofs.trip.Goals as goal
 

@@ -1,6 +1,5 @@
 -- `envelope::brake_ok` meets its contract: each kind has the same test of its gains.
 use mathlib.Core.Path.{◌∙◌, sym, ap}
-use borrow.Author.Rules.{rules}
 use Rattle.envelope.specs.Refusals.{brake_ok}
 use Rattle.envelope.proofs.brake_ok.Goals as goal
 

@@ -1,5 +1,4 @@
 -- `envelope::calibration_ok` meets its contract: by the test on the flag.
-use borrow.Author.Rules.{rules}
 use Rattle.envelope.proofs.calibration_ok.Goals as goal
 
 pub returns-then-c : goal.returns-then-c

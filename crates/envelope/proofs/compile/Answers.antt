@@ -1,5 +1,4 @@
 -- `envelope::compile` meets its contract: each test is the condition of its number, and what is judged is what is derived.
-use borrow.Author.Rules.{rules}
 use Rattle.envelope.proofs.compile.Goals as goal
 
 pub returns : goal.returns

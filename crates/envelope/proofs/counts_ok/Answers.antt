@@ -1,5 +1,4 @@
 -- `envelope::counts_ok` meets its contract: its tests are the definition's.
-use borrow.Author.Rules.{rules}
 use Rattle.checked.specs.Each.{every}
 use Rattle.envelope.specs.Refusals.{counts_ok}
 use Rattle.envelope.proofs.counts_ok.Goals as goal

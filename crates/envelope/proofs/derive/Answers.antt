@@ -1,5 +1,4 @@
 -- `envelope::derive` meets its contract: its calls are the parts of the rule, and the rest is its arithmetic.
-use borrow.Author.Rules.{rules}
 use lib.Ieee.{of_bits}
 use Rattle.envelope.specs.Derive.{inv_dt_of, inv_dt2_of, inv_dt3_of, step_max_of, derived_from}
 use Rattle.envelope.proofs.derive.Goals as goal

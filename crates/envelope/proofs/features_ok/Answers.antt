@@ -1,5 +1,4 @@
 -- `envelope::features_ok` meets its contract: its tests are the definition's.
-use borrow.Author.Rules.{rules}
 use Rattle.envelope.proofs.features_ok.Goals as goal
 
 pub returns : goal.returns

@@ -1,15 +1,13 @@
 -- `envelope::high_walls` meets its contract: the loop fills the table from the front, with the walls of axes that have a box.
-use Prim.Native.Nat.{ℕ, ◌≤◌, ◌-◌}
-use mathlib.Core.Path.{◌≡◌, refl, ◌∙◌}
-use mathlib.Core.Bool.{◌&&◌}
+use Prim.Native.Nat.{ℕ}
+use mathlib.Core.Path.{refl, ◌∙◌}
 use native.Mathlib.Omega.{arith}
 use borrow.Author.Rules.{rules}
-use lib.Dec.{leb, ltb}
-use lib.ListN.{length, take, length-set}
+use lib.ListN.{length-set}
 use lib.Ieee.{binary64, sub}
 use Rattle.checked.specs.Each.{at, table}
 use Rattle.checked.proofs.Each.{table_more, table_all}
-use Rattle.envelope.specs.Derive.{kept, high_walls}
+use Rattle.envelope.specs.Derive.{high_walls}
 use Rattle.envelope.proofs.Walls.{walls_kept}
 use Rattle.envelope.proofs.high_walls.Goals as goal
 

@@ -1,15 +1,12 @@
 -- `envelope::inverses` meets its contract: the loop fills the table from the front.
-use Prim.Native.Nat.{ℕ, ◌≤◌, ◌-◌}
-use mathlib.Core.Path.{◌≡◌, refl}
+use mathlib.Core.Path.{refl}
 use native.Mathlib.Omega.{arith}
 use borrow.Author.Rules.{rules}
-use lib.Dec.{ltb}
-use lib.ListN.{length, take, length-set}
-use lib.Ieee.{binary64, div, of_bits}
-use Rattle.checked.specs.Constants.{1! }
-use Rattle.checked.specs.Each.{at, table}
+use lib.ListN.{length-set}
+use lib.Ieee.{of_bits}
+use Rattle.checked.specs.Each.{table}
 use Rattle.checked.proofs.Each.{table_more, table_all}
-use Rattle.envelope.specs.Derive.{kept, inverses}
+use Rattle.envelope.specs.Derive.{inverses}
 use Rattle.envelope.proofs.inverses.Goals as goal
 
 pub loop-i-init : goal.loop-i-init

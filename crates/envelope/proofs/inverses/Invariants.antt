@@ -1,15 +1,12 @@
 -- `envelope::inverses` meets its contract: the loop fills the table from the front.
 use Prim.Native.Nat.{ℕ, ◌≤◌, ◌-◌}
-use mathlib.Core.Path.{◌≡◌, refl}
-use native.Mathlib.Omega.{arith}
-use borrow.Author.Rules.{rules}
+use mathlib.Core.Path.{◌≡◌}
 use lib.Dec.{ltb}
-use lib.ListN.{length, take, length-set}
-use lib.Ieee.{binary64, div, of_bits}
+use lib.ListN.{length, take}
+use lib.Ieee.{binary64, div}
 use Rattle.checked.specs.Constants.{1! }
 use Rattle.checked.specs.Each.{at, table}
-use Rattle.checked.proofs.Each.{table_more, table_all}
-use Rattle.envelope.specs.Derive.{kept, inverses}
+use Rattle.envelope.specs.Derive.{kept}
 use Rattle.envelope.proofs.inverses.Given as goal
 
 abbrev pub invariant-loop-i : goal.invariant-loop-i

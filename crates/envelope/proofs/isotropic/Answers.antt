@@ -1,11 +1,10 @@
 -- `envelope::isotropic` meets its contract: the loop keeps the least of the scales passed.
-use Prim.Native.Nat.{◌≤◌, ◌-◌, min}
+use Prim.Native.Nat.{min}
 use mathlib.Core.Path.{◌≡◌, refl}
 use native.Mathlib.Omega.{arith}
 use native.Mathlib.Numerals.{add-one}
 use borrow.Author.Rules.{rules}
 use lib.Ieee.{div, of_bits}
-use Rattle.checked.specs.Each.{at}
 use Rattle.envelope.specs.Derive.{isotropic}
 use Rattle.envelope.proofs.isotropic.Goals as goal
 

@@ -1,5 +1,4 @@
 -- `envelope::keep` meets its contract: by the test that led to each answer.
-use borrow.Author.Rules.{rules}
 use lib.Ieee.{of_bits}
 use Rattle.envelope.proofs.keep.Goals as goal
 

@@ -1,16 +1,12 @@
 -- `envelope::low_walls` meets its contract: the loop fills the table from the front, with the walls of axes that have a box.
 use Prim.Native.Nat.{ℕ, ◌≤◌, ◌-◌}
-use mathlib.Core.Path.{◌≡◌, refl, ◌∙◌}
+use mathlib.Core.Path.{◌≡◌}
 use mathlib.Core.Bool.{◌&&◌}
-use native.Mathlib.Omega.{arith}
-use borrow.Author.Rules.{rules}
 use lib.Dec.{leb, ltb}
-use lib.ListN.{length, take, length-set}
+use lib.ListN.{length, take}
 use lib.Ieee.{binary64, add}
 use Rattle.checked.specs.Each.{at, table}
-use Rattle.checked.proofs.Each.{table_more, table_all}
-use Rattle.envelope.specs.Derive.{kept, low_walls}
-use Rattle.envelope.proofs.Walls.{walls_kept}
+use Rattle.envelope.specs.Derive.{kept}
 use Rattle.envelope.proofs.low_walls.Given as goal
 
 abbrev pub invariant-loop-i : goal.invariant-loop-i

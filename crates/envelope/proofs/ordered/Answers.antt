@@ -1,11 +1,8 @@
 -- `envelope::ordered` meets its contract: the loop keeps the answer so far.
-use Prim.Native.Nat.{ℕ, ◌≤◌, ◌-◌}
 use mathlib.Core.Path.{◌≡◌, refl}
-use mathlib.Core.Bool.{not}
 use native.Mathlib.Omega.{arith}
 use borrow.Author.Rules.{rules}
-use lib.Ieee.{lt}
-use Rattle.checked.specs.Each.{at, all}
+use Rattle.checked.specs.Each.{all}
 use Rattle.checked.proofs.Each.{all_more}
 use Rattle.envelope.specs.Refusals.{ordered}
 use Rattle.envelope.proofs.ordered.Goals as goal

@@ -1,14 +1,9 @@
 -- `envelope::pair_is_own` meets its contract: the loop keeps the answer so far.
-use Prim.Native.Nat.{ℕ, ◌≤◌, ◌-◌}
 use mathlib.Core.Path.{◌≡◌, refl}
-use mathlib.Core.Bool.{not}
 use native.Mathlib.Omega.{arith}
-use borrow.Author.Rules.{rules}
-use lib.ListN.{get_or}
 use Rattle.checked.specs.Each.{all}
 use Rattle.checked.proofs.Each.{all_more}
-use Rattle.envelope.specs.Refusals.{same_pair, pair_is_own}
-use Rattle.envelope.specs.declared.Contact.TheVariants.{None}
+use Rattle.envelope.specs.Refusals.{pair_is_own}
 use Rattle.envelope.proofs.pair_is_own.Goals as goal
 
 pub offset_bounds-list-k : goal.offset_bounds-list-k

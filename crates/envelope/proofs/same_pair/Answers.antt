@@ -1,5 +1,4 @@
 -- `envelope::same_pair` meets its contract: by the cases of both zones.
-use borrow.Author.Rules.{rules}
 use Rattle.envelope.proofs.same_pair.Goals as goal
 
 pub returns-in-None-other : goal.returns-in-None-other

@@ -1,5 +1,4 @@
 -- `envelope::scalars_ok` meets its contract: its tests are the definition's.
-use borrow.Author.Rules.{rules}
 use Rattle.checked.specs.Each.{every}
 use Rattle.checked.proofs.Each.{◌&&≡◌}
 use Rattle.envelope.specs.Refusals.{scalars_ok}

@@ -1,5 +1,4 @@
 -- `envelope::sizes_ok` meets its contract: its tests are the definition's.
-use borrow.Author.Rules.{rules}
 use Rattle.checked.specs.Each.{every}
 use Rattle.envelope.specs.Refusals.{sizes_ok}
 use Rattle.envelope.proofs.sizes_ok.Goals as goal

@@ -1,5 +1,4 @@
 -- `envelope::steps_ok` meets its contract: its tests are the definition's.
-use borrow.Author.Rules.{rules}
 use Rattle.checked.specs.Each.{every}
 use Rattle.envelope.specs.Refusals.{steps_ok}
 use Rattle.envelope.proofs.steps_ok.Goals as goal

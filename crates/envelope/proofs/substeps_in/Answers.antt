@@ -1,7 +1,6 @@
 -- `envelope::substeps_in` meets its contract: of u16 counts the sum and the product fit 64 bits.
 use native.Mathlib.Nat.{mul-le-mul}
 use native.Mathlib.Omega.{arith}
-use borrow.Author.Rules.{rules}
 use mir.Facts.{Fits-le, Fits-lit}
 use Rattle.envelope.proofs.substeps_in.Goals as goal
 

@@ -1,12 +1,10 @@
 -- `envelope::walls_finite` meets its contract: a ninth wall is not there, and the loop keeps the answer so far.
-use Prim.Native.Nat.{ℕ, ◌≤◌, ◌-◌}
 use mathlib.Core.Path.{◌≡◌, refl, ap, ◌∙◌}
 use mathlib.Core.Bool.{Bool, not, ◌||◌}
 use native.Mathlib.Omega.{arith}
 use borrow.Author.Rules.{rules}
 use lib.Dec.{leb}
-use Rattle.checked.specs.Each.{at, all}
-use Rattle.checked.specs.Finite.{finite}
+use Rattle.checked.specs.Each.{all}
 use Rattle.checked.proofs.Each.{all_more}
 use Rattle.envelope.proofs.Walls.{walls_told, walls_missing}
 use Rattle.envelope.proofs.walls_finite.Goals as goal

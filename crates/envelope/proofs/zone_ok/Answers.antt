@@ -1,5 +1,4 @@
 -- `envelope::zone_ok` meets its contract: by the case of the contact.
-use borrow.Author.Rules.{rules}
 use Rattle.envelope.proofs.zone_ok.Goals as goal
 
 pub returns-in-Zone : goal.returns-in-Zone

@@ -1,13 +1,10 @@
 -- `envelope::zones_fit` meets its contract: the loop keeps the answer so far.
 use Prim.Native.Nat.{ℕ, ◌≤◌, ◌-◌}
-use mathlib.Core.Path.{◌≡◌, refl}
+use mathlib.Core.Path.{◌≡◌}
 use mathlib.Core.Bool.{◌&&◌}
-use native.Mathlib.Omega.{arith}
-use borrow.Author.Rules.{rules}
 use Rattle.checked.specs.Each.{all}
-use Rattle.checked.proofs.Each.{all_more, ◌&&≡◌}
 use Rattle.envelope.specs.Slots.{zone_at}
-use Rattle.envelope.specs.Refusals.{channels_ok, pair_is_own, zones_fit}
+use Rattle.envelope.specs.Refusals.{channels_ok, pair_is_own}
 use Rattle.envelope.proofs.zones_fit.Given as goal
 
 abbrev pub invariant-loop-k : goal.invariant-loop-k

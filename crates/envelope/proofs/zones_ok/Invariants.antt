@@ -1,12 +1,9 @@
 -- `envelope::zones_ok` meets its contract: the loop keeps the answer so far.
 use Prim.Native.Nat.{ℕ, ◌≤◌, ◌-◌}
-use mathlib.Core.Path.{◌≡◌, refl}
-use native.Mathlib.Omega.{arith}
-use borrow.Author.Rules.{rules}
+use mathlib.Core.Path.{◌≡◌}
 use lib.ListN.{get_or}
 use Rattle.checked.specs.Each.{all}
-use Rattle.checked.proofs.Each.{all_more}
-use Rattle.envelope.specs.Refusals.{zone_ok, zones_ok}
+use Rattle.envelope.specs.Refusals.{zone_ok}
 use Rattle.envelope.specs.declared.Contact.TheVariants.{None}
 use Rattle.envelope.proofs.zones_ok.Given as goal
 

@@ -1,6 +1,5 @@
 -- `fmath::above_zero` meets its contract: its two tests are the definition's.
 use lib.Ieee.{of_bits}
-use borrow.Author.Rules.{rules}
 use Rattle.checked.specs.Finite.{above_zero}
 use Rattle.fmath.proofs.above_zero.Goals as goal
 

@@ -1,5 +1,5 @@
 -- `fmath::all_above_zero` meets its contract: a number that is not there is not above zero, and the loop keeps both answers so far.
-use Prim.Native.Nat.{ℕ, ◌≤◌, ◌-◌}
+use Prim.Native.Nat.{ℕ}
 use mathlib.Core.Path.{◌≡◌, refl, sym, ◌∙◌}
 use native.Mathlib.Omega.{arith}
 use borrow.Author.Rules.{rules}

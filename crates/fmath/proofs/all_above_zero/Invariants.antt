@@ -1,12 +1,9 @@
 -- `fmath::all_above_zero` meets its contract: a number that is not there is not above zero, and the loop keeps both answers so far.
 use Prim.Native.Nat.{ℕ, ◌≤◌, ◌-◌}
-use mathlib.Core.Path.{◌≡◌, refl, sym, ◌∙◌}
-use native.Mathlib.Omega.{arith}
-use borrow.Author.Rules.{rules}
-use lib.Ieee.{lt, of_bits}
+use mathlib.Core.Path.{◌≡◌}
+use lib.Ieee.{lt}
 use Rattle.checked.specs.Each.{all, at}
-use Rattle.checked.specs.Finite.{+0, finite, above_zero, all_above_zero}
-use Rattle.checked.proofs.Each.{◌&&≡◌, all_more, all_both, all_missing}
+use Rattle.checked.specs.Finite.{+0, finite}
 use Rattle.fmath.proofs.all_above_zero.Given as goal
 
 abbrev pub invariant-loop-i : goal.invariant-loop-i

@@ -1,9 +1,8 @@
 -- `fmath::all_finite` meets its contract: a number that is not there is not finite, and the loop keeps the answer so far.
-use Prim.Native.Nat.{ℕ, ◌≤◌, ◌-◌}
 use mathlib.Core.Path.{◌≡◌, refl, sym}
 use native.Mathlib.Omega.{arith}
 use borrow.Author.Rules.{rules}
-use Rattle.checked.specs.Each.{all, at}
+use Rattle.checked.specs.Each.{all}
 use Rattle.checked.specs.Finite.{finite, all_finite}
 use Rattle.checked.proofs.Each.{all_more, all_missing}
 use Rattle.fmath.proofs.all_finite.Goals as goal

@@ -1,6 +1,5 @@
 -- `fmath::distance` meets its contract: the loop keeps the sum so far, and a coordinate that is not there makes a NaN.
-use Prim.Native.Nat.{◌≤◌, ◌-◌}
-use mathlib.Core.Path.{◌≡◌, refl, sym}
+use mathlib.Core.Path.{refl, sym}
 use native.Mathlib.Nat.{le_antisymm}
 use native.Mathlib.Omega.{arith}
 use borrow.Author.Rules.{rules}

@@ -1,15 +1,10 @@
 -- `fmath::distance` meets its contract: the loop keeps the sum so far, and a coordinate that is not there makes a NaN.
 use Prim.Native.Nat.{◌≤◌, ◌-◌}
-use mathlib.Core.Path.{◌≡◌, refl, sym}
-use native.Mathlib.Nat.{le_antisymm}
-use native.Mathlib.Omega.{arith}
-use borrow.Author.Rules.{rules}
-use lib.Ieee.{binary64, of_bits, div}
+use mathlib.Core.Path.{◌≡◌}
+use lib.Ieee.{binary64}
 use Rattle.checked.specs.Finite.{+0}
 use Rattle.checked.specs.Checked.{sum_from}
 use Rattle.fmath.specs.Norm.{squared_gap}
-use Rattle.checked.proofs.Sums.{sum_more}
-use Rattle.fmath.proofs.Lengths.{dist_missing_left, dist_missing_right, dist_done}
 use Rattle.fmath.proofs.distance.Given as goal
 
 abbrev pub invariant-loop-j : goal.invariant-loop-j

@@ -1,15 +1,10 @@
 -- `fmath::magnitude` meets its contract: the loop keeps the sum so far, and a coordinate that is not there makes a NaN.
 use Prim.Native.Nat.{◌≤◌, ◌-◌}
-use mathlib.Core.Path.{◌≡◌, refl, sym}
-use native.Mathlib.Nat.{le_antisymm}
-use native.Mathlib.Omega.{arith}
-use borrow.Author.Rules.{rules}
-use lib.Ieee.{binary64, of_bits, div}
+use mathlib.Core.Path.{◌≡◌}
+use lib.Ieee.{binary64}
 use Rattle.checked.specs.Finite.{+0}
 use Rattle.checked.specs.Checked.{sum_from}
 use Rattle.fmath.specs.Norm.{square_at}
-use Rattle.checked.proofs.Sums.{sum_more}
-use Rattle.fmath.proofs.Lengths.{norm_missing, norm_done}
 use Rattle.fmath.proofs.magnitude.Given as goal
 
 abbrev pub invariant-loop-c : goal.invariant-loop-c

@@ -1,6 +1,5 @@
 -- `fmath::not_below_zero` meets its contract: its two tests are the definition's.
 use lib.Ieee.{of_bits}
-use borrow.Author.Rules.{rules}
 use Rattle.checked.specs.Finite.{not_below_zero}
 use Rattle.fmath.proofs.not_below_zero.Goals as goal
 

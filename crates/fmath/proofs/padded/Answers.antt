@@ -1,5 +1,4 @@
 -- `fmath::padded` meets its contract: what is put over eight zeros.
-use borrow.Author.Rules.{rules}
 use lib.Ieee.{of_bits}
 use Rattle.checked.specs.Row.{padded}
 use Rattle.fmath.proofs.padded.Goals as goal

@@ -1,15 +1,12 @@
 -- `fmath::put` meets its contract: the loop puts one number a turn and keeps the length.
-use Prim.Native.Nat.{ℕ, ◌≤◌, ◌-◌, min}
-use mathlib.Core.List.{List}
-use mathlib.Core.Path.{◌≡◌, refl, ap, ◌∙◌}
+use Prim.Native.Nat.{min}
+use mathlib.Core.Path.{refl, ap, ◌∙◌}
 use native.Mathlib.Nat.{le_antisymm}
 use native.Mathlib.Omega.{arith}
 use borrow.Author.Rules.{rules}
-use lib.Ieee.{Float}
-use lib.ListN.{length, length-set}
+use lib.ListN.{length-set}
 use Rattle.checked.specs.Each.{at, over}
 use Rattle.checked.proofs.Each.{over_more}
-use Rattle.fmath.proofs.put.Invariants.{Putting}
 use Rattle.fmath.proofs.put.Goals as goal
 
 pub loop-i-init : goal.loop-i-init

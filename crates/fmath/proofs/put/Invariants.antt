@@ -1,14 +1,10 @@
 -- `fmath::put` meets its contract: the loop puts one number a turn and keeps the length.
-use Prim.Native.Nat.{ℕ, ◌≤◌, ◌-◌, min}
+use Prim.Native.Nat.{ℕ, ◌≤◌, ◌-◌}
 use mathlib.Core.List.{List}
-use mathlib.Core.Path.{◌≡◌, refl, ap, ◌∙◌}
-use native.Mathlib.Nat.{le_antisymm}
-use native.Mathlib.Omega.{arith}
-use borrow.Author.Rules.{rules}
+use mathlib.Core.Path.{◌≡◌}
 use lib.Ieee.{Float}
-use lib.ListN.{length, length-set}
+use lib.ListN.{length}
 use Rattle.checked.specs.Each.{at, over}
-use Rattle.checked.proofs.Each.{over_more}
 use Rattle.fmath.proofs.put.Given as goal
 
 -- the first i of count numbers are put

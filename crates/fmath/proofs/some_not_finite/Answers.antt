@@ -1,5 +1,4 @@
 -- `fmath::some_not_finite` meets its contract: each slice by its own test.
-use borrow.Author.Rules.{rules}
 use Rattle.fmath.specs.Answer.{some_from, some_lent_not_finite}
 use Rattle.fmath.proofs.some_not_finite.Goals as goal
 

@@ -1,7 +1,6 @@
 -- `fmath::sqrt` meets its contract: there is a root exactly where the checked root is finite.
 use mathlib.Core.Path.{refl}
 use mathlib.Core.Bool.{false}
-use borrow.Author.Rules.{rules}
 use lib.Ieee.{binary64}
 use Rattle.checked.specs.Checked.{root}
 use Rattle.fmath.proofs.Judged.{is_computed, is_value}

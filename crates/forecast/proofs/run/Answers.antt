@@ -4,8 +4,8 @@ use Rattle.forecast.proofs.Known.{first_step, next_step, ran, all}
 use Rattle.forecast.proofs.Numbers.{fewer}
 use Rattle.forecast.proofs.run.Goals as goal
 
-pub loop-from-init : goal.loop-from-init
-loop-from-init g c =
+pub turns-init : goal.turns-init
+turns-init g c =
     let u = c.turn-t in
     let room = u.auto.input ∙ c.requires in
     record {
@@ -21,21 +21,21 @@ loop-from-init g c =
       });
     }
 
-pub loop-from-smaller : goal.loop-from-smaller
-loop-from-smaller g c =
-    let u = c.turn-t-in-loop-from in
-    let i = c.loop-from.invariant in
-    fewer c.loop-from.t u.result u.new.input _ _ (u.auto.input ∙ i.room) u.ensures.turned (rw i.room at (sym c.goes_on.ensures ∙ c.loop-from-test.true))
+pub turns-smaller : goal.turns-smaller
+turns-smaller g c =
+    let u = c.turn-t-in-turns in
+    let i = c.turns.invariant in
+    fewer c.turns.t u.result u.new.input _ _ (u.auto.input ∙ i.room) u.ensures.turned (rw i.room at (sym c.goes_on.ensures ∙ c.turns-test.true))
 
-pub loop-from-preserved : goal.loop-from-preserved
-loop-from-preserved g c =
-    let u = c.turn-t-in-loop-from in
-    let i = c.loop-from.invariant in
+pub turns-preserved : goal.turns-preserved
+turns-preserved g c =
+    let u = c.turn-t-in-turns in
+    let i = c.turns.invariant in
     let room = u.auto.input ∙ i.room in
     record {
       room = room;
       same = u.auto.out ∙ i.same;
-      step = next_step _ _ _ _ _ _ u.new.input _ u.new.out c.loop-from.t u.result i.step (rw i.room at (sym c.goes_on.ensures ∙ c.loop-from-test.true)) (record {
+      step = next_step _ _ _ _ _ _ u.new.input _ u.new.out c.turns.t u.result i.step (rw i.room at (sym c.goes_on.ensures ∙ c.turns-test.true)) (record {
         size = room;
         turned = u.ensures.turned;
         fits = u.ensures.fills.fits;
@@ -46,7 +46,7 @@ loop-from-preserved g c =
     }
 
 pub returns-clause-ran : goal.returns-clause-ran
-returns-clause-ran g c = ran _ _ _ _ c.loop-from.t c.loop-from.invariant.step
+returns-clause-ran g c = ran _ _ _ _ c.turns.t c.turns.invariant.step
 
 pub returns-clause-all : goal.returns-clause-all
-returns-clause-all g c = all _ _ _ _ c.loop-from.t c.loop-from.invariant.step (rw c.loop-from.invariant.room at (sym c.goes_on.ensures ∙ c.loop-from-test.false))
+returns-clause-all g c = all _ _ _ _ c.turns.t c.turns.invariant.step (rw c.turns.invariant.room at (sym c.goes_on.ensures ∙ c.turns-test.false))

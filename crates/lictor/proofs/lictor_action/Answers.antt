@@ -1,5 +1,4 @@
 -- `lictor::lictor_action` meets its contract: its entry gives what the rule says.
-use borrow.Author.Rules.{rules}
 use Rattle.lictor.proofs.lictor_action.Goals as goal
 
 pub returns : goal.returns

@@ -1,6 +1,5 @@
 -- `lictor::lictor_aggregate` meets its contract: it hands on the answer of its entry.
 use Rattle.lictor.proofs.Alike.{scored_alike, aggregated_alike}
-use borrow.Author.Rules.{rules}
 use Rattle.lictor.proofs.lictor_aggregate.Goals as goal
 
 pub returns : goal.returns

@@ -1,6 +1,5 @@
 -- `lictor_clamp` meets its contract: it hands on the value of the entry's answer.
 use mathlib.Core.Path.{ap}
-use borrow.Author.Rules.{rules}
 use Rattle.fmath.specs.declared.Sided.{Sided}
 use Rattle.lictor.proofs.lictor_clamp.Goals as goal
 

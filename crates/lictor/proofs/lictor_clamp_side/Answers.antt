@@ -2,7 +2,6 @@
 use mathlib.Core.Path.{ap, ◌∙◌}
 use mir.Syntax.{w64}
 use mir.Val.{to_z, of_z}
-use borrow.Author.Rules.{rules}
 use Rattle.fmath.specs.declared.Sided.{Sided}
 use Rattle.fmath.proofs.Clamping.{side_read_back}
 use Rattle.lictor.proofs.lictor_clamp_side.Goals as goal

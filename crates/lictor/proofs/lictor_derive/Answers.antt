@@ -1,6 +1,5 @@
 -- `lictor::lictor_derive` meets its contract: it hands on the answer of its entry.
 use Rattle.lictor.proofs.Alike.{derived_alike, fitting_alike, compile_alike}
-use borrow.Author.Rules.{rules}
 use Rattle.conformal.specs.Of.{tables}
 use Rattle.envelope.proofs.Accepted.{compiled_number, compiled_derived}
 use Rattle.lictor.proofs.lictor_derive.Goals as goal

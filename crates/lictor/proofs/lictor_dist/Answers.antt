@@ -1,6 +1,5 @@
 -- `lictor_dist` meets its contract: it hands on the answer of `fmath::dist`.
 use Rattle.lictor.proofs.Alike.{number_alike}
-use borrow.Author.Rules.{rules}
 use Rattle.lictor.proofs.lictor_dist.Goals as goal
 
 pub returns : goal.returns

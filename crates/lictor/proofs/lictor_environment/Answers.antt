@@ -2,7 +2,6 @@
 use mathlib.Core.Path.{refl}
 use lib.Ieee.{of_bits}
 use Rattle.lictor.specs.Environment.{environment}
-use borrow.Author.Rules.{rules}
 use Rattle.lictor.proofs.lictor_environment.Goals as goal
 
 pub returns : goal.returns

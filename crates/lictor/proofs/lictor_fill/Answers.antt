@@ -1,5 +1,4 @@
 -- `lictor::lictor_fill` meets its contract: the chunk is judged, and put into the buffer where it is not refused.
-use borrow.Author.Rules.{rules}
 use Rattle.lictor.specs.Asked.{header_asked}
 use Rattle.lictor.proofs.Alike.{filled_so}
 use Rattle.lictor.proofs.lictor_fill.Goals as goal

@@ -1,6 +1,5 @@
 -- `lictor::lictor_mask` meets its contract: it hands on the answer of its entry.
 use Rattle.lictor.proofs.Alike.{mask_alike}
-use borrow.Author.Rules.{rules}
 use Rattle.lictor.proofs.lictor_mask.Goals as goal
 
 pub returns : goal.returns

@@ -1,6 +1,5 @@
 -- `lictor_norm` meets its contract: it hands on the answer of `fmath::norm`.
 use Rattle.lictor.proofs.Alike.{number_alike}
-use borrow.Author.Rules.{rules}
 use Rattle.lictor.proofs.lictor_norm.Goals as goal
 
 pub returns : goal.returns

@@ -1,5 +1,4 @@
 -- `lictor::lictor_push` meets its contract: its entry gives what the rule says.
-use borrow.Author.Rules.{rules}
 use Rattle.lictor.proofs.lictor_push.Goals as goal
 
 pub returns : goal.returns

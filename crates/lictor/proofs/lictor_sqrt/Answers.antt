@@ -1,6 +1,5 @@
 -- `lictor_sqrt` meets its contract: it hands on the answer of `fmath::sqrt`.
 use Rattle.lictor.proofs.Alike.{number_alike}
-use borrow.Author.Rules.{rules}
 use Rattle.lictor.proofs.lictor_sqrt.Goals as goal
 
 pub returns : goal.returns

@@ -1,7 +1,6 @@
 -- `lictor::lictor_standardise` meets its contract: it hands on the answer of its entry.
 use Rattle.lictor.proofs.Alike.{scored_alike, standardised_alike}
 use Rattle.conformal.specs.Of.{tables}
-use borrow.Author.Rules.{rules}
 use Rattle.lictor.proofs.lictor_standardise.Goals as goal
 
 pub returns : goal.returns

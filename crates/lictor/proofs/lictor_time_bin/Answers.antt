@@ -1,6 +1,5 @@
 -- `lictor::lictor_time_bin` meets its contract: it hands on the answer of its entry.
 use Rattle.lictor.proofs.Alike.{bin_alike}
-use borrow.Author.Rules.{rules}
 use Rattle.lictor.proofs.lictor_time_bin.Goals as goal
 
 pub returns : goal.returns

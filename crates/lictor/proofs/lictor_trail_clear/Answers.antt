@@ -1,6 +1,5 @@
 -- `lictor::lictor_trail_clear` meets its contract: it hands on the answer of its entry.
 use Rattle.lictor.proofs.Alike.{recorded_alike, clear_alike}
-use borrow.Author.Rules.{rules}
 use Rattle.lictor.proofs.lictor_trail_clear.Goals as goal
 
 pub returns : goal.returns

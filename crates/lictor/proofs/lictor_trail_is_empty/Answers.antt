@@ -1,6 +1,5 @@
 -- `lictor::lictor_trail_is_empty` meets its contract: it hands on the answer of its entry.
 use Rattle.lictor.proofs.Alike.{emptiness_alike, is_empty_alike}
-use borrow.Author.Rules.{rules}
 use Rattle.lictor.proofs.lictor_trail_is_empty.Goals as goal
 
 pub returns : goal.returns

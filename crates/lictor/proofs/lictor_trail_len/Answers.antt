@@ -1,6 +1,5 @@
 -- `lictor::lictor_trail_len` meets its contract: it hands on the answer of its entry.
 use Rattle.lictor.proofs.Alike.{count_alike, len_alike}
-use borrow.Author.Rules.{rules}
 use Rattle.lictor.proofs.lictor_trail_len.Goals as goal
 
 pub returns : goal.returns

@@ -1,6 +1,5 @@
 -- `lictor::lictor_trail_net` meets its contract: it hands on the answer of its entry.
 use Rattle.lictor.proofs.Alike.{number_alike, net_alike}
-use borrow.Author.Rules.{rules}
 use Rattle.lictor.proofs.lictor_trail_net.Goals as goal
 
 pub returns : goal.returns

@@ -1,6 +1,5 @@
 -- `lictor::lictor_trail_path` meets its contract: it hands on the answer of its entry.
 use Rattle.lictor.proofs.Alike.{number_alike, path_alike}
-use borrow.Author.Rules.{rules}
 use Rattle.lictor.proofs.lictor_trail_path.Goals as goal
 
 pub returns : goal.returns

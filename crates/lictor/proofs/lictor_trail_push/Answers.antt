@@ -1,6 +1,5 @@
 -- `lictor::lictor_trail_push` meets its contract: it hands on the answer of its entry.
 use Rattle.lictor.proofs.Alike.{recorded_alike, push_alike}
-use borrow.Author.Rules.{rules}
 use Rattle.lictor.proofs.lictor_trail_push.Goals as goal
 
 pub returns : goal.returns

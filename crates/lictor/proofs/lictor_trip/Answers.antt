@@ -1,6 +1,5 @@
 -- `lictor::lictor_trip` meets its contract: it hands on the answer of its entry.
 use Rattle.lictor.proofs.Alike.{verdict_alike, tripped_alike}
-use borrow.Author.Rules.{rules}
 use Rattle.lictor.proofs.lictor_trip.Goals as goal
 
 pub returns : goal.returns

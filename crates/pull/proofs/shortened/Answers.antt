@@ -1,7 +1,6 @@
 -- `pull::shortened` meets its contract: the factor as the source orders it, then each coordinate.
 use lib.Ieee.{binary64, of_bits, sub, div}
 use Rattle.pull.proofs.Steps.{shortened_is}
-use borrow.Author.Rules.{rules}
 use Rattle.pull.proofs.shortened.Goals as goal
 
 pub returns : goal.returns

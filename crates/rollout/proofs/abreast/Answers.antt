@@ -8,21 +8,17 @@ use borrow.Author.Rules.{rules}
 use borrow.Author.Tests.{not-true, not-false}
 use lib.ListN.{length, length-set}
 use lib.Ieee.{Float, binary64}
-use Rattle.workspace.specs.declared.Workspace.{Workspace}
-use Rattle.rollout.specs.declared.Law.{Law}
 use Rattle.checked.specs.Each.{at}
 use Rattle.checked.specs.Row.{padded}
 use Rattle.checked.proofs.Copy.{all_padded, padded_at}
 use Rattle.course.specs.declared.Plant.{Plant}
 use Rattle.course.specs.declared.Run.{Run}
-use Rattle.course.specs.Plant.{State}
-use Rattle.course.specs.Forecast.{Forecast}
 use Rattle.course.specs.Of.{CameAlong}
 use Rattle.rollout.specs.Of.{gains_of, leg_of, AlongLeg}
 use Rattle.rollout.proofs.Along.{legged_next}
 use Rattle.course.proofs.Along.{along_zero, along_sum, along_at, along_rest}
 use Rattle.rollout.proofs.Wide.{joined_itself, as_long, running, wide_fails, wide_advances, going}
-use Rattle.rollout.proofs.abreast.Invariants.{Coming, first}
+use Rattle.rollout.proofs.abreast.Invariants.{first}
 use Rattle.rollout.proofs.abreast.Goals as goal
 
 -- the first n numbers of the setpoint are taken in

@@ -1,27 +1,20 @@
 -- `rollout::abreast` meets its contract: the loop comes along one entry a turn, with the first n axes as n axes alone would move (`Wide`).
-use Prim.Native.Nat.{ℕ, ◌+◌, ◌-◌, ◌≤◌, ◌<◌, min}
-use mathlib.Core.Path.{◌≡◌, refl, sym, ap, ◌∙◌, subst}
+use Prim.Native.Nat.{ℕ, ◌+◌, ◌-◌, ◌≤◌}
+use mathlib.Core.Path.{◌≡◌}
 use mathlib.Core.Bool.{true}
 use mathlib.Core.List.{List}
-use native.Mathlib.Omega.{arith}
-use borrow.Author.Rules.{rules}
-use borrow.Author.Tests.{not-true, not-false}
-use lib.ListN.{length, length-set}
+use lib.ListN.{length}
 use lib.Ieee.{Float, binary64}
 use Rattle.workspace.specs.declared.Workspace.{Workspace}
 use Rattle.rollout.specs.declared.Law.{Law}
 use Rattle.checked.specs.Each.{at}
-use Rattle.checked.specs.Row.{padded}
-use Rattle.checked.proofs.Copy.{all_padded, padded_at}
 use Rattle.course.specs.declared.Plant.{Plant}
 use Rattle.course.specs.declared.Run.{Run}
 use Rattle.course.specs.Plant.{State}
 use Rattle.course.specs.Forecast.{Forecast}
 use Rattle.course.specs.Of.{CameAlong}
-use Rattle.rollout.specs.Of.{gains_of, leg_of, AlongLeg}
-use Rattle.rollout.proofs.Along.{legged_next}
-use Rattle.course.proofs.Along.{along_zero, along_sum, along_at, along_rest}
-use Rattle.rollout.proofs.Wide.{joined_itself, as_long, running, wide_fails, wide_advances, going}
+use Rattle.rollout.specs.Of.{leg_of, AlongLeg}
+use Rattle.rollout.proofs.Wide.{running}
 use Rattle.rollout.proofs.abreast.Given as goal
 
 -- the run as it starts

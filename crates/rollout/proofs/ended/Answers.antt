@@ -1,5 +1,4 @@
 -- `rollout::ended` meets its contract: its plant is the two joined.
-use borrow.Author.Rules.{rules}
 use Rattle.rollout.proofs.ended.Goals as goal
 
 pub returns : goal.returns

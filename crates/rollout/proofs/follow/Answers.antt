@@ -1,28 +1,20 @@
 -- `rollout::follow` meets its contract: the loop holds one row a turn, and row i is what its substeps go towards (`Rows`).
-use Prim.Native.Nat.{ℕ, ◌+◌, ◌-◌, ◌*◌, ◌≤◌, ◌<◌}
+use Prim.Native.Nat.{ℕ, ◌+◌, ◌-◌, ◌*◌, ◌<◌}
 use mathlib.Core.Path.{◌≡◌, refl, sym, ap, ◌∙◌}
-use mathlib.Core.List.{List}
 use native.Mathlib.Nat.{zero-mul}
 use native.Mathlib.Omega.{arith}
-use borrow.Author.Rules.{rules}
 use lib.ListN.{length}
-use lib.Ieee.{Float, binary64}
+use lib.Ieee.{binary64}
 use Rattle.checked.specs.Checked.{pure}
-use Rattle.course.specs.declared.Course.{Course}
-use Rattle.course.specs.declared.Run.{Run}
-use Rattle.workspace.specs.declared.Workspace.{Workspace}
-use Rattle.rollout.specs.declared.Law.{Law}
 use Rattle.chunk.proofs.Rows.{row_long}
 use Rattle.chunk.proofs.Rows.{row_within_lem}
-use Rattle.course.specs.declared.Plant.{Plant}
 use Rattle.rollout.specs.Rule.{after, forecast}
-use Rattle.rollout.specs.Of.{task_of, Along}
+use Rattle.rollout.specs.Of.{task_of}
 use Rattle.course.specs.Of.{left_of}
 use Rattle.course.proofs.Along.{along_at}
 use Rattle.course.proofs.Room.{shape_of}
 use Rattle.rollout.proofs.Along.{aimed_step}
 use Rattle.rollout.proofs.Rows.{row_more, aims_row}
-use Rattle.rollout.proofs.follow.Invariants.{Following}
 use Rattle.rollout.proofs.follow.Goals as goal
 
 pub loop-i-init : goal.loop-i-init

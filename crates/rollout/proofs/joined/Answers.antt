@@ -1,14 +1,11 @@
 -- `rollout::joined` meets its contract: the loop takes one axis a turn.
-use Prim.Native.Nat.{ℕ, ◌-◌, ◌≤◌}
+use Prim.Native.Nat.{◌-◌}
 use mathlib.Core.Path.{◌≡◌, refl, ◌∙◌}
 use native.Mathlib.Omega.{arith}
 use borrow.Author.Rules.{rules}
-use lib.ListN.{length, length-set}
-use Rattle.course.specs.declared.Plant.{Plant}
+use lib.ListN.{length-set}
 use Rattle.checked.specs.Each.{at, over}
-use Rattle.rollout.specs.Of.{joined_of}
 use Rattle.rollout.proofs.Wide.{joined_more}
-use Rattle.rollout.proofs.joined.Invariants.{Joining}
 use Rattle.rollout.proofs.joined.Goals as goal
 
 pub loop-j-init : goal.loop-j-init

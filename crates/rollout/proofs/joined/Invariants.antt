@@ -1,13 +1,9 @@
 -- `rollout::joined` meets its contract: the loop takes one axis a turn.
 use Prim.Native.Nat.{ℕ, ◌-◌, ◌≤◌}
-use mathlib.Core.Path.{◌≡◌, refl, ◌∙◌}
-use native.Mathlib.Omega.{arith}
-use borrow.Author.Rules.{rules}
-use lib.ListN.{length, length-set}
+use mathlib.Core.Path.{◌≡◌}
+use lib.ListN.{length}
 use Rattle.course.specs.declared.Plant.{Plant}
-use Rattle.checked.specs.Each.{at, over}
 use Rattle.rollout.specs.Of.{joined_of}
-use Rattle.rollout.proofs.Wide.{joined_more}
 use Rattle.rollout.proofs.joined.Given as goal
 
 -- the first j axes are those that moved

@@ -1,6 +1,6 @@
 -- `rollout::rollout` meets its contract: the committed rows, then the setpoint that they leave, come along all N entries (`Along`), or the run stops before a setpoint that is
 -- not sound (`Setpoint`).
-use Prim.Native.Nat.{ℕ, ◌+◌, ◌*◌, ◌≤◌}
+use Prim.Native.Nat.{ℕ, ◌+◌, ◌*◌}
 use mathlib.Core.Path.{◌≡◌, refl, sym, ap, ◌∙◌}
 use mathlib.Core.Bool.{true}
 use native.Mathlib.Nat.{add-mul, zero-add}
@@ -10,10 +10,10 @@ use borrow.Author.Tests.{not-true, not-false}
 use lib.ListN.{length}
 use lib.Ieee.{binary64, of_bits, div}
 use Rattle.checked.specs.declared.Row.{Row}
-use Rattle.rollout.specs.Rule.{Task, row_substeps, total, after, forecast}
+use Rattle.rollout.specs.Rule.{row_substeps, total, after, forecast}
 use Rattle.rollout.specs.Of.{task_of, Along, leg_to, AlongLeg, roomy}
 use Rattle.course.specs.declared.Course.{Course}
-use Rattle.course.specs.Of.{left_of, shaped}
+use Rattle.course.specs.Of.{left_of}
 use Rattle.course.proofs.Along.{along_start, along_at}
 use Rattle.course.proofs.Room.{shape_of}
 use Rattle.rollout.proofs.Room.{room_of}

@@ -1,6 +1,5 @@
 -- `rollout::roomy` meets its contract: its tests are the definition's, and N is the one product of control steps and substeps.
 use native.Mathlib.Omega.{arith}
-use borrow.Author.Rules.{rules}
 use Rattle.checked.specs.Each.{every}
 use Rattle.chunk.proofs.Rows.{place_small}
 use Rattle.course.specs.Of.{shaped}

@@ -1,20 +1,10 @@
 -- `rollout::stepwise` meets its contract: the loop comes along one entry a turn.
-use Prim.Native.Nat.{ℕ, ◌+◌, ◌-◌, ◌≤◌}
+use Prim.Native.Nat.{ℕ, ◌+◌, ◌-◌}
 use mathlib.Core.Path.{◌≡◌, refl, ap, ◌∙◌}
-use mathlib.Core.List.{List}
 use native.Mathlib.Omega.{arith}
-use lib.ListN.{length}
-use lib.Ieee.{Float, binary64}
-use Rattle.course.specs.declared.Run.{Run}
-use Rattle.workspace.specs.declared.Workspace.{Workspace}
-use Rattle.rollout.specs.declared.Law.{Law}
-use Rattle.course.specs.Plant.{State}
-use Rattle.course.specs.Forecast.{Forecast}
-use Rattle.course.specs.Of.{CameAlong}
-use Rattle.rollout.specs.Of.{leg_of, AlongLeg}
+use lib.Ieee.{binary64}
 use Rattle.rollout.proofs.Along.{legged_next}
 use Rattle.course.proofs.Along.{along_zero, along_sum, along_at}
-use Rattle.rollout.proofs.stepwise.Invariants.{Coming}
 use Rattle.rollout.proofs.stepwise.Goals as goal
 
 pub loop-k-init : goal.loop-k-init

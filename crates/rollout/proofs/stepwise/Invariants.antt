@@ -1,8 +1,7 @@
 -- `rollout::stepwise` meets its contract: the loop comes along one entry a turn.
 use Prim.Native.Nat.{ℕ, ◌+◌, ◌-◌, ◌≤◌}
-use mathlib.Core.Path.{◌≡◌, refl, ap, ◌∙◌}
+use mathlib.Core.Path.{◌≡◌}
 use mathlib.Core.List.{List}
-use native.Mathlib.Omega.{arith}
 use lib.ListN.{length}
 use lib.Ieee.{Float, binary64}
 use Rattle.course.specs.declared.Run.{Run}
@@ -12,8 +11,6 @@ use Rattle.course.specs.Plant.{State}
 use Rattle.course.specs.Forecast.{Forecast}
 use Rattle.course.specs.Of.{CameAlong}
 use Rattle.rollout.specs.Of.{leg_of, AlongLeg}
-use Rattle.rollout.proofs.Along.{legged_next}
-use Rattle.course.proofs.Along.{along_zero, along_sum, along_at}
 use Rattle.rollout.proofs.stepwise.Given as goal
 
 -- s of count substeps are run

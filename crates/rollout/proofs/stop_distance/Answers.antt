@@ -1,6 +1,5 @@
 -- `rollout::stop_distance` meets its contract: a sum tells of the distance in it.
 use mathlib.Core.Path.{◌≡◌}
-use borrow.Author.Rules.{rules}
 use lib.Ieee.{binary64, of_bits}
 use Rattle.fmath.specs.Norm.{dist}
 use Rattle.course.specs.Of.{state_of}

@@ -1,19 +1,15 @@
 -- `rollout::substep` meets its contract: the loop takes one axis a turn.
-use Prim.Native.Nat.{ℕ, ◌-◌, ◌≤◌}
-use mathlib.Core.List.{List}
+use Prim.Native.Nat.{◌-◌}
 use mathlib.Core.Path.{◌≡◌, refl, ap, ◌∙◌}
 use native.Mathlib.Omega.{arith}
 use borrow.Author.Rules.{rules}
-use lib.ListN.{length, length-set}
-use lib.Ieee.{Float, binary64}
-use Rattle.course.specs.declared.Plant.{Plant}
-use Rattle.rollout.specs.declared.Law.{Law}
+use lib.ListN.{length-set}
+use lib.Ieee.{binary64}
 use Rattle.rollout.specs.Plant.{Motion, substep}
 use Rattle.rollout.specs.declared.Moved.{Moved}
 use Rattle.rollout.specs.Of.{gains_of}
 use Rattle.course.specs.Of.{state_of}
 use Rattle.rollout.proofs.Told.{substep_more}
-use Rattle.rollout.proofs.substep.Invariants.{Stepping}
 use Rattle.rollout.proofs.substep.Goals as goal
 
 abbrev motion_of : Moved → Motion

@@ -1,18 +1,14 @@
 -- `rollout::substep` meets its contract: the loop takes one axis a turn.
 use Prim.Native.Nat.{ℕ, ◌-◌, ◌≤◌}
 use mathlib.Core.List.{List}
-use mathlib.Core.Path.{◌≡◌, refl, ap, ◌∙◌}
-use native.Mathlib.Omega.{arith}
-use borrow.Author.Rules.{rules}
-use lib.ListN.{length, length-set}
+use mathlib.Core.Path.{◌≡◌}
+use lib.ListN.{length}
 use lib.Ieee.{Float, binary64}
 use Rattle.course.specs.declared.Plant.{Plant}
 use Rattle.rollout.specs.declared.Law.{Law}
-use Rattle.rollout.specs.Plant.{Motion, substep}
-use Rattle.rollout.specs.declared.Moved.{Moved}
+use Rattle.rollout.specs.Plant.{substep}
 use Rattle.rollout.specs.Of.{gains_of}
 use Rattle.course.specs.Of.{state_of}
-use Rattle.rollout.proofs.Told.{substep_more}
 use Rattle.rollout.proofs.substep.Given as goal
 
 -- the first j axes have moved

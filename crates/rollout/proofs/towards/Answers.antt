@@ -4,14 +4,12 @@ use mathlib.Core.Path.{◌≡◌, refl}
 use mathlib.Core.Bool.{true, false}
 use native.Mathlib.Nat.{zero-add}
 use native.Mathlib.Omega.{arith}
-use borrow.Author.Rules.{rules}
-use borrow.Author.Tests.{not-true, not-false}
 use lib.ListN.{length}
 use lib.Ieee.{binary64, of_bits, div}
 use Rattle.checked.specs.Each.{every, every_from}
 use Rattle.course.specs.Of.{state_of, CameAlong}
 use Rattle.course.proofs.Along.{along_start, along_at, run_is, written_is}
-use Rattle.rollout.specs.Leg.{Leg, reached, leg}
+use Rattle.rollout.specs.Leg.{reached, leg}
 use Rattle.rollout.specs.Of.{leg_of, leg_roomy}
 use Rattle.rollout.proofs.Room.{leg_room_of}
 use Rattle.rollout.proofs.towards.Goals as goal

@@ -1,8 +1,6 @@
 -- `stopping::begin` meets its contract: the start's entry is written, or a number on the way to it isn't finite.
 use mathlib.Core.Path.{refl}
 use native.Mathlib.Omega.{arith}
-use borrow.Author.Rules.{rules}
-use borrow.Author.Tests.{not-true, not-false}
 use lib.Ieee.{binary64, of_bits, div}
 use Rattle.stopping.specs.Of.{task_of}
 use Rattle.stopping.proofs.Along.{start_fails, start_enters}

@@ -1,18 +1,14 @@
 -- `stopping::closed_form` meets its contract: the start, then the committed rows, come along all the entries (`Along`).
-use Prim.Native.Nat.{suc, ◌<◌}
+use Prim.Native.Nat.{suc}
 use mathlib.Core.Path.{◌≡◌, refl, sym, ap, ◌∙◌}
-use mathlib.Core.Bool.{true}
 use native.Mathlib.Omega.{arith}
-use borrow.Author.Rules.{rules}
-use borrow.Author.Tests.{not-true, not-false}
-use lib.ListN.{length}
 use lib.Ieee.{binary64, of_bits, div}
 use Rattle.course.proofs.Along.{run_is, written_is}
 use Rattle.checked.specs.declared.Reckoned.{Reckoned}
-use Rattle.stopping.specs.Rule.{Task, stand, reaction, gain, forecast}
-use Rattle.stopping.specs.Of.{task_of, Along, roomy}
+use Rattle.stopping.specs.Rule.{stand, reaction, gain, forecast}
+use Rattle.stopping.specs.Of.{task_of, Along}
 use Rattle.checked.specs.Of.{reckoned_from}
-use Rattle.course.specs.Of.{left_of, shaped}
+use Rattle.course.specs.Of.{left_of}
 use Rattle.course.proofs.Room.{shape_of}
 use Rattle.stopping.proofs.Room.{room_of}
 use Rattle.stopping.proofs.closed_form.Goals as goal

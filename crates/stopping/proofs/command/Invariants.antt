@@ -1,13 +1,10 @@
 -- `stopping::command` meets its contract, axis by axis.
 use Prim.Native.Nat.{ℕ, ◌-◌, ◌≤◌}
-use mathlib.Core.Path.{◌≡◌, refl, ap, ◌∙◌}
-use native.Mathlib.Omega.{arith}
-use borrow.Author.Rules.{rules}
+use mathlib.Core.Path.{◌≡◌}
 use lib.Ieee.{binary64}
 use Rattle.checked.specs.Each.{at}
 use Rattle.checked.specs.Checked.{each}
-use Rattle.checked.proofs.Told.{each_value}
-use Rattle.stopping.specs.Rule.{commanded, command}
+use Rattle.stopping.specs.Rule.{commanded}
 use Rattle.stopping.proofs.command.Given as goal
 
 abbrev pub invariant-loop-j : goal.invariant-loop-j

@@ -3,7 +3,6 @@ use mathlib.Core.Path.{sym, ap}
 use lib.Ieee.{binary64}
 use Rattle.envelope.specs.declared.ActionKind.{ActionKind}
 use Rattle.stopping.specs.Rule.{commanded}
-use borrow.Author.Rules.{rules}
 use Rattle.stopping.proofs.commanded.Goals as goal
 
 pub returns-in-JointVelocity : goal.returns-in-JointVelocity

@@ -4,7 +4,6 @@ use lib.Ieee.{binary64, of_bits}
 use Rattle.envelope.specs.declared.BrakeKind.{BrakeKind}
 use Rattle.stopping.specs.Rule.{d_stop}
 use Rattle.checked.specs.Of.{reckoned_from}
-use borrow.Author.Rules.{rules}
 use Rattle.stopping.proofs.d_stop.Goals as goal
 
 pub returns-in-PdSecondOrder : goal.returns-in-PdSecondOrder

@@ -2,7 +2,6 @@
 use lib.Ieee.{binary64, of_bits}
 use Rattle.stopping.specs.Rule.{ease}
 use Rattle.stopping.proofs.Told.{ease_tells}
-use borrow.Author.Rules.{rules}
 use Rattle.stopping.proofs.ease.Goals as goal
 
 pub returns : goal.returns

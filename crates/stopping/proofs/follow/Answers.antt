@@ -1,23 +1,15 @@
 -- `stopping::follow` meets its contract: the loop takes one row a turn.
-use Prim.Native.Nat.{ℕ, suc, ◌+◌, ◌-◌, ◌≤◌}
+use Prim.Native.Nat.{suc, ◌+◌}
 use mathlib.Core.Path.{◌≡◌, refl, sym, ap, ◌∙◌}
-use mathlib.Core.List.{List}
 use native.Mathlib.Omega.{arith}
-use borrow.Author.Rules.{rules}
 use lib.ListN.{length}
-use lib.Ieee.{Float, binary64}
-use Rattle.course.specs.declared.Run.{Run}
-use Rattle.course.specs.declared.Course.{Course}
-use Rattle.workspace.specs.declared.Workspace.{Workspace}
-use Rattle.stopping.specs.declared.Arm.{Arm}
+use lib.Ieee.{binary64}
 use Rattle.chunk.proofs.Rows.{row_long}
-use Rattle.course.specs.declared.Plant.{Plant}
 use Rattle.course.specs.Of.{left_of}
 use Rattle.course.proofs.Along.{along_at}
 use Rattle.course.proofs.Room.{shape_of}
 use Rattle.stopping.specs.Rule.{stand, forecast}
-use Rattle.stopping.specs.Of.{task_of, Along, Under}
-use Rattle.stopping.proofs.follow.Invariants.{Following}
+use Rattle.stopping.specs.Of.{task_of}
 use Rattle.stopping.proofs.follow.Goals as goal
 
 pub loop-i-init : goal.loop-i-init

@@ -1,5 +1,4 @@
 -- `stopping::quotient` meets its contract.
-use borrow.Author.Rules.{rules}
 use Rattle.stopping.proofs.quotient.Goals as goal
 
 pub returns : goal.returns

@@ -1,6 +1,5 @@
 -- `stopping::radius` meets its contract: its tests tell of each number on the way.
 use mathlib.Core.Path.{◌≡◌}
-use borrow.Author.Rules.{rules}
 use lib.Ieee.{binary64}
 use Rattle.fmath.specs.Norm.{norm}
 use Rattle.stopping.specs.Rule.{radius}

@@ -2,7 +2,6 @@
 use lib.Ieee.{binary64, of_bits}
 use Rattle.stopping.specs.Rule.{ramp}
 use Rattle.stopping.proofs.Told.{ramp_tells}
-use borrow.Author.Rules.{rules}
 use Rattle.stopping.proofs.ramp.Goals as goal
 
 pub returns : goal.returns

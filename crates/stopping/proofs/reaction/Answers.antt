@@ -1,5 +1,4 @@
 -- `stopping::reaction` meets its contract.
-use borrow.Author.Rules.{rules}
 use Rattle.stopping.proofs.reaction.Goals as goal
 
 pub returns : goal.returns

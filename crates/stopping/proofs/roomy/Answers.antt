@@ -1,6 +1,5 @@
 -- `stopping::roomy` meets its contract: its tests are the definition's.
 use native.Mathlib.Omega.{arith}
-use borrow.Author.Rules.{rules}
 use Rattle.checked.specs.Each.{every}
 use Rattle.chunk.proofs.Rows.{place_small}
 use Rattle.course.specs.Of.{shaped}

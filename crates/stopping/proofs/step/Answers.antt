@@ -1,8 +1,7 @@
 -- `stopping::step` meets its contract, axis by axis.
-use Prim.Native.Nat.{ℕ, ◌-◌, ◌≤◌}
+use Prim.Native.Nat.{ℕ}
 use mathlib.Core.Path.{◌≡◌, refl}
 use native.Mathlib.Omega.{arith}
-use borrow.Author.Rules.{rules}
 use lib.Ieee.{Float, binary64}
 use Rattle.checked.specs.Each.{at}
 use Rattle.checked.specs.Checked.{Checked, each}

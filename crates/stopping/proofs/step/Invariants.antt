@@ -1,14 +1,10 @@
 -- `stopping::step` meets its contract, axis by axis.
 use Prim.Native.Nat.{ℕ, ◌-◌, ◌≤◌}
-use mathlib.Core.Path.{◌≡◌, refl}
-use native.Mathlib.Omega.{arith}
-use borrow.Author.Rules.{rules}
-use lib.Ieee.{Float, binary64}
+use mathlib.Core.Path.{◌≡◌}
+use lib.Ieee.{binary64}
 use Rattle.checked.specs.Each.{at}
-use Rattle.checked.specs.Checked.{Checked, each}
-use Rattle.checked.proofs.Told.{each_value, each_sound}
-use Rattle.stopping.specs.Rule.{moved, step}
-use Rattle.stopping.proofs.Told.{moved_tells}
+use Rattle.checked.specs.Checked.{each}
+use Rattle.stopping.specs.Rule.{moved}
 use Rattle.stopping.proofs.step.Given as goal
 
 abbrev pub invariant-loop-j : goal.invariant-loop-j

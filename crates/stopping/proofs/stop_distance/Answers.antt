@@ -1,6 +1,5 @@
 -- `stopping::stop_distance` meets its contract: its tests tell of each number on the way.
 use mathlib.Core.Path.{◌≡◌}
-use borrow.Author.Rules.{rules}
 use lib.IntN.{pos}
 use lib.Ieee.{binary64, of_int}
 use Rattle.checked.specs.Checked.{times}

@@ -1,5 +1,4 @@
 -- `stopping::sum` meets its contract.
-use borrow.Author.Rules.{rules}
 use Rattle.stopping.proofs.sum.Goals as goal
 
 pub returns : goal.returns

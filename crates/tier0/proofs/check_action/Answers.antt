@@ -1,6 +1,5 @@
 -- `tier0::check_action` meets its contract: refused by what is lent, refused by a computed number, or passed.
 use mathlib.Core.Path.{sym, ◌∙◌}
-use native.Mathlib.Nat.{le_of_eq}
 use borrow.Author.Tests.{not-true, not-false}
 use lib.Ieee.{binary64}
 use Rattle.tier0.proofs.Refused.{checks_are, accepted_sizes, sized_checks, lent_refused, not_sound, passes}

@@ -1,6 +1,5 @@
 -- `tier0::check_chunk` meets its contract: refused by what is lent, refused by a computed number, or passed.
 use mathlib.Core.Path.{refl, sym, ◌∙◌}
-use native.Mathlib.Nat.{le_of_eq}
 use native.Mathlib.Omega.{arith}
 use borrow.Author.Tests.{not-true, not-false}
 use lib.Ieee.{binary64, of_bits}

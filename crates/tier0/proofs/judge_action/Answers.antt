@@ -6,7 +6,6 @@ use Rattle.checked.proofs.Copy.{all_padded}
 use Rattle.tier0.specs.Rule.{out_of_workspace}
 use Rattle.tier0.proofs.Stays.{found_inside, padded_alike}
 use Rattle.tier0.proofs.Steps.{judge_is}
-use borrow.Author.Rules.{rules}
 use Rattle.tier0.proofs.judge_action.Goals as goal
 
 pub projection-p-requires : goal.projection-p-requires

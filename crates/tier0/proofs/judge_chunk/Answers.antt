@@ -6,7 +6,6 @@ use lib.Ieee.{binary64}
 use Rattle.tier0.specs.declared.Stride.{Stride}
 use Rattle.tier0.proofs.Stays.{found_inside}
 use Rattle.tier0.proofs.Rows.{judge_chunk_is, first_fits}
-use borrow.Author.Rules.{rules}
 use Rattle.tier0.proofs.judge_chunk.Goals as goal
 
 pub start_row-q-requires : goal.start_row-q-requires

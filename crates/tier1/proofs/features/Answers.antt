@@ -2,7 +2,6 @@
 use lib.Ieee.{binary64}
 use Rattle.conformal.specs.Of.{tables}
 use Rattle.tier1.proofs.Ticks.{refused_from, passed_from}
-use borrow.Author.Rules.{rules}
 use Rattle.tier1.proofs.features.Goals as goal
 
 pub returns-then-refusal-ne0 : goal.returns-then-refusal-ne0

@@ -8,7 +8,6 @@ use Rattle.envelope.proofs.Accepted.{compiled_number, compiled_derived}
 use Rattle.tier1.specs.Of.{out_of, manifest_of}
 use Rattle.tier1.proofs.Ready.{narrow, new_fits, before_fits}
 use Rattle.tier1.proofs.Ticks.{manifest_is, lent_refused, not_sound, passes}
-use borrow.Author.Rules.{rules}
 use Rattle.tier1.proofs.one_tick.Goals as goal
 
 pub returns-then-number-ne0 : goal.returns-then-number-ne0

@@ -1,5 +1,4 @@
 -- `tier1::unchanged` meets its contract: each part is what came in.
-use borrow.Author.Rules.{rules}
 use Rattle.tier1.proofs.unchanged.Goals as goal
 
 pub returns : goal.returns

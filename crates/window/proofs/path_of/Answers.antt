@@ -1,5 +1,5 @@
 -- `window::path_of` meets its contract: the loop keeps the sum of the steps so far, oldest first.
-use Prim.Native.Nat.{ℕ, ◌-◌, ◌≤◌}
+use Prim.Native.Nat.{ℕ, ◌-◌}
 use mathlib.Core.Path.{◌≡◌, refl, ap, ◌∙◌}
 use native.Mathlib.Omega.{arith}
 use lib.Ieee.{binary64, of_bits}

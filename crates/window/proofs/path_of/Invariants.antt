@@ -1,13 +1,10 @@
 -- `window::path_of` meets its contract: the loop keeps the sum of the steps so far, oldest first.
-use Prim.Native.Nat.{ℕ, ◌-◌, ◌≤◌}
-use mathlib.Core.Path.{◌≡◌, refl, ap, ◌∙◌}
-use native.Mathlib.Omega.{arith}
-use lib.Ieee.{binary64, of_bits}
+use Prim.Native.Nat.{◌-◌, ◌≤◌}
+use mathlib.Core.Path.{◌≡◌}
+use lib.Ieee.{binary64}
 use Rattle.checked.specs.Checked.{sum_from}
 use Rattle.checked.specs.Finite.{+0}
-use Rattle.checked.proofs.Sums.{sum_more}
-use Rattle.window.specs.Rule.{step, path}
-use Rattle.window.proofs.Ranges.{path_range}
+use Rattle.window.specs.Rule.{step}
 use Rattle.window.proofs.path_of.Given as goal
 
 abbrev pub invariant-loop-j : goal.invariant-loop-j

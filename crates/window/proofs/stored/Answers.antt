@@ -1,10 +1,9 @@
 -- `window::stored` meets its contract: the loop has copied the first c numbers.
-use Prim.Native.Nat.{◌-◌, ◌≤◌}
 use mathlib.Core.Path.{◌≡◌, refl}
 use native.Mathlib.Omega.{arith}
 use borrow.Author.Rules.{rules}
 use lib.ListN.{length, length-set}
-use lib.Seq.{paste, paste-zero}
+use lib.Seq.{paste-zero}
 use Rattle.checked.proofs.Copy.{copy_more}
 use Rattle.window.proofs.stored.Goals as goal
 

@@ -1,11 +1,8 @@
 -- `window::stored` meets its contract: the loop has copied the first c numbers.
 use Prim.Native.Nat.{◌-◌, ◌≤◌}
-use mathlib.Core.Path.{◌≡◌, refl}
-use native.Mathlib.Omega.{arith}
-use borrow.Author.Rules.{rules}
-use lib.ListN.{length, length-set}
-use lib.Seq.{paste, paste-zero}
-use Rattle.checked.proofs.Copy.{copy_more}
+use mathlib.Core.Path.{◌≡◌}
+use lib.ListN.{length}
+use lib.Seq.{paste}
 use Rattle.window.proofs.stored.Given as goal
 
 abbrev pub invariant-loop-c : goal.invariant-loop-c

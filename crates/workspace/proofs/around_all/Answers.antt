@@ -1,21 +1,15 @@
 -- `workspace::around_all` meets its contract: two axes a turn, of which the two sums tell.
-use Prim.Native.Nat.{ℕ, ◌+◌, ◌-◌, ◌*◌, ◌≤◌, ◌<◌}
-use mathlib.Core.List.{List}
-use mathlib.Core.Path.{◌≡◌, ◌∙◌}
-use mathlib.Core.Bool.{true, ◌&&◌}
+use Prim.Native.Nat.{ℕ, ◌+◌, ◌*◌}
+use mathlib.Core.Path.{◌∙◌}
 use native.Mathlib.Omega.{arith}
 use borrow.Author.Rules.{rules}
-use lib.ListN.{length, set, length-set}
-use lib.Ieee.{Float, binary64}
-use Rattle.workspace.specs.declared.Workspace.{Workspace}
-use Rattle.checked.specs.Each.{at}
-use Rattle.checked.specs.Finite.{finite}
+use lib.ListN.{set, length-set}
+use lib.Ieee.{binary64}
 use Rattle.checked.proofs.Each.{◌&&≡◌}
 use Rattle.checked.proofs.Absorbing.{fine_add_left, fine_add_right}
 use Rattle.workspace.specs.Rule.{gap}
 use Rattle.workspace.specs.Of.{walls_of}
 use Rattle.workspace.proofs.Gaps.{near_more, sums_tell}
-use Rattle.workspace.proofs.around_all.Invariants.{Paired}
 use Rattle.workspace.proofs.around_all.Goals as goal
 
 pub loop-i-init : goal.loop-i-init

@@ -1,6 +1,5 @@
 -- `workspace::beside` meets its contract: its operations are the rule's.
 use mathlib.Core.Path.{refl}
-use borrow.Author.Rules.{rules}
 use Rattle.workspace.specs.Rule.{between}
 use Rattle.workspace.proofs.beside.Goals as goal
 

@@ -2,7 +2,6 @@
 use lib.Ieee.{binary64, of_bits, div}
 use Rattle.workspace.specs.Of.{walls_of}
 use Rattle.workspace.proofs.Gaps.{edge_none_r, edge_slack_r_is}
-use borrow.Author.Rules.{rules}
 use Rattle.workspace.proofs.edge_slack_r.Goals as goal
 
 pub returns-in-Box : goal.returns-in-Box

@@ -1,5 +1,4 @@
 -- `workspace::gap` meets its contract: its two tests tell of each number on the way.
-use borrow.Author.Rules.{rules}
 use lib.Ieee.{binary64}
 use Rattle.workspace.specs.Rule.{between}
 use Rattle.workspace.proofs.Gaps.{between_tells}

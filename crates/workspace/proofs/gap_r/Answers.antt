@@ -1,5 +1,4 @@
 -- `workspace::gap_r` meets its contract: its two tests tell of each number on the way.
-use borrow.Author.Rules.{rules}
 use lib.Ieee.{binary64}
 use Rattle.workspace.specs.Rule.{between_r}
 use Rattle.workspace.proofs.Gaps.{within_tells}

@@ -1,6 +1,5 @@
 -- `workspace::inward` meets its contract: at a box the point is put between the walls, with a disc it is pulled before that.
 use mathlib.Core.Path.{sym, ap}
-use borrow.Author.Rules.{rules}
 use lib.Ieee.{binary64}
 use Rattle.workspace.specs.Shape.{first_boxed}
 use Rattle.workspace.specs.Of.{walls_in}

@@ -1,8 +1,6 @@
 -- `workspace::least_of` meets its contract: the loop keeps the least so far.
-use Prim.Native.Nat.{◌-◌, ◌≤◌}
 use mathlib.Core.Path.{◌≡◌, refl, ◌∙◌}
 use native.Mathlib.Omega.{arith}
-use borrow.Author.Rules.{rules}
 use lib.Ieee.{of_bits, div}
 use Rattle.checked.specs.Each.{at}
 use Rattle.checked.specs.Least.{least}

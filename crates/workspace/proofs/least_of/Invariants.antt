@@ -1,12 +1,8 @@
 -- `workspace::least_of` meets its contract: the loop keeps the least so far.
 use Prim.Native.Nat.{◌-◌, ◌≤◌}
-use mathlib.Core.Path.{◌≡◌, refl, ◌∙◌}
-use native.Mathlib.Omega.{arith}
-use borrow.Author.Rules.{rules}
-use lib.Ieee.{of_bits, div}
+use mathlib.Core.Path.{◌≡◌}
 use Rattle.checked.specs.Each.{at}
 use Rattle.checked.specs.Least.{least}
-use Rattle.checked.proofs.Extremes.{least_more}
 use Rattle.workspace.proofs.least_of.Given as goal
 
 abbrev pub invariant-loop-j : goal.invariant-loop-j

@@ -1,6 +1,5 @@
 -- `workspace::outside` meets its contract: at a box nothing is computed, with a disc the distance is compared with the radius.
 use mathlib.Core.Path.{sym, ap}
-use borrow.Author.Rules.{rules}
 use lib.Ieee.{binary64}
 use Rattle.workspace.specs.Shape.{first_boxed}
 use Rattle.workspace.specs.Of.{walls_in}

@@ -1,6 +1,5 @@
 -- `workspace::setpoint` meets its contract: eight coordinates, then inside the walls.
 use native.Mathlib.Omega.{arith}
-use borrow.Author.Rules.{rules}
 use Rattle.checked.proofs.Copy.{eight_is}
 use Rattle.workspace.specs.Rule.{setpoint}
 use Rattle.workspace.proofs.setpoint.Goals as goal

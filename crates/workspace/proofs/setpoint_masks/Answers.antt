@@ -1,6 +1,5 @@
 -- `workspace::setpoint_masks` meets its contract: eight coordinates, then the walls that move them.
 use native.Mathlib.Omega.{arith}
-use borrow.Author.Rules.{rules}
 use Rattle.checked.proofs.Copy.{eight_is}
 use Rattle.workspace.specs.Rule.{setpoint_masks}
 use Rattle.workspace.proofs.setpoint_masks.Goals as goal

@@ -1,6 +1,5 @@
 -- `workspace::shape_ok` meets its contract: by the shape.
 use Rattle.checked.specs.Each.{every, every_from}
-use borrow.Author.Rules.{rules}
 use Rattle.workspace.proofs.shape_ok.Goals as goal
 
 pub returns-in-Disc : goal.returns-in-Disc

@@ -1,21 +1,14 @@
 -- `workspace::slack` meets its contract: a point with fewer coordinates has no slack, and the loop keeps the least so far, the disc's first.
 use Prim.Native.Nat.{ℕ, ◌-◌, ◌≤◌}
-use mathlib.Core.Path.{◌≡◌, ap, ◌∙◌}
+use mathlib.Core.Path.{◌≡◌}
 use mathlib.Core.Bool.{Bool}
 use mathlib.Core.List.{List}
-use mathlib.Core.Logic.{◌⊎◌, inl, inr}
-use native.Mathlib.Nat.{le_refl}
-use native.Mathlib.Omega.{arith}
-use borrow.Author.Rules.{rules}
-use lib.ListN.{length}
-use lib.Ieee.{Float, binary64, of_bits, div}
-use Rattle.checked.specs.Checked.{Checked}
-use Rattle.checked.specs.declared.Reckoned.{Reckoned}
+use mathlib.Core.Logic.{◌⊎◌}
+use lib.Ieee.{Float, binary64}
 use Rattle.workspace.specs.declared.Workspace.{Workspace}
 use Rattle.workspace.specs.Shape.{first_boxed}
 use Rattle.workspace.specs.Rule.{slack_in}
 use Rattle.workspace.specs.Of.{walls_of}
-use Rattle.workspace.proofs.Gaps.{slack_missing, slack_more, slack_start, slack_end}
 use Rattle.workspace.proofs.slack.Given as goal
 
 -- the least over the first j of n axes, from the first that has a box on

@@ -1,13 +1,11 @@
 -- `workspace::slack_abreast` meets its contract: with a disc the axes are judged one by one; at a box what is measured on all eight gives the slack of n
 -- (`slack_from`), or they are judged one by one, too.
 use mathlib.Core.Path.{◌≡◌, sym, ap, ◌∙◌}
-use mathlib.Core.Bool.{true, false, not}
+use mathlib.Core.Bool.{not}
 use native.Mathlib.Omega.{arith}
-use borrow.Author.Rules.{rules}
 use borrow.Author.Tests.{not-false, ltb-false}
 use lib.Dec.{ltb}
 use lib.Ieee.{Float, binary64}
-use Rattle.checked.specs.Finite.{finite}
 use Rattle.checked.specs.Checked.{Checked}
 use Rattle.checked.proofs.Each.{neither}
 use Rattle.workspace.specs.declared.Shape.{Shape}

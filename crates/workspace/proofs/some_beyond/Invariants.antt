@@ -1,21 +1,16 @@
 -- `workspace::some_beyond` meets its contract: from the eighth axis and the last coordinate on none lies beyond, nor one without a box, and the loop keeps the answer so far.
 use Prim.Native.Nat.{ℕ, ◌-◌, ◌≤◌, min}
-use mathlib.Core.Path.{◌≡◌, sym, ap, ◌∙◌}
+use mathlib.Core.Path.{◌≡◌}
 use mathlib.Core.Bool.{Bool}
 use mathlib.Core.List.{List}
-use native.Mathlib.Omega.{arith}
-use borrow.Author.Rules.{rules}
 use lib.ListN.{length}
 use lib.Ieee.{Float}
 use Rattle.checked.specs.Each.{some}
-use Rattle.checked.proofs.Each.{some_more}
 use Rattle.workspace.specs.declared.Bounds.{Bounds}
 use Rattle.workspace.specs.declared.Shape.{Shape}
 use Rattle.workspace.specs.Shape.{first_boxed}
 use Rattle.workspace.specs.Rule.{beyond}
 use Rattle.workspace.specs.Of.{walls_in}
-use Rattle.workspace.proofs.Shapes.{boxed_from}
-use Rattle.workspace.proofs.Gaps.{some_beyond_is, none_beyond_before}
 use Rattle.workspace.proofs.some_beyond.Given as goal
 
 -- the first j of m coordinates are looked at, those before `first` at once

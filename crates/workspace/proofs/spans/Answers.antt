@@ -1,5 +1,4 @@
 -- `workspace::spans` meets its contract: by the shape.
-use borrow.Author.Rules.{rules}
 use Rattle.workspace.proofs.spans.Goals as goal
 
 pub returns-in-Disc : goal.returns-in-Disc

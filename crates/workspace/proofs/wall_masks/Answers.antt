@@ -1,24 +1,20 @@
 -- `workspace::wall_masks` meets its contract: from the eighth axis and the last coordinate on no wall moves anything, and the loop keeps both masks so far.
-use Prim.Native.Nat.{ℕ, ◌-◌, ◌^◌, ◌≤◌, min}
+use Prim.Native.Nat.{ℕ, min}
 use mathlib.Core.Path.{◌≡◌, refl, ap, ◌∙◌}
 use mathlib.Core.Bool.{Bool, ◌&&◌}
-use mathlib.Core.List.{List}
 use native.Mathlib.Omega.{arith}
 use borrow.Author.Rules.{rules}
 use lib.Dec.{leb}
 use lib.ListN.{length}
-use lib.Ieee.{Float}
 use Rattle.bits.specs.Bits.{bits_where}
 use Rattle.bits.proofs.Bits.{Turned, turn}
 use Rattle.checked.proofs.Each.{◌&&≡◌}
-use Rattle.workspace.specs.declared.Bounds.{Bounds}
 use Rattle.workspace.specs.declared.Shape.{Shape}
 use Rattle.workspace.specs.Shape.{first_boxed, boxed}
 use Rattle.workspace.specs.Rule.{raised_at, lowered_at}
 use Rattle.workspace.specs.Of.{walls_in}
 use Rattle.workspace.proofs.Shapes.{boxed_told}
 use Rattle.workspace.proofs.Masks.{low_told, high_told, masks_are}
-use Rattle.workspace.proofs.wall_masks.Invariants.{Looking}
 use Rattle.workspace.proofs.wall_masks.Goals as goal
 
 pub loop-j-init : goal.loop-j-init

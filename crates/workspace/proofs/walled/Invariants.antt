@@ -1,22 +1,14 @@
 -- `workspace::walled` meets its contract: nothing is put past the eighth axis, and from the first axis that has a box on the loop puts one coordinate a turn.
 use Prim.Native.Nat.{ℕ, ◌-◌, ◌≤◌, min}
-use mathlib.Core.Path.{◌≡◌, ap, ◌∙◌}
+use mathlib.Core.Path.{◌≡◌}
 use mathlib.Core.List.{List}
-use native.Mathlib.Nat.{le_refl}
-use native.Mathlib.Omega.{arith}
-use borrow.Author.Rules.{rules}
 use lib.Ieee.{Float}
-use Rattle.checked.specs.Each.{at, over}
-use Rattle.fmath.specs.Clamp.{clamped}
-use Rattle.fmath.specs.declared.Sided.{Sided}
-use Rattle.checked.proofs.Each.{over_more, over_keeps}
+use Rattle.checked.specs.Each.{over}
 use Rattle.workspace.specs.declared.Bounds.{Bounds}
 use Rattle.workspace.specs.declared.Shape.{Shape}
 use Rattle.workspace.specs.Shape.{first_boxed}
 use Rattle.workspace.specs.Rule.{inside_at}
 use Rattle.workspace.specs.Of.{walls_in}
-use Rattle.workspace.proofs.Shapes.{boxed_from}
-use Rattle.workspace.proofs.Gaps.{walled_is, none_inside_before}
 use Rattle.workspace.proofs.walled.Given as goal
 
 -- the first j of m coordinates are put, those before `first` as they are

@@ -1,6 +1,5 @@
 -- `layout::chunks::chunk_of` meets its contract: each part is what its own function gives.
 use Rattle.layout.specs.Chunk.{chunk_of}
-use borrow.Author.Rules.{rules}
 use Rattle.layout.proofs.chunks.chunk_of.Goals as goal
 
 pub returns : goal.returns

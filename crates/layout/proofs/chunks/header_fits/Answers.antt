@@ -2,7 +2,6 @@
 use mathlib.Core.Path.{refl}
 use Rattle.checked.specs.Each.{every, every_from}
 use Rattle.layout.specs.Chunk.{header_fits}
-use borrow.Author.Rules.{rules}
 use Rattle.layout.proofs.chunks.header_fits.Goals as goal
 
 pub returns : goal.returns

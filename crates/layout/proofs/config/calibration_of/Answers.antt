@@ -1,6 +1,5 @@
 -- `layout::config::calibration_of` meets its contract: part by part.
 use Rattle.layout.specs.Config.{calibration_of}
-use borrow.Author.Rules.{rules}
 use Rattle.layout.proofs.config.calibration_of.Goals as goal
 
 pub returns : goal.returns

@@ -1,7 +1,6 @@
 -- `layout::config::channel` meets its contract: by whether the other channel fits.
 use Prim.Native.Nat.{ℕ, ◌≤◌, ◌<◌}
 use mathlib.Core.Path.{◌≡◌}
-use borrow.Author.Rules.{rules}
 use borrow.Author.Tests.{le-leb, lt-leb}
 use Rattle.layout.specs.Places.{in8}
 use Rattle.layout.specs.Config.{channel_of}

@@ -2,7 +2,6 @@
 use mathlib.Core.Path.{refl}
 use Rattle.checked.specs.Each.{every, every_from}
 use Rattle.layout.specs.Config.{choices_fit}
-use borrow.Author.Rules.{rules}
 use Rattle.layout.proofs.config.choices_fit.Goals as goal
 
 pub returns : goal.returns

@@ -1,7 +1,6 @@
 -- `layout::config::counts_fit` meets its contract: each part is what its own function gives.
 use Rattle.checked.specs.Each.{every, every_from}
 use Rattle.layout.specs.Config.{counts_fit}
-use borrow.Author.Rules.{rules}
 use Rattle.layout.proofs.config.counts_fit.Goals as goal
 
 pub returns : goal.returns

@@ -1,6 +1,5 @@
 -- `layout::config::eight` meets its contract: by the listing of the part.
 use Rattle.layout.proofs.Listed.{eight_listed}
-use borrow.Author.Rules.{rules}
 use Rattle.layout.proofs.config.eight.Goals as goal
 
 pub returns : goal.returns

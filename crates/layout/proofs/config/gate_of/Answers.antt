@@ -1,6 +1,5 @@
 -- `layout::config::gate_of` meets its contract: by the law of its parts.
 use Rattle.layout.proofs.Whole.{whole_gate}
-use borrow.Author.Rules.{rules}
 use Rattle.layout.proofs.config.gate_of.Goals as goal
 
 pub returns : goal.returns

@@ -1,7 +1,6 @@
 -- `layout::config::limits_of` meets its contract: by evaluation.
 use mathlib.Core.Path.{refl}
 use Rattle.layout.specs.Config.{limits_of}
-use borrow.Author.Rules.{rules}
 use Rattle.layout.proofs.config.limits_of.Goals as goal
 
 pub returns : goal.returns

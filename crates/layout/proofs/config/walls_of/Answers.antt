@@ -1,6 +1,5 @@
 -- `layout::config::walls_of` meets its contract: each part is what its own function gives.
 use Rattle.layout.specs.Config.{walls_of}
-use borrow.Author.Rules.{rules}
 use Rattle.layout.proofs.config.walls_of.Goals as goal
 
 pub returns : goal.returns

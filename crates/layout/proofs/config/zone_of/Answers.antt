@@ -1,6 +1,5 @@
 -- `layout::config::zone_of` meets its contract: each channel beside the other.
 use Rattle.layout.specs.Config.{zone_of}
-use borrow.Author.Rules.{rules}
 use Rattle.layout.proofs.config.zone_of.Goals as goal
 
 pub returns : goal.returns

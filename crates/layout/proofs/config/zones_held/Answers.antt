@@ -1,7 +1,6 @@
 -- `layout::config::zones_held` meets its contract: each zone's test is its own function's.
 use Rattle.checked.specs.Each.{every, every_from}
 use Rattle.layout.specs.Config.{zones_held}
-use borrow.Author.Rules.{rules}
 use Rattle.layout.proofs.config.zones_held.Goals as goal
 
 pub returns : goal.returns

@@ -1,6 +1,5 @@
 -- `layout::config::zones_of` meets its contract: by the law of its parts.
 use Rattle.layout.proofs.Whole.{whole_zones}
-use borrow.Author.Rules.{rules}
 use Rattle.layout.proofs.config.zones_of.Goals as goal
 
 pub returns : goal.returns

@@ -1,6 +1,5 @@
 -- `layout::places::to_u16` meets its contract: by whether the count fits.
 use native.Mathlib.Omega.{arith}
-use borrow.Author.Rules.{rules}
 use Rattle.layout.proofs.places.to_u16.Goals as goal
 
 pub returns-then-x-lt65535 : goal.returns-then-x-lt65535

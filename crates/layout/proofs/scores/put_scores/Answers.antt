@@ -2,7 +2,6 @@
 use mathlib.Core.Path.{refl}
 use Rattle.checked.specs.Each.{table}
 use Rattle.layout.specs.Scores.{scores_flat}
-use borrow.Author.Rules.{rules}
 use Rattle.layout.proofs.scores.put_scores.Goals as goal
 
 pub returns : goal.returns

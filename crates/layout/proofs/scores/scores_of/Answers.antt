@@ -1,6 +1,5 @@
 -- `layout::scores::scores_of` meets its contract: each part is what its own function gives.
 use Rattle.layout.specs.Scores.{scores_of}
-use borrow.Author.Rules.{rules}
 use Rattle.layout.proofs.scores.scores_of.Goals as goal
 
 pub returns : goal.returns

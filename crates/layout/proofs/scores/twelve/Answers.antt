@@ -1,6 +1,5 @@
 -- `layout::scores::twelve` meets its contract: by the listing of the part.
 use Rattle.layout.proofs.Listed.{twelve_listed}
-use borrow.Author.Rules.{rules}
 use Rattle.layout.proofs.scores.twelve.Goals as goal
 
 pub returns : goal.returns

@@ -1,7 +1,6 @@
 -- `layout::states::state_fits` meets its contract: the chunk's counts and its own.
 use Rattle.checked.specs.Each.{every, every_from}
 use Rattle.layout.specs.State.{state_fits}
-use borrow.Author.Rules.{rules}
 use Rattle.layout.proofs.states.state_fits.Goals as goal
 
 pub returns : goal.returns

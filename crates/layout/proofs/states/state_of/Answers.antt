@@ -1,6 +1,5 @@
 -- `layout::states::state_of` meets its contract: each part is what its own function gives.
 use Rattle.layout.specs.State.{state_of}
-use borrow.Author.Rules.{rules}
 use Rattle.layout.proofs.states.state_of.Goals as goal
 
 pub returns : goal.returns

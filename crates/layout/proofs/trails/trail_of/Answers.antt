@@ -1,6 +1,5 @@
 -- `layout::trails::trail_of` meets its contract: each part is what its own function gives.
 use Rattle.layout.specs.Trail.{trail_of}
-use borrow.Author.Rules.{rules}
 use Rattle.layout.proofs.trails.trail_of.Goals as goal
 
 pub returns : goal.returns

@@ -1,7 +1,6 @@
 -- `lictor::answer::put_bin` meets its contract: by the cases of the answer.
 use mathlib.Core.Path.{refl}
 use Rattle.lictor.specs.Answer.{bin_number, bin_value}
-use borrow.Author.Rules.{rules}
 use Rattle.lictor.proofs.answer.put_bin.Goals as goal
 
 pub returns-in-NoBin : goal.returns-in-NoBin

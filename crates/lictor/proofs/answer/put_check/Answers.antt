@@ -1,7 +1,6 @@
 -- `lictor::answer::put_check` meets its contract: by the cases of the answer.
 use mathlib.Core.Path.{refl}
 use Rattle.lictor.specs.Answer.{check_number, check_marks, check_speed}
-use borrow.Author.Rules.{rules}
 use Rattle.lictor.proofs.answer.put_check.Goals as goal
 
 pub returns-in-Passed : goal.returns-in-Passed

@@ -1,6 +1,5 @@
 -- `lictor::answer::put_count` meets its contract: by the cases of the answer.
 use Rattle.lictor.specs.Answer.{count_number, count_value}
-use borrow.Author.Rules.{rules}
 use Rattle.lictor.proofs.answer.put_count.Goals as goal
 
 pub returns-in-Refused : goal.returns-in-Refused

@@ -1,7 +1,6 @@
 -- `lictor::answer::put_derived` meets its contract: by the test on the number.
 use mathlib.Core.Path.{refl}
 use borrow.Author.Tests.{eq-eqb, ne_eqb}
-use borrow.Author.Rules.{rules}
 use Rattle.lictor.proofs.answer.put_derived.Goals as goal
 
 pub returns-then-number-eq0 : goal.returns-then-number-eq0

@@ -1,6 +1,5 @@
 -- `lictor::answer::put_emptiness` meets its contract: by the cases of the answer.
 use Rattle.lictor.specs.Answer.{emptiness_number, emptiness_value}
-use borrow.Author.Rules.{rules}
 use Rattle.lictor.proofs.answer.put_emptiness.Goals as goal
 
 pub returns-in-Refused : goal.returns-in-Refused

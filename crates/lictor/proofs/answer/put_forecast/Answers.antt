@@ -1,7 +1,6 @@
 -- `lictor::answer::put_forecast` meets its contract: by the cases of the answer.
 use mathlib.Core.Path.{refl}
 use Rattle.lictor.specs.Answer.{forecast_number, forecast_marks, forecast_distances, forecast_place}
-use borrow.Author.Rules.{rules}
 use Rattle.lictor.proofs.answer.put_forecast.Goals as goal
 
 pub returns-in-Accepted : goal.returns-in-Accepted

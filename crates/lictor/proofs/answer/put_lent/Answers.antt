@@ -1,5 +1,4 @@
 -- `lictor::answer::put_lent` meets its contract: by the test for a chunk.
-use borrow.Author.Rules.{rules}
 use Rattle.lictor.proofs.answer.put_lent.Goals as goal
 
 pub returns-then-came : goal.returns-then-came

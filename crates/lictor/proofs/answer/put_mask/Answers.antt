@@ -1,7 +1,6 @@
 -- `lictor::answer::put_mask` meets its contract: by the cases of the answer.
 use mathlib.Core.Path.{refl}
 use Rattle.lictor.specs.Answer.{mask_number, mask_value}
-use borrow.Author.Rules.{rules}
 use Rattle.lictor.proofs.answer.put_mask.Goals as goal
 
 pub returns-in-Mask : goal.returns-in-Mask

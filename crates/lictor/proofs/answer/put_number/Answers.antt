@@ -1,7 +1,6 @@
 -- `put_number` meets its contract: by the two cases of the answer.
 use mathlib.Core.Path.{refl}
 use Rattle.lictor.specs.Answer.{number_of, value_of}
-use borrow.Author.Rules.{rules}
 use Rattle.lictor.proofs.answer.put_number.Goals as goal
 
 pub returns-in-Value : goal.returns-in-Value

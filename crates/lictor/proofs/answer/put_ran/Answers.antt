@@ -1,7 +1,6 @@
 -- `lictor::answer::put_ran` meets its contract: by the cases of the answer.
 use mathlib.Core.Path.{refl}
 use Rattle.lictor.specs.Answer.{ran_number, ran_count, ran_margin, ran_place}
-use borrow.Author.Rules.{rules}
 use Rattle.lictor.proofs.answer.put_ran.Goals as goal
 
 pub returns-in-Accepted : goal.returns-in-Accepted

@@ -1,7 +1,6 @@
 -- `lictor::answer::put_recorded` meets its contract: by the test on the number.
 use mathlib.Core.Path.{refl}
 use borrow.Author.Tests.{eq-eqb, ne_eqb}
-use borrow.Author.Rules.{rules}
 use Rattle.lictor.proofs.answer.put_recorded.Goals as goal
 
 pub returns-then-refused-eq0 : goal.returns-then-refused-eq0

@@ -1,6 +1,5 @@
 -- `lictor::answer::put_scored` meets its contract: by the test on the number.
 use borrow.Author.Tests.{eq-eqb, ne_eqb}
-use borrow.Author.Rules.{rules}
 use Rattle.lictor.proofs.answer.put_scored.Goals as goal
 
 pub returns-then-number-eq0 : goal.returns-then-number-eq0

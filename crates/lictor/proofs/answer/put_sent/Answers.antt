@@ -1,7 +1,6 @@
 -- `lictor::answer::put_sent` meets its contract: by the cases of the answer.
 use mathlib.Core.Path.{refl}
 use Rattle.lictor.specs.Answer.{sent_number, sent_marks}
-use borrow.Author.Rules.{rules}
 use Rattle.lictor.proofs.answer.put_sent.Goals as goal
 
 pub returns-in-Done : goal.returns-in-Done

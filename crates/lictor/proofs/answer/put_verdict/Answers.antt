@@ -3,7 +3,6 @@ use mathlib.Core.Bool.{not}
 use mathlib.Core.Path.{ap}
 use borrow.Author.Tests.{not-true, not-false}
 use Rattle.lictor.specs.Answer.{verdict_number, verdict_value}
-use borrow.Author.Rules.{rules}
 use Rattle.lictor.proofs.answer.put_verdict.Goals as goal
 
 pub returns-then-not-fits : goal.returns-then-not-fits

@@ -4,7 +4,6 @@ use mathlib.Core.Path.{ap}
 use borrow.Author.Tests.{not-true, not-false}
 use Rattle.conformal.specs.Of.{tables}
 use Rattle.lictor.proofs.Alike.{sent_misfit, sent_fits, brake_alike}
-use borrow.Author.Rules.{rules}
 use Rattle.lictor.proofs.braking.lictor_brake_action.Goals as goal
 
 pub returns-then-not-fits : goal.returns-then-not-fits

@@ -5,7 +5,6 @@ use borrow.Author.Tests.{not-true, not-false}
 use Rattle.conformal.specs.Of.{tables}
 use Rattle.lictor.proofs.Alike.{forecast_misfit, forecast_fits, forecast_alike}
 use Rattle.lictor.specs.Asked.{sizes_asked}
-use borrow.Author.Rules.{rules}
 use Rattle.lictor.proofs.braking.lictor_brake_feasible.Goals as goal
 
 pub returns-then-not-fits : goal.returns-then-not-fits

@@ -4,7 +4,6 @@ use mathlib.Core.Path.{ap}
 use borrow.Author.Tests.{not-true, not-false}
 use Rattle.conformal.specs.Of.{tables}
 use Rattle.lictor.proofs.Alike.{ran_misfit, ran_fits, run_alike}
-use borrow.Author.Rules.{rules}
 use Rattle.lictor.proofs.braking.lictor_run_towards.Goals as goal
 
 pub returns-then-not-fits : goal.returns-then-not-fits

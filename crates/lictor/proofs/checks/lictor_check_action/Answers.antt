@@ -4,7 +4,6 @@ use mathlib.Core.Path.{ap}
 use borrow.Author.Tests.{not-true, not-false}
 use Rattle.conformal.specs.Of.{tables}
 use Rattle.lictor.proofs.Alike.{check_misfit, check_fits, action_alike}
-use borrow.Author.Rules.{rules}
 use Rattle.lictor.proofs.checks.lictor_check_action.Goals as goal
 
 pub returns-then-not-fits : goal.returns-then-not-fits

@@ -5,7 +5,6 @@ use borrow.Author.Tests.{not-true, not-false}
 use Rattle.conformal.specs.Of.{tables}
 use Rattle.lictor.proofs.Alike.{check_misfit, check_fits, chunk_alike}
 use Rattle.lictor.specs.Asked.{sizes_asked}
-use borrow.Author.Rules.{rules}
 use Rattle.lictor.proofs.checks.lictor_check_chunk.Goals as goal
 
 pub returns-then-not-fits : goal.returns-then-not-fits

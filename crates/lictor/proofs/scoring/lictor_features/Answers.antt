@@ -3,7 +3,6 @@ use lib.Ieee.{binary64}
 use Rattle.conformal.specs.Of.{tables}
 use Rattle.lictor.proofs.Alike.{featured_alike}
 use Rattle.lictor.proofs.Ticked.{state_rows, refused_places, passed_places}
-use borrow.Author.Rules.{rules}
 use Rattle.lictor.proofs.scoring.lictor_features.Goals as goal
 
 pub returns-then-number-ne0 : goal.returns-then-number-ne0

@@ -1,6 +1,5 @@
 -- `lictor::scoring::lictor_tier1_new` meets its contract: it lays out a new state.
 use Rattle.lictor.proofs.Alike.{laid_alike}
-use borrow.Author.Rules.{rules}
 use Rattle.lictor.proofs.scoring.lictor_tier1_new.Goals as goal
 
 pub returns : goal.returns

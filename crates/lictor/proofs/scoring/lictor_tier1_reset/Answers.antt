@@ -1,6 +1,5 @@
 -- `lictor::scoring::lictor_tier1_reset` meets its contract: it hands on the answer of its entry.
 use Rattle.lictor.proofs.Alike.{cleared_alike, reset_alike}
-use borrow.Author.Rules.{rules}
 use Rattle.lictor.proofs.scoring.lictor_tier1_reset.Goals as goal
 
 pub returns : goal.returns

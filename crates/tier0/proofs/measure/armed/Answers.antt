@@ -1,7 +1,6 @@
 -- `tier0::measure::armed` meets its contract as written.
 use mathlib.Core.Path.{refl}
 use Rattle.tier0.specs.Rule.{arms}
-use borrow.Author.Rules.{rules}
 use Rattle.tier0.proofs.measure.armed.Goals as goal
 
 pub returns : goal.returns

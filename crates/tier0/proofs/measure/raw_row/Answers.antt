@@ -4,7 +4,6 @@ use native.Mathlib.Omega.{arith}
 use lib.ListN.{drop, length-drop}
 use Rattle.checked.proofs.Copy.{all_padded}
 use Rattle.chunk.proofs.Rows.{rest_is}
-use borrow.Author.Rules.{rules}
 use Rattle.tier0.proofs.measure.raw_row.Goals as goal
 
 pub returns : goal.returns

@@ -1,7 +1,6 @@
 -- `tier0::measure::row_before` meets its contract, for row 0 and for a later one.
 use native.Mathlib.Omega.{arith}
 use Rattle.tier0.proofs.Rows.{earlier_fits, before_first_lem, before_later}
-use borrow.Author.Rules.{rules}
 use Rattle.tier0.proofs.measure.row_before.Goals as goal
 
 pub returns-then-i-eq0 : goal.returns-then-i-eq0

@@ -1,7 +1,6 @@
 -- `tier0::measure::start_row` meets its contract: the position over row 0.
 use mathlib.Core.Path.{◌∙◌}
 use native.Mathlib.Omega.{arith}
-use borrow.Author.Rules.{rules}
 use Rattle.checked.proofs.Copy.{all_put}
 use Rattle.tier0.specs.Chunk.{start_row}
 use Rattle.tier0.proofs.measure.start_row.Goals as goal

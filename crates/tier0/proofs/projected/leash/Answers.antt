@@ -2,7 +2,6 @@
 use mathlib.Core.Bool.{not}
 use mathlib.Core.Path.{ap}
 use borrow.Author.Tests.{not-true, not-false}
-use borrow.Author.Rules.{rules}
 use Rattle.tier0.proofs.projected.leash.Goals as goal
 
 pub returns-then-not-speed : goal.returns-then-not-speed

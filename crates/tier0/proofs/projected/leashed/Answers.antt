@@ -4,7 +4,6 @@ use mathlib.Core.Path.{ap}
 use borrow.Author.Tests.{not-true, not-false}
 use lib.Ieee.{binary64}
 use Rattle.tier0.proofs.Steps.{leashed_off, leashed_on}
-use borrow.Author.Rules.{rules}
 use Rattle.tier0.proofs.projected.leashed.Goals as goal
 
 pub returns-then-not-speed-z : goal.returns-then-not-speed-z

@@ -1,13 +1,6 @@
 -- `tier0::projected::moved_dims` meets its contract: bit by bit, each below the next power of two.
-use Prim.Native.Nat.{ℕ, ◌≤◌, ◌-◌, ◌^◌}
-use mathlib.Core.Path.{◌≡◌, refl}
-use native.Mathlib.Nat.{le_antisymm}
-use native.Mathlib.Omega.{arith}
-use borrow.Author.Rules.{rules}
-use lib.Ieee.{ne}
-use Rattle.checked.specs.Each.{at}
-use Rattle.bits.specs.Bits.{bits_where}
-use Rattle.bits.proofs.Bits.{Turned, turn}
+use Prim.Native.Nat.{◌≤◌, ◌-◌, ◌^◌}
+use mathlib.Core.Path.{◌≡◌}
 use Rattle.tier0.specs.Rule.{moved_dims}
 use Rattle.tier0.proofs.projected.moved_dims.Given as goal
 

@@ -1,7 +1,6 @@
 -- `tier0::projected::moved_inside` meets its contract: passed over, or made.
 use lib.Ieee.{binary64}
 use Rattle.tier0.proofs.Steps.{moved_inside_off, moved_inside_on}
-use borrow.Author.Rules.{rules}
 use Rattle.tier0.proofs.projected.moved_inside.Goals as goal
 
 pub returns-then-inside-armed : goal.returns-then-inside-armed

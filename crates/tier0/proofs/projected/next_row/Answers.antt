@@ -1,7 +1,6 @@
 -- `tier0::projected::next_row` meets its contract: the first move, and then the pulls.
 use lib.Ieee.{binary64}
 use Rattle.tier0.proofs.Steps.{moved_row}
-use borrow.Author.Rules.{rules}
 use Rattle.tier0.proofs.projected.next_row.Goals as goal
 
 pub returns : goal.returns

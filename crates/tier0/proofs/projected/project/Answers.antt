@@ -1,7 +1,6 @@
 -- `tier0::projected::project` meets its contract.
 use lib.Ieee.{binary64}
 use Rattle.tier0.proofs.Steps.{project_is}
-use borrow.Author.Rules.{rules}
 use Rattle.tier0.proofs.projected.project.Goals as goal
 
 pub returns : goal.returns

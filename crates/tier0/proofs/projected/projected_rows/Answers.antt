@@ -4,7 +4,6 @@ use lib.Ieee.{binary64}
 use Rattle.checked.proofs.Copy.{all_put}
 use Rattle.chunk.proofs.Rows.{size_small}
 use Rattle.tier0.proofs.Rows.{rows_off, rows_on}
-use borrow.Author.Rules.{rules}
 use Rattle.tier0.proofs.projected.projected_rows.Goals as goal
 
 pub overflow_mul-h : goal.overflow_mul-h

@@ -1,7 +1,6 @@
 -- `tier0::projected::projection` meets its contract under each mode.
 use lib.Ieee.{binary64}
 use Rattle.tier0.proofs.Steps.{projection_off, projection_on}
-use borrow.Author.Rules.{rules}
 use Rattle.tier0.proofs.projected.projection.Goals as goal
 
 pub returns-in-Off : goal.returns-in-Off

@@ -1,7 +1,6 @@
 -- `tier0::projected::pulls` meets its contract, for the first row and for a later one.
 use lib.Ieee.{binary64}
 use Rattle.tier0.proofs.Steps.{first_row, later_row}
-use borrow.Author.Rules.{rules}
 use Rattle.tier0.proofs.projected.pulls.Goals as goal
 
 pub returns-then-first : goal.returns-then-first

@@ -1,12 +1,7 @@
 -- `tier0::projected::put_row` meets its contract: the loop puts one number a turn and keeps the length.
 use Prim.Native.Nat.{◌≤◌, ◌-◌}
-use mathlib.Core.Path.{◌≡◌, refl, ap, ◌∙◌}
-use native.Mathlib.Nat.{le_antisymm}
-use native.Mathlib.Omega.{arith}
-use borrow.Author.Rules.{rules}
-use lib.ListN.{length}
+use mathlib.Core.Path.{◌≡◌}
 use Rattle.tier0.specs.Chunk.{put_row}
-use Rattle.tier0.proofs.Rows.{put_turn, length_put}
 use Rattle.tier0.proofs.projected.put_row.Given as goal
 
 abbrev pub invariant-loop-i : goal.invariant-loop-i

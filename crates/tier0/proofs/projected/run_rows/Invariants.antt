@@ -1,17 +1,11 @@
 -- `tier0::projected::run_rows` meets its contract: each turn projects one row from the projected one before it.
 use Prim.Native.Nat.{◌≤◌, ◌-◌}
-use mathlib.Core.Path.{◌≡◌, refl, ap, ◌∙◌}
-use native.Mathlib.Nat.{le_antisymm}
-use native.Mathlib.Omega.{arith}
-use borrow.Author.Rules.{rules}
+use mathlib.Core.Path.{◌≡◌}
 use lib.ListN.{length}
 use lib.Ieee.{binary64}
-use Rattle.chunk.proofs.Rows.{row_fits, size_small}
-use Rattle.tier0.specs.Rule.{out_of_workspace}
 use Rattle.tier0.specs.Chunk.{run_rows}
 use Rattle.tier0.specs.Of.{slow_of}
-use Rattle.tier0.proofs.Stays.{each_inside}
-use Rattle.tier0.proofs.Rows.{Kept, begun, row_turn, ran, length_put}
+use Rattle.tier0.proofs.Rows.{Kept}
 use Rattle.tier0.proofs.projected.run_rows.Given as goal
 
 abbrev pub invariant-loop-i : goal.invariant-loop-i

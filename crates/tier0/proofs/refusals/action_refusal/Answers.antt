@@ -5,7 +5,6 @@ use Rattle.refusal.specs.Chain.{joined}
 use Rattle.envelope.specs.Refusals.{config_judged}
 use Rattle.tier0.specs.Of.{lent_to_action}
 use lib.Ieee.{binary64}
-use borrow.Author.Rules.{rules}
 use Rattle.tier0.proofs.refusals.action_refusal.Goals as goal
 
 pub returns : goal.returns

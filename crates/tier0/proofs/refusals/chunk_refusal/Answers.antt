@@ -1,7 +1,6 @@
 -- `tier0::refusals::chunk_refusal` meets its contract: the configuration's number, then the sizes', then that of what is lent.
 use Rattle.tier0.proofs.ChunkRefused.{before_is}
 use lib.Ieee.{binary64}
-use borrow.Author.Rules.{rules}
 use Rattle.tier0.proofs.refusals.chunk_refusal.Goals as goal
 
 pub returns : goal.returns

@@ -1,6 +1,5 @@
 -- `tier0::refusals::not_finite` meets its contract: each slice by its own test.
 use Rattle.fmath.specs.Answer.{some_from, some_lent_not_finite}
-use borrow.Author.Rules.{rules}
 use Rattle.tier0.proofs.refusals.not_finite.Goals as goal
 
 pub returns : goal.returns

@@ -2,7 +2,6 @@
 use Rattle.chunk.proofs.Rows.{place_small}
 use mathlib.Core.Path.{◌∙◌}
 use native.Mathlib.Omega.{arith}
-use borrow.Author.Rules.{rules}
 use Rattle.tier0.proofs.refusals.rows_refusal.Goals as goal
 
 pub overflow_mul-h : goal.overflow_mul-h

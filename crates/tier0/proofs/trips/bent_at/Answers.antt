@@ -1,7 +1,6 @@
 -- `tier0::trips::bent_at` meets its contract: three rows, their difference, and one test of its scaled length.
 use lib.Ieee.{binary64}
 use Rattle.tier0.proofs.Rows.{bent_at_is}
-use borrow.Author.Rules.{rules}
 use Rattle.tier0.proofs.trips.bent_at.Goals as goal
 
 pub returns : goal.returns

@@ -1,7 +1,6 @@
 -- `tier0::trips::jolted_at` meets its contract: four rows, their difference, and one test of its scaled length.
 use lib.Ieee.{binary64}
 use Rattle.tier0.proofs.Rows.{jolted_at_is}
-use borrow.Author.Rules.{rules}
 use Rattle.tier0.proofs.trips.jolted_at.Goals as goal
 
 pub returns : goal.returns

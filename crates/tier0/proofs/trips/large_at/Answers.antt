@@ -1,5 +1,4 @@
 -- `tier0::trips::large_at` meets its contract for each difference.
-use borrow.Author.Rules.{rules}
 use Rattle.tier0.proofs.Rows.{accel_fits, jerk_fits}
 use Rattle.tier0.proofs.trips.large_at.Goals as goal
 

@@ -1,8 +1,7 @@
 -- `tier0::trips::large_rows` meets its contract: the loop keeps the answer so far.
-use Prim.Native.Nat.{◌≤◌, ◌-◌}
+use Prim.Native.Nat.{◌-◌}
 use mathlib.Core.Path.{◌≡◌, refl}
 use native.Mathlib.Omega.{arith}
-use borrow.Author.Rules.{rules}
 use lib.Ieee.{binary64}
 use Rattle.checked.specs.Each.{all, some}
 use Rattle.chunk.proofs.Rows.{row_fits}

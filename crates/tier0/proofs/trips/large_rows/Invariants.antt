@@ -1,13 +1,8 @@
 -- `tier0::trips::large_rows` meets its contract: the loop keeps the answer so far.
 use Prim.Native.Nat.{◌≤◌, ◌-◌}
-use mathlib.Core.Path.{◌≡◌, refl}
-use native.Mathlib.Omega.{arith}
-use borrow.Author.Rules.{rules}
+use mathlib.Core.Path.{◌≡◌}
 use lib.Ieee.{binary64}
-use Rattle.checked.specs.Each.{all, some}
-use Rattle.chunk.proofs.Rows.{row_fits}
-use Rattle.tier0.specs.Chunk.{some_of, large_at, further}
-use Rattle.tier0.proofs.Rows.{reads_few, some_turn, some_found}
+use Rattle.tier0.specs.Chunk.{some_of, large_at}
 use Rattle.tier0.proofs.trips.large_rows.Given as goal
 
 abbrev pub invariant-loop-i : goal.invariant-loop-i

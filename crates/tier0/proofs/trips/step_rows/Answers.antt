@@ -1,11 +1,10 @@
 -- `tier0::trips::step_rows` meets its contract: each turn adds one step to what is kept of all.
-use Prim.Native.Nat.{◌≤◌, ◌-◌}
+use Prim.Native.Nat.{◌-◌}
 use native.Mathlib.Nat.{le_antisymm}
 use native.Mathlib.Omega.{arith}
-use borrow.Author.Rules.{rules}
 use lib.Ieee.{binary64, of_bits}
 use Rattle.chunk.proofs.Rows.{row_fits}
-use Rattle.tier0.proofs.Rows.{Strode, set_out, stride, strides_are}
+use Rattle.tier0.proofs.Rows.{set_out, stride, strides_are}
 use Rattle.tier0.proofs.trips.step_rows.Goals as goal
 
 pub loop-i-init : goal.loop-i-init

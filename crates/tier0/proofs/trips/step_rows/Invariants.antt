@@ -1,11 +1,7 @@
 -- `tier0::trips::step_rows` meets its contract: each turn adds one step to what is kept of all.
 use Prim.Native.Nat.{◌≤◌, ◌-◌}
-use native.Mathlib.Nat.{le_antisymm}
-use native.Mathlib.Omega.{arith}
-use borrow.Author.Rules.{rules}
-use lib.Ieee.{binary64, of_bits}
-use Rattle.chunk.proofs.Rows.{row_fits}
-use Rattle.tier0.proofs.Rows.{Strode, set_out, stride, strides_are}
+use lib.Ieee.{binary64}
+use Rattle.tier0.proofs.Rows.{Strode}
 use Rattle.tier0.proofs.trips.step_rows.Given as goal
 
 abbrev pub invariant-loop-i : goal.invariant-loop-i

@@ -5,7 +5,6 @@ use borrow.Author.Tests.{not-true, not-false}
 use lib.Ieee.{binary64}
 use Rattle.tier0.specs.Rule.{arms}
 use Rattle.tier0.proofs.Rows.{trips_some, large_off, large_on}
-use borrow.Author.Rules.{rules}
 use Rattle.tier0.proofs.trips.too_large.Goals as goal
 
 pub armed-requires : goal.armed-requires

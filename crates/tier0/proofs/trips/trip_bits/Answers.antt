@@ -1,7 +1,6 @@
 -- `tier0::trips::trip_bits` meets its contract: six weights, none of which is large.
 use native.Mathlib.Omega.{arith}
 use Rattle.tier0.proofs.Steps.{trips_are}
-use borrow.Author.Rules.{rules}
 use Rattle.tier0.proofs.trips.trip_bits.Goals as goal
 
 pub overflow_add-result : goal.overflow_add-result

@@ -1,15 +1,9 @@
 -- `tier0::walls::any_masks` meets its contract: the loop joins the masks of one row a turn.
-use Prim.Native.Nat.{◌≤◌, ◌-◌}
-use mathlib.Core.Path.{◌≡◌}
+use Prim.Native.Nat.{◌-◌}
 use native.Mathlib.Nat.{le_antisymm}
 use native.Mathlib.Omega.{arith}
-use borrow.Author.Rules.{rules}
 use Rattle.chunk.proofs.Rows.{row_fits}
-use Rattle.workspace.specs.declared.WallMasks.{WallMasks}
-use Rattle.workspace.specs.Of.{walls_in}
-use Rattle.workspace.specs.Rule.{any_masks}
 use Rattle.workspace.proofs.Masks.{none_looked_at, one_more}
-use Rattle.tier0.specs.Chunk.{raw_row}
 use Rattle.tier0.proofs.walls.any_masks.Goals as goal
 
 pub loop-i-init : goal.loop-i-init

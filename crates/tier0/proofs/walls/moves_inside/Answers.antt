@@ -1,5 +1,4 @@
 -- `tier0::walls::moves_inside` meets its contract under each mode.
-use borrow.Author.Rules.{rules}
 use Rattle.tier0.proofs.Masks.{moves_inside_off, moves_inside_on}
 use Rattle.tier0.proofs.walls.moves_inside.Goals as goal
 

@@ -2,7 +2,6 @@
 use mathlib.Core.Bool.{not}
 use mathlib.Core.Path.{ap}
 use borrow.Author.Tests.{not-true, not-false}
-use borrow.Author.Rules.{rules}
 use lib.Ieee.{binary64}
 use Rattle.tier0.proofs.Masks.{rows_moved, rows_unmoved}
 use Rattle.tier0.proofs.walls.rows_masks.Goals as goal

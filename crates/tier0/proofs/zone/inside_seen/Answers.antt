@@ -1,7 +1,6 @@
 -- `tier0::zone::inside_seen` meets its contract: the distance, compared with the radius.
 use lib.Ieee.{binary64}
 use Rattle.tier0.proofs.Steps.{seen_inside}
-use borrow.Author.Rules.{rules}
 use Rattle.tier0.proofs.zone.inside_seen.Goals as goal
 
 pub returns : goal.returns

@@ -1,5 +1,4 @@
 -- `tier0::zone::inside_unseen` meets its contract: by cases on the choice.
-use borrow.Author.Rules.{rules}
 use Rattle.tier0.proofs.zone.inside_unseen.Goals as goal
 
 pub returns-in-Slow : goal.returns-in-Slow

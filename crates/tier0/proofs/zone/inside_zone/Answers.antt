@@ -2,7 +2,6 @@
 use lib.Ieee.{binary64}
 use Rattle.tier0.proofs.Steps.{zone_seen, zone_unseen}
 use Rattle.tier0.proofs.Refused.{seen_parts}
-use borrow.Author.Rules.{rules}
 use Rattle.tier0.proofs.zone.inside_zone.Goals as goal
 
 pub inside_seen-requires : goal.inside_seen-requires

@@ -4,7 +4,6 @@ use mathlib.Core.Path.{ap}
 use borrow.Author.Tests.{not-true, not-false}
 use lib.Ieee.{binary64}
 use Rattle.tier0.proofs.Steps.{slow_off, slow_on}
-use borrow.Author.Rules.{rules}
 use Rattle.tier0.proofs.zone.slow_zone.Goals as goal
 
 pub returns-then-not-armed : goal.returns-then-not-armed

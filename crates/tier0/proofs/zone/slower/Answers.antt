@@ -1,7 +1,6 @@
 -- `tier0::zone::slower` meets its contract: by which of the two the arm is inside.
 use borrow.Author.Tests.{not-true, not-false}
 use Rattle.tier0.proofs.Steps.{slower_outside, slower_both, slower_first}
-use borrow.Author.Rules.{rules}
 use Rattle.tier0.proofs.zone.slower.Goals as goal
 
 pub returns-then-not-a : goal.returns-then-not-a

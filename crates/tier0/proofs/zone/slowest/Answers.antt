@@ -1,13 +1,8 @@
 -- `tier0::zone::slowest` meets its contract: the loop keeps what the zones so far say together.
-use Prim.Native.Nat.{ℕ, ◌≤◌, ◌-◌}
+use Prim.Native.Nat.{◌-◌}
 use mathlib.Core.Path.{◌≡◌}
 use native.Mathlib.Omega.{arith}
-use borrow.Author.Rules.{rules}
-use lib.ListN.{get_or}
 use lib.Ieee.{binary64}
-use Rattle.envelope.specs.declared.Contact.TheVariants.{None}
-use Rattle.tier0.specs.Rule.{slowest}
-use Rattle.tier0.specs.Of.{zone_from}
 use Rattle.tier0.proofs.Steps.{none_asked, one_more_asked}
 use Rattle.tier0.proofs.zone.slowest.Goals as goal
 

@@ -1,7 +1,6 @@
 -- `tier0::zone::zone_in` meets its contract in each case of the contact, inside and outside.
 use lib.Ieee.{binary64, of_bits}
 use Rattle.tier0.proofs.Steps.{unconfigured, zone_inside, zone_outside}
-use borrow.Author.Rules.{rules}
 use Rattle.tier0.proofs.zone.zone_in.Goals as goal
 
 pub returns-in-None : goal.returns-in-None

@@ -1,6 +1,5 @@
 -- `Tier1Rt::new` meets its contract: each part is new.
 use lib.Ieee.{of_bits}
-use borrow.Author.Rules.{rules}
 use Rattle.tier1.proofs.Tier1Rt.new.Goals as goal
 
 pub returns : goal.returns

@@ -1,7 +1,6 @@
 -- `Tier1Rt::reset` meets its contract: a damaged state stays, another is cleared.
 use lib.Ieee.{of_bits}
 use Rattle.tier1.proofs.Ticks.{cleared_refused, cleared_passed}
-use borrow.Author.Rules.{rules}
 use Rattle.tier1.proofs.Tier1Rt.reset.Goals as goal
 
 pub returns-then-number-ne0 : goal.returns-then-number-ne0

@@ -5,7 +5,6 @@ use native.Mathlib.Omega.{arith}
 use borrow.Author.Tests.{lt-leb, le-leb}
 use lib.Ieee.{binary64}
 use Rattle.tier1.proofs.Found.{not_there, is_there, acm_is}
-use borrow.Author.Rules.{rules}
 use Rattle.tier1.proofs.held.acm_neg.Goals as goal
 
 pub returns-then-h-lt2 : goal.returns-then-h-lt2

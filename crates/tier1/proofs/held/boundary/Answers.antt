@@ -1,6 +1,5 @@
 -- `tier1::held::boundary` meets its contract: each part is its rule's.
 use Rattle.tier1.proofs.Masks.{bits_are, boundary_is}
-use borrow.Author.Rules.{rules}
 use lib.Ieee.{binary64}
 use Rattle.tier1.proofs.held.boundary.Goals as goal
 

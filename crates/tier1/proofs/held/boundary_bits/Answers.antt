@@ -1,6 +1,5 @@
 -- `tier1::held::boundary_bits` meets its contract: six weights, none of which is large.
 use Rattle.tier1.proofs.Masks.{weights_are}
-use borrow.Author.Rules.{rules}
 use Rattle.tier1.proofs.held.boundary_bits.Goals as goal
 
 pub returns : goal.returns

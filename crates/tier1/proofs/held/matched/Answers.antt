@@ -6,7 +6,6 @@ use lib.Ieee.{binary64, of_bits}
 use lib.ListN.{length}
 use Rattle.chunk.proofs.Rows.{row_fits, size_small}
 use Rattle.tier1.proofs.Found.{matched_is}
-use borrow.Author.Rules.{rules}
 use Rattle.tier1.proofs.held.matched.Goals as goal
 
 pub squared_gaps-den-requires : goal.squared_gaps-den-requires

@@ -7,7 +7,6 @@ use borrow.Author.Tests.{lt-leb, le-leb}
 use lib.Dec.{leb}
 use Rattle.tier1.proofs.Found.{neither_there, both_there}
 use Rattle.tier1.proofs.Meeting.{overlapping}
-use borrow.Author.Rules.{rules}
 use Rattle.tier1.proofs.held.met.Goals as goal
 
 pub returns-then-l-lt2 : goal.returns-then-l-lt2

@@ -7,7 +7,6 @@ use lib.Ieee.{binary64, of_bits}
 use lib.ListN.{length}
 use Rattle.chunk.proofs.Rows.{row_fits}
 use Rattle.tier1.proofs.Found.{not_there, is_there, njr_is}
-use borrow.Author.Rules.{rules}
 use Rattle.tier1.proofs.held.njr.Goals as goal
 
 pub returns-then-h-lt4 : goal.returns-then-h-lt4

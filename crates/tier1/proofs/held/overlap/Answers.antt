@@ -3,7 +3,6 @@ use mathlib.Core.Bool.{not}
 use mathlib.Core.Path.{ap}
 use borrow.Author.Tests.{not-true, not-false}
 use Rattle.tier1.proofs.Meeting.{apart, not_earlier, all_past, shares}
-use borrow.Author.Rules.{rules}
 use Rattle.tier1.proofs.held.overlap.Goals as goal
 
 pub returns-then-not-k-d : goal.returns-then-not-k-d

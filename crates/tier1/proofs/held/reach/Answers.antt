@@ -4,7 +4,6 @@ use borrow.Author.Tests.{lt-ltb, le-ltb}
 use lib.Dec.{ltb}
 use lib.Ieee.{binary64}
 use Rattle.tier1.proofs.Found.{not_there, is_there, reach_is}
-use borrow.Author.Rules.{rules}
 use Rattle.tier1.proofs.held.reach.Goals as goal
 
 pub returns-then-n-gt0 : goal.returns-then-n-gt0

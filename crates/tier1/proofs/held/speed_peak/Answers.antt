@@ -4,7 +4,6 @@ use lib.Ieee.{binary64}
 use lib.ListN.{length}
 use Rattle.chunk.proofs.Rows.{row_fits}
 use Rattle.tier1.proofs.Found.{speed_is}
-use borrow.Author.Rules.{rules}
 use Rattle.tier1.proofs.held.speed_peak.Goals as goal
 
 pub start_row-q-requires : goal.start_row-q-requires

@@ -1,7 +1,6 @@
 -- `tier1::refusals::features_refusal` meets its contract: the earliest number of all arguments.
 use lib.Ieee.{binary64}
 use Rattle.tier1.proofs.Ready.{judged_is}
-use borrow.Author.Rules.{rules}
 use Rattle.tier1.proofs.refusals.features_refusal.Goals as goal
 
 pub returns : goal.returns

@@ -3,7 +3,6 @@ use mathlib.Core.Bool.{not}
 use mathlib.Core.Path.{ap}
 use borrow.Author.Tests.{not-true, not-false}
 use Rattle.tier1.proofs.Ready.{none_new, new_is}
-use borrow.Author.Rules.{rules}
 use Rattle.tier1.proofs.refusals.new_refusal.Goals as goal
 
 pub returns-then-not-there : goal.returns-then-not-there

@@ -1,6 +1,5 @@
 -- `tier1::refusals::not_finite` meets its contract: four judgements.
 use Rattle.tier1.proofs.Ready.{lent_is}
-use borrow.Author.Rules.{rules}
 use Rattle.tier1.proofs.refusals.not_finite.Goals as goal
 
 pub returns : goal.returns

@@ -1,6 +1,5 @@
 -- `tier1::refusals::state_refusal` meets its contract: the earliest number of the trail, the chunk before and the held features.
 use Rattle.tier1.proofs.Ready.{state_is}
-use borrow.Author.Rules.{rules}
 use Rattle.tier1.proofs.refusals.state_refusal.Goals as goal
 
 pub returns : goal.returns

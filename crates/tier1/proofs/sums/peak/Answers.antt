@@ -1,15 +1,11 @@
 -- `tier1::sums::peak` meets its contract: the loop takes one step more a turn.
-use Prim.Native.Nat.{◌+◌, ◌≤◌, ◌-◌}
+use Prim.Native.Nat.{◌+◌, ◌-◌}
 use mathlib.Core.Path.{◌≡◌}
-use mathlib.Core.List.{List}
 use native.Mathlib.Omega.{arith}
-use lib.Ieee.{Float, binary64, of_bits}
+use lib.Ieee.{binary64, of_bits}
 use lib.ListN.{length}
-use Rattle.fmath.specs.Norm.{dist}
 use Rattle.chunk.proofs.Rows.{row_fits}
-use Rattle.tier1.specs.Rule.{peak}
 use Rattle.tier1.proofs.Rows.{first_stride, next_stride, peak_is}
-use borrow.Author.Rules.{rules}
 use Rattle.tier1.proofs.sums.peak.Goals as goal
 
 pub loop-i-init : goal.loop-i-init

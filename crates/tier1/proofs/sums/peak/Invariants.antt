@@ -2,14 +2,9 @@
 use Prim.Native.Nat.{◌+◌, ◌≤◌, ◌-◌}
 use mathlib.Core.Path.{◌≡◌}
 use mathlib.Core.List.{List}
-use native.Mathlib.Omega.{arith}
-use lib.Ieee.{Float, binary64, of_bits}
-use lib.ListN.{length}
+use lib.Ieee.{Float, binary64}
 use Rattle.fmath.specs.Norm.{dist}
-use Rattle.chunk.proofs.Rows.{row_fits}
 use Rattle.tier1.specs.Rule.{peak}
-use Rattle.tier1.proofs.Rows.{first_stride, next_stride, peak_is}
-use borrow.Author.Rules.{rules}
 use Rattle.tier1.proofs.sums.peak.Given as goal
 
 abbrev pub invariant-loop-i : goal.invariant-loop-i

@@ -1,6 +1,5 @@
 -- `tier1::sums::row` meets its contract: the part from the row's start to the end is what is left of the rows.
 use Prim.Native.Nat.{◌*◌}
-use borrow.Author.Rules.{rules}
 use Rattle.chunk.proofs.Rows.{rest_is}
 use Rattle.tier1.proofs.sums.row.Goals as goal
 

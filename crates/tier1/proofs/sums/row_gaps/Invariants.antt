@@ -1,13 +1,9 @@
 -- `tier1::sums::row_gaps` meets its contract: the loop adds one coordinate a turn.
 use Prim.Native.Nat.{◌≤◌, ◌-◌}
-use mathlib.Core.Path.{◌≡◌, refl}
-use native.Mathlib.Nat.{le_antisymm}
-use native.Mathlib.Omega.{arith}
+use mathlib.Core.Path.{◌≡◌}
 use lib.Ieee.{binary64}
 use Rattle.checked.specs.Checked.{sum_from}
-use Rattle.checked.proofs.Sums.{sum_more}
-use Rattle.tier1.specs.Rule.{normal, gap}
-use borrow.Author.Rules.{rules}
+use Rattle.tier1.specs.Rule.{gap}
 use Rattle.tier1.proofs.sums.row_gaps.Given as goal
 
 abbrev pub invariant-loop-c : goal.invariant-loop-c

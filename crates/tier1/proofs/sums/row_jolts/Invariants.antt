@@ -1,13 +1,9 @@
 -- `tier1::sums::row_jolts` meets its contract: the loop adds one coordinate a turn.
 use Prim.Native.Nat.{◌≤◌, ◌-◌}
-use mathlib.Core.Path.{◌≡◌, refl}
-use native.Mathlib.Nat.{le_antisymm}
-use native.Mathlib.Omega.{arith}
-use lib.Ieee.{binary64, of_bits}
+use mathlib.Core.Path.{◌≡◌}
+use lib.Ieee.{binary64}
 use Rattle.checked.specs.Checked.{sum_from}
-use Rattle.checked.proofs.Sums.{sum_more}
-use Rattle.tier1.specs.Rule.{normal, jolt}
-use borrow.Author.Rules.{rules}
+use Rattle.tier1.specs.Rule.{jolt}
 use Rattle.tier1.proofs.sums.row_jolts.Given as goal
 
 abbrev pub invariant-loop-c : goal.invariant-loop-c

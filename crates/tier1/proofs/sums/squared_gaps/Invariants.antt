@@ -1,14 +1,8 @@
 -- `tier1::sums::squared_gaps` meets its contract: the loop adds one row a turn.
-use Prim.Native.Nat.{◌+◌, ◌≤◌, ◌-◌}
-use mathlib.Core.Path.{◌≡◌, refl}
-use native.Mathlib.Nat.{le_antisymm}
-use native.Mathlib.Omega.{arith}
-use lib.Ieee.{binary64, of_bits}
-use lib.ListN.{length}
-use Rattle.chunk.proofs.Rows.{row_fits}
+use Prim.Native.Nat.{◌≤◌, ◌-◌}
+use mathlib.Core.Path.{◌≡◌}
+use lib.Ieee.{binary64}
 use Rattle.tier1.specs.Rule.{sum_rows, gaps}
-use Rattle.tier1.proofs.Rows.{row_long, rows_more}
-use borrow.Author.Rules.{rules}
 use Rattle.tier1.proofs.sums.squared_gaps.Given as goal
 
 abbrev pub invariant-loop-i : goal.invariant-loop-i

@@ -1,7 +1,6 @@
 -- `tier1::sums::start_row` meets its contract: row 0 first, then the position over its shared coordinates.
 use mathlib.Core.Path.{◌∙◌}
 use native.Mathlib.Omega.{arith}
-use borrow.Author.Rules.{rules}
 use Rattle.checked.proofs.Copy.{all_put, all_padded}
 use Rattle.tier1.specs.Rule.{start_row}
 use Rattle.tier1.proofs.sums.start_row.Goals as goal

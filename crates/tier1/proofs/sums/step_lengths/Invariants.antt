@@ -1,18 +1,10 @@
 -- `tier1::sums::step_lengths` meets its contract: the loop adds one step a turn.
 use Prim.Native.Nat.{◌+◌, ◌≤◌, ◌-◌}
-use mathlib.Core.Path.{◌≡◌, refl, ap, ◌∙◌}
-use native.Mathlib.Nat.{le_antisymm}
-use native.Mathlib.Omega.{arith}
-use lib.Ieee.{binary64, of_bits}
-use lib.ListN.{length}
-use Rattle.root.specs.Root.{root_of}
+use mathlib.Core.Path.{◌≡◌}
+use lib.Ieee.{binary64}
 use Rattle.checked.specs.Checked.{sum_from}
 use Rattle.checked.specs.Finite.{+0}
-use Rattle.checked.proofs.Sums.{sum_more}
-use Rattle.chunk.proofs.Rows.{row_fits}
 use Rattle.tier1.specs.Rule.{step_length}
-use Rattle.tier1.proofs.Rows.{row_long}
-use borrow.Author.Rules.{rules}
 use Rattle.tier1.proofs.sums.step_lengths.Given as goal
 
 abbrev pub invariant-loop-i : goal.invariant-loop-i

@@ -6,7 +6,6 @@ use borrow.Author.Tests.{not-true, not-false}
 use lib.Ieee.{nan, div, of_bits}
 use lib.ListN.{get_or-eq_default}
 use Rattle.tier1.proofs.Masks.{not_valid, value_held, value_trail, value_lent}
-use borrow.Author.Rules.{rules}
 use Rattle.tier1.proofs.tick.feature_at.Goals as goal
 
 pub returns-then-not-on : goal.returns-then-not-on

@@ -1,19 +1,15 @@
 -- `tier1::tick::gathered` meets its contract: the loop takes one feature more a turn.
-use Prim.Native.Nat.{ℕ, ◌^◌, ◌≤◌, ◌-◌}
-use mathlib.Core.List.{List}
+use Prim.Native.Nat.{◌-◌}
 use mathlib.Core.Path.{◌≡◌, refl, ◌∙◌}
 use native.Mathlib.Omega.{arith}
 use borrow.Author.Rules.{rules}
-use lib.Ieee.{Float}
 use lib.Pow.{pow_pos}
-use lib.ListN.{length, take, length-set}
+use lib.ListN.{length, length-set}
 use Rattle.checked.specs.Each.{table}
 use Rattle.checked.proofs.Each.{table_more, table_all}
 use Rattle.bits.specs.Bits.{bits_where}
 use Rattle.bits.proofs.Bits.{Turned, turn}
-use Rattle.envelope.specs.Derive.{kept}
-use Rattle.tier1.specs.Rule.{valid_at, value_at}
-use Rattle.tier1.proofs.tick.gathered.Invariants.{Gathered}
+use Rattle.tier1.specs.Rule.{valid_at}
 use Rattle.tier1.proofs.tick.gathered.Goals as goal
 
 pub loop-j-init : goal.loop-j-init

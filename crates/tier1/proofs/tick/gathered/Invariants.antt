@@ -1,16 +1,11 @@
 -- `tier1::tick::gathered` meets its contract: the loop takes one feature more a turn.
 use Prim.Native.Nat.{ℕ, ◌^◌, ◌≤◌, ◌-◌}
 use mathlib.Core.List.{List}
-use mathlib.Core.Path.{◌≡◌, refl, ◌∙◌}
-use native.Mathlib.Omega.{arith}
-use borrow.Author.Rules.{rules}
+use mathlib.Core.Path.{◌≡◌}
 use lib.Ieee.{Float}
-use lib.Pow.{pow_pos}
-use lib.ListN.{length, take, length-set}
+use lib.ListN.{length, take}
 use Rattle.checked.specs.Each.{table}
-use Rattle.checked.proofs.Each.{table_more, table_all}
 use Rattle.bits.specs.Bits.{bits_where}
-use Rattle.bits.proofs.Bits.{Turned, turn}
 use Rattle.envelope.specs.Derive.{kept}
 use Rattle.tier1.specs.Rule.{valid_at, value_at}
 use Rattle.tier1.proofs.tick.gathered.Given as goal

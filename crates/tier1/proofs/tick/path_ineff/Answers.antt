@@ -3,7 +3,6 @@ use borrow.Author.Tests.{lt-leb, le-leb}
 use lib.Ieee.{binary64, of_bits}
 use Rattle.tier1.specs.Rule.{net_length, path_length, path_ineff}
 use Rattle.tier1.proofs.Found.{not_there, is_there, ineff_is}
-use borrow.Author.Rules.{rules}
 use Rattle.tier1.proofs.tick.path_ineff.Goals as goal
 
 pub returns-then-t-lt-PE_WINDOW : goal.returns-then-t-lt-PE_WINDOW

@@ -1,6 +1,5 @@
 -- `tier1::tick::twelve` meets its contract: the trail's feature, then all of them.
 use Rattle.tier1.proofs.Masks.{twelve_is}
-use borrow.Author.Rules.{rules}
 use lib.Ieee.{binary64}
 use Rattle.tier1.proofs.tick.twelve.Goals as goal
 

@@ -1,6 +1,5 @@
 -- `tier1::tick::valid_at` meets its contract: a held feature, PathIneff, Stall or an external one.
 use Rattle.tier1.proofs.Masks.{valid_held, valid_trail, valid_never, valid_lent}
-use borrow.Author.Rules.{rules}
 use Rattle.tier1.proofs.tick.valid_at.Goals as goal
 
 pub returns-then-j-lt-PATH_INEFF : goal.returns-then-j-lt-PATH_INEFF

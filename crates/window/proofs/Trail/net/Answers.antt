@@ -1,7 +1,6 @@
 -- `Trail::net` meets its contract: the trail is judged first, and the test of the last number is a test of all.
 use Prim.Native.Nat.{ℕ}
 use mathlib.Core.Path.{◌≡◌, ap, ◌∙◌}
-use borrow.Author.Rules.{rules}
 use lib.Ieee.{Float, binary64}
 use Rattle.fmath.specs.declared.Number.{Number}
 use Rattle.refusal.specs.Order.{refusal}

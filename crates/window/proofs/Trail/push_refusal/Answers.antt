@@ -1,6 +1,5 @@
 -- `Trail::push_refusal` meets its contract: the trail is judged first, then the position.
 use mathlib.Core.Path.{sym, ◌∙◌}
-use borrow.Author.Rules.{rules}
 use lib.ListN.{length}
 use Rattle.checked.specs.Finite.{all_finite}
 use Rattle.window.specs.Answer.{out_of_size, unfit}

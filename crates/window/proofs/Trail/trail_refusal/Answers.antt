@@ -1,6 +1,5 @@
 -- `Trail::trail_refusal` meets its contract, by its two tests.
 use mathlib.Core.Path.{sym, ◌∙◌}
-use borrow.Author.Rules.{rules}
 use Rattle.window.specs.Answer.{unfit}
 use Rattle.window.proofs.TrailJudged.{size_refused, numbers_refused, trail_accepted}
 use Rattle.window.proofs.Trail.trail_refusal.Goals as goal

@@ -1,5 +1,4 @@
 -- `Trail::unfit` meets its contract: its test is the rule's.
-use borrow.Author.Rules.{rules}
 use Rattle.window.proofs.Trail.unfit.Goals as goal
 
 pub returns : goal.returns
