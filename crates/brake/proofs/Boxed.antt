@@ -1,5 +1,6 @@
 -- Each of the first `bounded` coordinates that a position kind's brake or hold writes lies in its box, where it has one: there the row is the position, which is finite,
 -- moved inside walls that an accepted configuration has finite and in order.
+use Rattle.std.specs.Prelude.{Ok}
 use Prim.Native.Nat.{ℕ, zero, suc, min, ◌<◌}
 use mathlib.Core.Path.{◌≡◌, refl}
 use mathlib.Core.Bool.{Bool, true, false, not, ◌||◌, false≢true}
@@ -25,14 +26,13 @@ use Rattle.workspace.specs.declared.WallMasks.{WallMasks}
 use Rattle.workspace.specs.Shape.{boxed}
 use Rattle.workspace.specs.Rule.{setpoint}
 use Rattle.workspace.proofs.Inside.{setpoint_inside, setpoint_long}
-use Rattle.brake.specs.declared.Sent.TheVariants.{Done}
 use Rattle.brake.specs.Rule.{walls_at, is_position, takes_last, sent_row}
 use Rattle.brake.specs.Answer.{last_short, last_unfit, row_lent, sent_at, masks_sent, brake_sent, brake_refusal, brake_answer, brake_output, hold_sent, hold_refusal, hold_answer, hold_output}
 use Rattle.brake.specs.Promises.{InBox, bounded, BrakesInside, HoldsInside}
 use Rattle.brake.proofs.Sending.{Position, position_brakes, position_holds, sized}
 use Rattle.brake.proofs.Gripped.{own_written}
 
-pub sent_zero : (k : ℕ) (x m : WallMasks) → sent_at k x ≡ Done m → k ≡ 0
+pub sent_zero : (k : ℕ) (x m : WallMasks) → sent_at k x ≡ Ok m → k ≡ 0
 sent_zero zero x m e = refl
 sent_zero (suc k) x m e = let z : ◌≡◌ {A = ℕ} 0 1 = cc in absurd (omega arith)
 

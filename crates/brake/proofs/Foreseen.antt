@@ -1,4 +1,6 @@
 -- Where nothing that is judged beforehand refuses a call, the forecast's answer and its lent entries are what the forecast comes to, case by case.
+use Rattle.std.specs.Prelude.{Err, Result}
+use Rattle.refusal.specs.declared.Refusal.{Refusal}
 use Prim.Native.Nat.{ℕ, suc, ◌+◌, ◌-◌, ◌*◌, ◌≤◌, ◌<◌}
 use mathlib.Core.Path.{◌≡◌, refl, sym, ap, ◌∙◌}
 use mathlib.Core.Bool.{true, false}
@@ -19,9 +21,8 @@ use Rattle.course.specs.Forecast.{Forecast, fine, slack_at, place_of, margin_of,
 use Rattle.rollout.specs.Rule.{forecast}
 use Rattle.course.proofs.Entries.{Whole, whole_leads, written_in_order, others_kept, first_failing_place, failing_at_the_end}
 use Rattle.brake.specs.declared.BrakeOut.{BrakeOut}
-use Rattle.brake.specs.declared.BrakeOut.TheVariants as out
 use Rattle.brake.specs.Rule.{second_order, forecast_by}
-use Rattle.brake.specs.Answer.{outcome, plan, lent_judged, forecast_answer, forecast_slacks}
+use Rattle.brake.specs.Answer.{outcome, plan, lent_judged, forecast_answer, forecast_slacks, forecast_with}
 use Rattle.brake.proofs.Judged.{foreseen}
 
 -- ---- the forecast
@@ -31,7 +32,7 @@ module _ (f : Format) (c : FuseConfig) (tabs : Tables) (p v rows : List Float) (
   abbrev t : Forecast
   t = plan f c p v rows head from
 
-  abbrev answer : BrakeOut
+  abbrev answer : Result BrakeOut Refusal
   answer = forecast_answer f c tabs p v rows head from (length l)
 
   abbrev slacks : List Float
@@ -45,7 +46,7 @@ module _ (f : Format) (c : FuseConfig) (tabs : Tables) (p v rows : List Float) (
   slacks_are = sym (foreseen f c tabs p v rows head from l free refl refl).leaves
 
   -- if every computed number is finite, the count, the margin, the flag and the stop distance are the forecast's ..
-  pub accepted_answer : Whole t → t.stop.sound ≡ true → answer ≡ out.Accepted t.count (margin_of t) (feasible_of t) t.stop.value
+  pub accepted_answer : Whole t → t.stop.sound ≡ true → answer ≡ forecast_with t.count (margin_of t) (feasible_of t) t.stop.value
   unfolding outcome place_of
   accepted_answer w s = answer_is ∙ rw (w, s)
 
@@ -58,7 +59,7 @@ module _ (f : Format) (c : FuseConfig) (tabs : Tables) (p v rows : List Float) (
 
   -- if place k + 1 is the first with a number that isn't finite, it is refused naming that place, with exactly the k entries before it written
   module _ (k : ℕ) (in-it : k < t.count) (before : all (fine t) k ≡ true) (there : fine t k ≡ false) where
-    pub refused_answer : answer ≡ out.Refused (record { number = 13; place = suc k })
+    pub refused_answer : answer ≡ Err (record { number = 13; place = suc k })
     unfolding outcome
     refused_answer = answer_is ∙ rw ((first_failing_place t k in-it before there).0, ne_eqb (suc k) 0 (λ z. omega arith))
 
@@ -69,7 +70,7 @@ module _ (f : Format) (c : FuseConfig) (tabs : Tables) (p v rows : List Float) (
     refused_rest j b = ap (λ (m : List Float). at m j) slacks_are ∙ others_kept t l j (rw (← (first_failing_place t k in-it before there).1) at b)
 
   -- a stop distance that isn't finite has the place after the last entry
-  pub refused_at_the_end : Whole t → t.stop.sound ≡ false → answer ≡ out.Refused (record { number = 13; place = suc t.count })
+  pub refused_at_the_end : Whole t → t.stop.sound ≡ false → answer ≡ Err (record { number = 13; place = suc t.count })
   unfolding outcome
   refused_at_the_end w s = answer_is ∙ rw (failing_at_the_end t w s, ne_eqb (suc t.count) 0 (λ z. omega arith))
 

@@ -1,5 +1,6 @@
 -- Two halves of a run, as the entry answers them: each call comes to its leg's forecast (`Towards`), and of legs `rollout` has said what two halves make. What the first leaves is where
 -- the second starts, and is finite.
+use Rattle.std.specs.Prelude.{Err, Result}
 use Prim.Native.Nat.{ℕ, zero, suc, ◌+◌, ◌*◌, ◌≤◌, ◌<◌, min}
 use mathlib.Core.Path.{◌≡◌, refl, sym, ap, ◌∙◌, subst}
 use mathlib.Core.Bool.{Bool, true, false, not, ◌||◌}
@@ -39,10 +40,9 @@ use Rattle.rollout.specs.Halves as legs
 use Rattle.rollout.proofs.Halves.{halves, promised}
 use Rattle.rollout.proofs.Reached.{Still, start_still, reached_still, own_start, reached_finite, after_still}
 use Rattle.brake.specs.declared.Ran.{Ran}
-use Rattle.brake.specs.declared.Ran.TheVariants.{Accepted, Refused}
 use Rattle.brake.specs.Rule.{live, walls_at, start_at}
 use Rattle.brake.specs.Answer.{too_short}
-use Rattle.brake.specs.Towards.{gains_in, leg_at, run_short, run_lent}
+use Rattle.brake.specs.Towards.{gains_in, leg_at, run_short, run_lent, ran_with}
 use Rattle.brake.specs.Of.{Lends}
 use Rattle.brake.specs.Promises as the-forecast
 use Rattle.brake.specs.Halves.{RunCall, told_by, slacks_left, position_left, velocity_left, StopsAt, plant_run, slack_run, RanThrough, StoppedAt, NothingRun, second, whole, Joined, StoppedFirst, StoppedLater, ExactlyThere, OfItsShape, MadeOfRuns, HalvesPromised}
@@ -51,21 +51,21 @@ use Rattle.brake.proofs.Towards.{before, lends, refused, failed-at, failed-nowhe
 
 -- ---- what an toldBy says
 
-abbrev count_in : Ran → ℕ
-count_in (Accepted n margin) = n
-count_in (Refused r) = 0
+abbrev count_in : Result Ran Refusal → ℕ
+count_in (Ok o) = o.count
+count_in (Err r) = 0
 
-abbrev margin_in : Float → Ran → Float
-margin_in x (Accepted n margin) = margin
-margin_in x (Refused r) = x
+abbrev margin_in : Float → Result Ran Refusal → Float
+margin_in x (Ok o) = o.margin
+margin_in x (Err r) = x
 
-abbrev place_in : Ran → ℕ
-place_in (Accepted n margin) = 0
-place_in (Refused r) = r.place
+abbrev place_in : Result Ran Refusal → ℕ
+place_in (Ok o) = 0
+place_in (Err r) = r.place
 
-abbrev number_in : Ran → ℕ
-number_in (Accepted n margin) = 0
-number_in (Refused r) = r.number
+abbrev number_in : Result Ran Refusal → ℕ
+number_in (Ok o) = 0
+number_in (Err r) = r.number
 
 module _ (x : RunCall) where
   abbrev axes : ℕ
@@ -84,11 +84,11 @@ module _ (x : RunCall) where
   judged = before binary64 x.given_config x.given_tables x.given_aim x.given_position x.given_velocity x.given_substeps (length x.given_entries)
 
   -- what is answered where something that is judged beforehand refuses it
-  barred : (refusal judged ≡ 0 → ⊥) → told_by x ≡ Refused (refused_for (refusal judged))
+  barred : (refusal judged ≡ 0 → ⊥) → told_by x ≡ Err (refused_for (refusal judged))
   barred h = sym (refused binary64 x.given_config x.given_tables x.given_aim x.given_position x.given_velocity x.given_substeps x.given_entries refl h refl).gives
 
   -- a call that is accepted, or refused with 13, is free of that
-  free_by : (a : Ran) → told_by x ≡ a → (number_in a ≡ 0) ⊎ (number_in a ≡ 13) → refusal judged ≡ 0
+  free_by : (a : Result Ran Refusal) → told_by x ≡ a → (number_in a ≡ 0) ⊎ (number_in a ≡ 13) → refusal judged ≡ 0
   free_by a e n = go (eqb (refusal judged) 0) refl
     where
       go : (b : Bool) → eqb (refusal judged) 0 ≡ b → refusal judged ≡ 0
@@ -115,7 +115,7 @@ module _ (x : RunCall) where
       all-fine : all (fine t) x.given_substeps ≡ true
       all-fine = nowhere_all t refl place
 
-      accepts : told_by x ≡ Accepted x.given_substeps (margin_of t)
+      accepts : told_by x ≡ ran_with x.given_substeps (margin_of t)
       accepts = sym (failed-nowhere binary64 x.given_config x.given_tables x.given_aim x.given_position x.given_velocity x.given_substeps x.given_entries free place).gives
 
       writes : slacks_left x ≡ table (slack_at t) x.given_substeps ++ drop x.given_substeps x.given_entries
@@ -155,7 +155,7 @@ module _ (x : RunCall) where
     place_told = sym (place_by (place_of t) refl)
 
     -- so a refusal has one
-    refused_there : (r : Refusal) → told_by x ≡ Refused r → (k : ℕ) × (k < x.given_substeps) × StopsAt x (suc k)
+    refused_there : (r : Refusal) → told_by x ≡ Err r → (k : ℕ) × (k < x.given_substeps) × StopsAt x (suc k)
     refused_there r e = go (place_of t) refl
       where
         go : (i : ℕ) → place_of t ≡ i → (k : ℕ) × (k < x.given_substeps) × StopsAt x (suc k)
@@ -164,9 +164,9 @@ module _ (x : RunCall) where
 
   -- ---- an accepted call, and one that is refused with 13
 
-  module _ (n : ℕ) (margin : Float) (is : told_by x ≡ Accepted n margin) where
+  module _ (n : ℕ) (margin : Float) (is : told_by x ≡ ran_with n margin) where
     free_then : refusal judged ≡ 0
-    free_then = free_by (Accepted n margin) is (inl refl)
+    free_then = free_by (ran_with n margin) is (inl refl)
 
     nowhere_then : place_of t ≡ 0
     nowhere_then = place_told free_then ∙ ap place_in is
@@ -179,14 +179,14 @@ module _ (x : RunCall) where
 
   module _ (k : ℕ) (is : StopsAt x (suc k)) where
     free_there : refusal judged ≡ 0
-    free_there = free_by (Refused (record { number = 13; place = suc k })) is (inr refl)
+    free_there = free_by (Err (record { number = 13; place = suc k })) is (inr refl)
 
     place_there : place_of t ≡ suc k
     place_there = place_told free_there ∙ ap place_in is
 
 -- ---- one call
 
-run_through : (x : RunCall) (count : ℕ) (margin : Float) → told_by x ≡ Accepted count margin → RanThrough x count margin
+run_through : (x : RunCall) (count : ℕ) (margin : Float) → told_by x ≡ ran_with count margin → RanThrough x count margin
 unfolding margin_of stepped reached
 run_through x count margin is =
     let free = free_then x count margin is in
@@ -223,7 +223,7 @@ run_stopped x k is =
     }
 
 -- a refusal that is not 13 was judged before anything is computed, and has no place
-elsewhere : (x : RunCall) (r : Refusal) → told_by x ≡ Refused r → (r.number ≡ 13 → ⊥) → r.place ≡ 0
+elsewhere : (x : RunCall) (r : Refusal) → told_by x ≡ Err r → (r.number ≡ 13 → ⊥) → r.place ≡ 0
 elsewhere x r is other = go (eqb (refusal (judged x)) 0) refl
   where
     go : (b : Bool) → eqb (refusal (judged x)) 0 ≡ b → r.place ≡ 0
@@ -235,7 +235,7 @@ unfolding stepped reached margin_of
 exact x = record {
   accepted_is_finite = λ count margin is. all_at (fine (t x)) x.given_substeps (all-fine x (free_then x count margin is) (nowhere_then x count margin is));
   stopped_is_first = λ k is. let w = there x (free_there x k is) k (place_there x k is) in (all_at (fine (t x)) k w.1, w.2);
-  thirteen_has_a_place = λ r is e. refused_there x (free_by x (Refused r) is (inr e)) r is;
+  thirteen_has_a_place = λ r is e. refused_there x (free_by x (Err r) is (inr e)) r is;
   no_other_has = elsewhere x;
   none_below_the_margin = λ count margin is k b.
       let all = all-fine x (free_then x count margin is) (nowhere_then x count margin is) in
@@ -258,7 +258,7 @@ module _ (x : RunCall) (none : x.given_substeps ≡ 0) where
   no_place : place_of (t x) ≡ 0
   no_place = ap (λ (n : ℕ). place_of (leg binary64 (course x) (start x) n)) none ∙ nothing.nothing_fails
 
-  idle : (count : ℕ) (margin : Float) → told_by x ≡ Accepted count margin → NothingRun x margin
+  idle : (count : ℕ) (margin : Float) → told_by x ≡ ran_with count margin → NothingRun x margin
   unfolding reached table
   idle count margin is =
       let free = free_then x count margin is in
@@ -269,9 +269,9 @@ module _ (x : RunCall) (none : x.given_substeps ≡ 0) where
         velocity_as_given = speeds x free no_place ∙ ap (λ (n : ℕ). over (at (plant_run x n).v) x.given_velocity (axes x)) none ∙ own_axes x.given_velocity (axes x) (omega (arith, lent.rates)) (few x free);
       }
 
-  never_stopped : (r : Refusal) → told_by x ≡ Refused r → r.number ≡ 13 → ⊥
+  never_stopped : (r : Refusal) → told_by x ≡ Err r → r.number ≡ 13 → ⊥
   never_stopped r is e =
-      let z : ◌≡◌ {A = ℕ} 0 13 = ap number_in (sym (accepts x (free_by x (Refused r) is (inr e)) no_place) ∙ is) ∙ e in
+      let z : ◌≡◌ {A = ℕ} 0 13 = ap number_in (sym (accepts x (free_by x (Err r) is (inr e)) no_place) ∙ is) ∙ e in
       omega (arith, z)
 
 -- ---- what the first leaves
@@ -382,7 +382,7 @@ taken : (g : ℕ → Float) (k : ℕ) (rest : List Float) {l : List Float} → l
 taken g k rest e = ap (take k) e ∙ take_at (table g k) rest k (table_long g k)
 
 -- the first is accepted
-module _ (x : RunCall) (n : ℕ) (l lent : List Float) (room : n ≤ length l) (room-for-all : x.given_substeps + n ≤ length lent) (count : ℕ) (a : Float) (is : told_by x ≡ Accepted count a) where
+module _ (x : RunCall) (n : ℕ) (l lent : List Float) (room : n ≤ length l) (room-for-all : x.given_substeps + n ≤ length lent) (count : ℕ) (a : Float) (is : told_by x ≡ ran_with count a) where
   abbrev m : ℕ
   m = x.given_substeps
 
@@ -405,7 +405,7 @@ module _ (x : RunCall) (n : ℕ) (l lent : List Float) (room : n ≤ length l) (
   slacks₂ : slack_at (t (second x n l)) ≡ slack_at (legs.second binary64 (course x) (start x) m n)
   slacks₂ = ap (λ (y : Forecast). slack_at y) second_is
 
-  thirteen : (r : Refusal) → told_by (second x n l) ≡ Refused r → (k : ℕ) × (k < n) × StopsAt (second x n l) (suc k)
+  thirteen : (r : Refusal) → told_by (second x n l) ≡ Err r → (k : ℕ) × (k < n) × StopsAt (second x n l) (suc k)
   thirteen r e = refused_there (second x n l) free₂ r e
 
   -- both entries, one after the other
@@ -429,7 +429,7 @@ module _ (x : RunCall) (n : ℕ) (l lent : List Float) (room : n ≤ length l) (
       ∙ over_twice (at (side (plant_run (second x n l) n))) (at (side (plant_run x m))) given (axes x)
       ∙ ap (λ (q : State). over (at (side q)) given (axes x)) same_end
 
-  joined : (k : ℕ) (b : Float) → told_by (second x n l) ≡ Accepted k b → Joined x n l lent a b
+  joined : (k : ℕ) (b : Float) → told_by (second x n l) ≡ ran_with k b → Joined x n l lent a b
   joined k b is₂ =
       let place₂ = nowhere_then (second x n l) k b is₂ in
       let h = made x m n in
@@ -439,7 +439,7 @@ module _ (x : RunCall) (n : ℕ) (l lent : List Float) (room : n ≤ length l) (
       let b-is = margin_then (second x n l) k b is₂ ∙ ap margin_of second_is in
       let least : margin_of (t (whole x n lent)) ≡ lesser a b = h.least_of_both all ∙ sym (ap (λ (y : Float). lesser y b) a-is ∙ ap (lesser (margin_of (t x))) b-is) in
       record {
-        whole_accepted = accepts (whole x n lent) free₃ place ∙ ap (λ (y : Float). Accepted (m + n) y) least;
+        whole_accepted = accepts (whole x n lent) free₃ place ∙ ap (λ (y : Float). ran_with (m + n) y) least;
         in_either_order = ap (eq (lesser b a)) (sym least) ∙ ap (λ (y : Float). eq y (margin_of (t (whole x n lent)))) (ap (lesser b) a-is ∙ ap (λ (y : Float). lesser y (margin_of (t x))) b-is) ∙ h.either_order all;
         same_position = moves (whole x n lent) free₃ place ∙ sym (moves (second x n l) free₂ place₂ ∙ again (λ (q : State). q.p) x.given_position (moves x free₁ place₁));
         same_velocity = speeds (whole x n lent) free₃ place ∙ sym (speeds (second x n l) free₂ place₂ ∙ again (λ (q : State). q.v) x.given_velocity (speeds x free₁ place₁));
@@ -470,7 +470,7 @@ stopped_first x n lent room k is =
     }
 
 -- the whole is accepted
-module _ (x : RunCall) (n : ℕ) (l lent : List Float) (room : n ≤ length l) (Own-room : x.given_substeps ≤ length x.given_entries) (count : ℕ) (c : Float) (is : told_by (whole x n lent) ≡ Accepted count c) where
+module _ (x : RunCall) (n : ℕ) (l lent : List Float) (room : n ≤ length l) (Own-room : x.given_substeps ≤ length x.given_entries) (count : ℕ) (c : Float) (is : told_by (whole x n lent) ≡ ran_with count c) where
   wholly_free : refusal (judged (whole x n lent)) ≡ 0
   wholly_free = free_then (whole x n lent) count c is
 
@@ -496,7 +496,7 @@ module _ (x : RunCall) (n : ℕ) (l lent : List Float) (room : n ≤ length l) (
       let z = (made x x.given_substeps n).place_in_second i first_finite (sym same ∙ e) in
       absurd (omega (arith, z, wholly_finite))
 
-  both_halves : (a : Float) × (b : Float) × (told_by x ≡ Accepted x.given_substeps a) × (told_by (second x n l) ≡ Accepted n b)
+  both_halves : (a : Float) × (b : Float) × (told_by x ≡ ran_with x.given_substeps a) × (told_by (second x n l) ≡ ran_with n b)
   both_halves = (
     margin_of (t x),
     margin_of (t (second x n l)),

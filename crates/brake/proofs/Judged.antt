@@ -10,7 +10,7 @@ use lib.Dec.{eqb, ltb}
 use lib.ListN.{length}
 use lib.Ieee.{Float, Format}
 use Rattle.refusal.specs.Order.{Judged, number_of, width, short, not_finite, computed, ◌when◌, refusal, or_later, refused_for}
-use Rattle.std.specs.Prelude.{if◌then◌else◌}
+use Rattle.std.specs.Prelude.{if◌then◌else◌, Err, Result}
 use Rattle.refusal.specs.Chain.{chain, joined, first_refuses, first_passes, both_pass, passes_at}
 use Rattle.refusal.specs.declared.Refusal.{Refusal}
 use Rattle.fmath.specs.Answer.{some_lent_not_finite}
@@ -28,7 +28,6 @@ use Rattle.envelope.proofs.Accepted.{accepted, dim_least, dim_most, pos_dim_leas
 use Rattle.course.specs.Forecast.{place_of, written_of}
 use Rattle.course.specs.Rows.{rows_left}
 use Rattle.brake.specs.declared.BrakeOut.{BrakeOut}
-use Rattle.brake.specs.declared.BrakeOut.TheVariants as out
 use Rattle.brake.specs.Answer.{too_short, outcome, plan, lent_judged, forecast_refusal, forecast_answer, forecast_slacks}
 use Rattle.brake.specs.Of.{count_for, Planned}
 use Rattle.brake.proofs.ByKind.{count_is}
@@ -44,7 +43,7 @@ never k ((r when true) ∷ l) z a e = eqb-false (number_of r) k (neither (eqb (n
 never k ((r when false) ∷ l) z a e = never k l z (neither (eqb (number_of r) k) (listed k l) a).1 e
 
 -- the whole answer
-pub record Answered (f : Format) (c : FuseConfig) (tabs : Tables) (p v rows : List Float) (k : Header) (from : ℕ) (l : List Float) (r : BrakeOut) (m : List Float) : Type 0 where
+pub record Answered (f : Format) (c : FuseConfig) (tabs : Tables) (p v rows : List Float) (k : Header) (from : ℕ) (l : List Float) (r : Result BrakeOut Refusal) (m : List Float) : Type 0 where
   pub gives : r ≡ forecast_answer f c tabs p v rows k from (length l)
   pub leaves : m ≡ forecast_slacks f c tabs p v rows k from l
 
@@ -128,7 +127,7 @@ module _ (f : Format) (c : FuseConfig) (tabs : Tables) (p v rows : List Float) (
   either false = refl
 
   module _ (l : List Float) where
-    pub refused : {n : ℕ} → n ≡ refusal (before (length l)) → (n ≡ 0 → ⊥) → {r : Refusal} → r ≡ refused_for n → Answered f c tabs p v rows k from l (out.Refused r) l
+    pub refused : {n : ℕ} → n ≡ refusal (before (length l)) → (n ≡ 0 → ⊥) → {r : Refusal} → r ≡ refused_for n → Answered f c tabs p v rows k from l (Err r) l
     unfolding forecast_answer forecast_slacks forecast_refusal
     refused {n} g y i =
         let b = before (length l) in
@@ -137,7 +136,7 @@ module _ (f : Format) (c : FuseConfig) (tabs : Tables) (p v rows : List Float) (
         let m = ne_eqb n 13 (λ q. never 13 b (λ o. omega arith) refl (sym g ∙ q)) in
         record { gives = rw (z, j, m, i); leaves = rw (z, j, m) }
 
-    pub foreseen : refusal (before (length l)) ≡ 0 → {r : BrakeOut} {m : List Float} → r ≡ outcome (plan f c p v rows k from) → m ≡ written_of (plan f c p v rows k from) l → Answered f c tabs p v rows k from l r m
+    pub foreseen : refusal (before (length l)) ≡ 0 → {r : Result BrakeOut Refusal} {m : List Float} → r ≡ outcome (plan f c p v rows k from) → m ≡ written_of (plan f c p v rows k from) l → Answered f c tabs p v rows k from l r m
     unfolding forecast_answer forecast_slacks forecast_refusal
     foreseen z i j =
         let b = before (length l) in

@@ -11,7 +11,7 @@ use borrow.Author.Tests.{ltb-false, le-ltb, lt-ltb, not-false}
 use lib.Dec.{ltb}
 use lib.ListN.{length}
 use lib.Ieee.{Float, binary64}
-use Rattle.std.specs.Prelude.{if◌then◌else◌}
+use Rattle.std.specs.Prelude.{if◌then◌else◌, Ok}
 use Rattle.refusal.specs.Order.{Judged, short, not_finite, computed, ◌when◌, refusal}
 use Rattle.refusal.specs.Chain.{chain, first_passes, both_pass, passes_at}
 use Rattle.fmath.specs.Answer.{some_not_finite}
@@ -28,7 +28,6 @@ use Rattle.envelope.proofs.Accepted.{accepted, dim_most}
 use Rattle.envelope.proofs.Promises as config
 use Rattle.workspace.specs.declared.WallMasks.{WallMasks}
 use Rattle.workspace.proofs.Inside.{setpoint_long}
-use Rattle.brake.specs.declared.Sent.TheVariants.{Done}
 use Rattle.brake.specs.Rule.{walls_at, is_position, sent_row}
 use Rattle.brake.specs.Answer.{last_short, last_unfit, row_lent, sent_at, row_at, masks_sent, brake_made, brake_sent, brake_refusal, brake_answer, brake_output, hold_made, hold_sent, hold_refusal, hold_answer, hold_output}
 use Rattle.brake.specs.NoMode as noMode
@@ -167,13 +166,13 @@ module _ (c : FuseConfig) (tabs : Tables) (measured : Bool) (x : Checked (List F
 
 module _ (c : FuseConfig) (tabs : Tables) (measured : Bool) (x : Checked (List Float)) (masks : WallMasks) (last other : List Float) (room : ℕ) {k n : ℕ}
     (ek : k ≡ number_in c tabs measured x LastCommand last room) (en : n ≡ number_in c tabs measured x ToZero other room) where
-  there_passed : (m : WallMasks) → sent_at n masks ≡ Done m → (refusal (tests c tabs) ≡ 0) × (ltb room c.dim ≡ false) × (measured ≡ false) × (x.sound ≡ true)
+  there_passed : (m : WallMasks) → sent_at n masks ≡ Ok m → (refusal (tests c tabs) ≡ 0) × (ltb room c.dim ≡ false) × (measured ≡ false) × (x.sound ≡ true)
   unfolding last_short last_unfit
   there_passed m done =
       let w = each_passes (tests c tabs) (ltb room c.dim || false) (measured || false) x.sound (sym en ∙ sent_zero n masks m done) in
       (w.0, sym (or-false (ltb room c.dim)) ∙ w.1, sym (or-false measured) ∙ w.2, w.3)
 
-  by_last : (m : WallMasks) → sent_at n masks ≡ Done m → (a b : Bool) → ltb (length last) c.dim ≡ a → some_not_finite last ≡ b → k ≡ (if a then 11 else if b then 12 else 0)
+  by_last : (m : WallMasks) → sent_at n masks ≡ Ok m → (a b : Bool) → ltb (length last) c.dim ≡ a → some_not_finite last ≡ b → k ≡ (if a then 11 else if b then 12 else 0)
   unfolding last_short last_unfit
   by_last m done a b few unfit =
       let w = there_passed m done in
@@ -203,7 +202,7 @@ module _ (c : FuseConfig) (tabs : Tables) (p v last : List Float) where
   -- what is shown, of a configuration d that is c in some mode
   abbrev BrakesBy : FuseConfig → List Float → List Float → Type 0
   BrakesBy d other l =
-      (m : WallMasks) → brake_answer binary64 d tabs p v last (length l) ≡ Done m
+      (m : WallMasks) → brake_answer binary64 d tabs p v last (length l) ≡ Ok m
       → InBothModes c last l m (brake_output binary64 d tabs p v last l) (brake_answer binary64 (gripped_by c ToZero) tabs p v other (length l)) (brake_output binary64 (gripped_by c ToZero) tabs p v other l)
 
   brakes_by : (other l : List Float) → BrakesBy (gripped_by c LastCommand) other l
@@ -240,7 +239,7 @@ module _ (c : FuseConfig) (tabs : Tables) (p last : List Float) where
   -- what is shown, of a configuration d that is c in some mode
   abbrev HoldsBy : FuseConfig → List Float → List Float → Type 0
   HoldsBy d other l =
-      (m : WallMasks) → hold_answer binary64 d tabs p last (length l) ≡ Done m
+      (m : WallMasks) → hold_answer binary64 d tabs p last (length l) ≡ Ok m
       → InBothModes c last l m (hold_output binary64 d tabs p last l) (hold_answer binary64 (gripped_by c ToZero) tabs p other (length l)) (hold_output binary64 (gripped_by c ToZero) tabs p other l)
 
   holds_by : (other l : List Float) → HoldsBy (gripped_by c LastCommand) other l

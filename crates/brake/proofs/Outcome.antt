@@ -1,4 +1,5 @@
 -- What a run comes to: where it is sound and the stop distance too, the numbers of the forecast; else the place after its entries.
+use Rattle.std.specs.Prelude.{Err}
 use Prim.Native.Nat.{ℕ, suc, ◌+◌, ◌≤◌}
 use mathlib.Core.Path.{◌≡◌, refl, sym, ap, ◌∙◌}
 use mathlib.Core.Bool.{Bool, true, false, not, ◌||◌, true≢false, false≢true}
@@ -12,9 +13,8 @@ use Rattle.course.specs.Forecast.{Forecast, fine, leading_in, place_of, margin_o
 use Rattle.checked.specs.declared.Reckoned.{Reckoned}
 use Rattle.course.specs.declared.Run.{Run}
 use Rattle.course.proofs.Leading.{leading_whole, leading_le}
-use Rattle.brake.specs.declared.BrakeOut.TheVariants as out
 use Rattle.brake.specs.Of.{Settles}
-use Rattle.brake.specs.Answer.{outcome}
+use Rattle.brake.specs.Answer.{outcome, forecast_with}
 
 module _ (t : Forecast) (run : Run) (stop : Reckoned) (is : Settles t run stop) where
   unsound_at : (b : Bool) → all (fine t) t.count ≡ b → run.sound ≡ false → place_of t ≡ suc run.done
@@ -31,7 +31,7 @@ module _ (t : Forecast) (run : Run) (stop : Reckoned) (is : Settles t run stop) 
       let d : run.done ≡ t.count = is.written ∙ leading_whole (fine t) t.count w in
       rw (w, sym (ap (λ (r : Reckoned). r.sound) (is.stops h)) ∙ g, d)
 
-  pub fails : (not run.sound || not stop.sound) ≡ true → out.Refused (record { number = 13; place = run.done + 1 }) ≡ outcome t
+  pub fails : (not run.sound || not stop.sound) ≡ true → Err (record { number = 13; place = run.done + 1 }) ≡ outcome t
   unfolding outcome
   fails e = rw (stops_at run.sound stop.sound refl refl e, ne_eqb (suc run.done) 0 (λ z. omega arith), add-one)
 
@@ -40,7 +40,7 @@ module _ (t : Forecast) (run : Run) (stop : Reckoned) (is : Settles t run stop) 
   both true false e = absurd (true≢false e)
   both false s e = absurd (true≢false e)
 
-  pub passes : (not run.sound || not stop.sound) ≡ false → out.Accepted run.done run.margin (le +0 run.margin) stop.value ≡ outcome t
+  pub passes : (not run.sound || not stop.sound) ≡ false → forecast_with run.done run.margin (le +0 run.margin) stop.value ≡ outcome t
   unfolding outcome place_of margin_of
   passes e =
       let b = both run.sound stop.sound e in

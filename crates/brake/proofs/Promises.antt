@@ -1,5 +1,7 @@
 -- Demand 3 of the entry, and "a feasible forecast stays inside": the entry's answer and lent entries are what the second-order forecast comes to (`Foreseen`), and of a
 -- forecast `rollout` has said where it reaches, what its entries are and what the least of them is.
+use Rattle.std.specs.Prelude.{Err, Result}
+use Rattle.refusal.specs.declared.Refusal.{Refusal}
 use Prim.Native.Nat.{ℕ, zero, suc, ◌+◌, ◌-◌, ◌*◌, ◌≤◌, ◌<◌}
 use mathlib.Core.Path.{◌≡◌, refl, sym, ap, ◌∙◌, subst}
 use mathlib.Core.Bool.{Bool, true, false}
@@ -34,8 +36,7 @@ use Rattle.rollout.proofs.Rows.{aims_setpoint, setpoint_is}
 use Rattle.rollout.proofs.Setpoint.{all_substeps}
 use Rattle.rollout.proofs.Promises.{entry_is_slack, fine_slack, entries_real, braking, shorter_begins_longer, feasible_inside, feasible_on_disc}
 use Rattle.brake.specs.declared.BrakeOut.{BrakeOut}
-use Rattle.brake.specs.declared.BrakeOut.TheVariants.{Accepted, Refused}
-use Rattle.brake.specs.Answer.{plan, lent_judged}
+use Rattle.brake.specs.Answer.{plan, lent_judged, forecast_with}
 use Rattle.brake.specs.Promises.{Call, answer, entries, OnlyThirteen, SecondOrder, N, task, slack_after, finite_in, stop_finite, AllFinite, FirstFailing, Wrote, Forecasts, RefusedAt, Demand3, rows_before, setpoint_finite, plant_after, SetpointPlaced, NothingLeft, DiscForecast, braked, Begins, StaysInside, Promised}
 use Rattle.brake.specs.Rule.{live, walls_at}
 use Rattle.brake.proofs.AtBox.{box_setpoint, box_forecast}
@@ -49,17 +50,17 @@ use Rattle.brake.proofs.Judged.{never, planned, refused}
 use Rattle.brake.proofs.Foreseen.{slacks_are, accepted_answer, refused_answer, refused_at_the_end, second_order_plan, count_is_n}
 
 -- a call that is accepted was stopped by no refusal
-accepted_free : (x : Call) {n : ℕ} {margin : Float} {feasible : Bool} {stop : Float} → answer x ≡ Accepted n margin feasible stop → OnlyThirteen x
+accepted_free : (x : Call) {n : ℕ} {margin : Float} {feasible : Bool} {stop : Float} → answer x ≡ forecast_with n margin feasible stop → OnlyThirteen x
 accepted_free x a r e = let z : ◌≡◌ {A = ℕ} 0 1 = cc in absurd (omega arith)
 
 -- what an answer says: the place of a refusal, and whether it is feasible
-abbrev place_in : BrakeOut → ℕ
-place_in (Accepted n margin feasible stop) = 0
-place_in (Refused r) = r.place
+abbrev place_in : Result BrakeOut Refusal → ℕ
+place_in (Ok o) = 0
+place_in (Err r) = r.place
 
-abbrev feasible_in : BrakeOut → Bool
-feasible_in (Accepted n margin feasible stop) = feasible
-feasible_in (Refused r) = false
+abbrev feasible_in : Result BrakeOut Refusal → Bool
+feasible_in (Ok o) = o.feasible
+feasible_in (Err r) = false
 
 module _ (x : Call) where
   abbrev t : Forecast
@@ -127,7 +128,7 @@ module _ (x : Call) (g : Gains) (is : SecondOrder x g) (only : OnlyThirteen x) w
   wrote_all : Whole f → Wrote x g (N x)
   wrote_all w = wrote (N x) (whole_leads f w ∙ is_n)
 
-  report : Whole f → f.stop.sound ≡ true → answer x ≡ Accepted f.count (margin_of f) (feasible_of f) f.stop.value
+  report : Whole f → f.stop.sound ≡ true → answer x ≡ forecast_with f.count (margin_of f) (feasible_of f) f.stop.value
   report w s = accepted_answer binary64 x.config x.tables x.position x.velocity x.rows x.header x.from x.lent clear w s
 
   module _ (w : Whole f) where
@@ -204,7 +205,7 @@ module _ (x : Call) (g : Gains) (is : SecondOrder x g) (only : OnlyThirteen x) w
   finishes : AllFinite x g → Forecasts x g
   finishes h = forecasts (whole h.substeps) (stop_sound h)
 
-  only_finite : (n : ℕ) (margin : Float) (feasible : Bool) (stop : Float) → answer x ≡ Accepted n margin feasible stop → AllFinite x g
+  only_finite : (n : ℕ) (margin : Float) (feasible : Bool) (stop : Float) → answer x ≡ forecast_with n margin feasible stop → AllFinite x g
   only_finite n margin feasible stop a = go comes
     where
       clash : (place : ℕ) → RefusedAt x place → ⊥
@@ -273,7 +274,7 @@ module _ (x : Call) (g : Gains) (is : SecondOrder x g) (only : OnlyThirteen x) w
     no_rows : rows_before x ≡ 0
     no_rows = omega (arith, none, all_substeps t₂)
 
-    anywhere : stop_finite x g ≡ true → answer x ≡ Accepted 0 (inf false) true (stop binary64 t₂).value
+    anywhere : stop_finite x g ≡ true → answer x ≡ forecast_with 0 (inf false) true (stop binary64 t₂).value
     anywhere s =
         let w = (demand_3 x g is only).forecasts (record { substeps = none_run; stops = s }) in
         let feasible = w.feasible_where (λ k b. absurd (let z : ⊥ = omega (arith, none) in z)) in
@@ -297,7 +298,7 @@ module _ (x : Call) (g : Gains) (is : SecondOrder x g) (b : ControlSteps) (l : L
   y = braked x b l
 
   shorter_begins : {m n : ℕ} {margin margin' : Float} {feasible feasible' : Bool} {stop stop' : Float}
-      → answer x ≡ Accepted m margin feasible stop → answer y ≡ Accepted n margin' feasible' stop' → x.config.brake.brake_steps.0 ≤ b.0 → Begins (N x) x y
+      → answer x ≡ forecast_with m margin feasible stop → answer y ≡ forecast_with n margin' feasible' stop' → x.config.brake.brake_steps.0 ≤ b.0 → Begins (N x) x y
   shorter_begins {m} {n} {margin} {margin'} {feasible} {feasible'} {stop} {stop'} a a' less =
       let only = accepted_free x a in
       let only' = accepted_free y a' in
@@ -317,7 +318,7 @@ module _ (x : Call) (g : Gains) (is : SecondOrder x g) (b : ControlSteps) (l : L
 
 -- ---- a feasible forecast stays inside
 
-module _ (x : Call) (g : Gains) (is : SecondOrder x g) {n : ℕ} {margin : Float} {feasible : Bool} {stop : Float} (a : answer x ≡ Accepted n margin feasible stop) where
+module _ (x : Call) (g : Gains) (is : SecondOrder x g) {n : ℕ} {margin : Float} {feasible : Bool} {stop : Float} (a : answer x ≡ forecast_with n margin feasible stop) where
   finite_all : AllFinite x g
   finite_all = only_finite x g is (accepted_free x a) n margin feasible stop a
 
@@ -346,7 +347,7 @@ module _ (x : Call) (g : Gains) (is : SecondOrder x g) {n : ℕ} {margin : Float
       }
 
 module _ (x : Call) (g : Gains) (is : SecondOrder x g) where
-  feasible_stays_inside : {n : ℕ} {margin stop : Float} → answer x ≡ Accepted n margin true stop → StaysInside x g
+  feasible_stays_inside : {n : ℕ} {margin stop : Float} → answer x ≡ forecast_with n margin true stop → StaysInside x g
   feasible_stays_inside {n} {margin} {stop} a =
       let only = accepted_free x a in
       let h = only_finite x g is only n margin true stop a in
@@ -362,7 +363,7 @@ module _ (x : Call) (g : Gains) (is : SecondOrder x g) where
 -- ---- feasible exactly when no slack after one substep or more is negative
 
 module _ (x : Call) (g : Gains) (is : SecondOrder x g) where
-  pub feasible_exactly : {n : ℕ} {margin : Float} {feasible : Bool} {stop : Float} → answer x ≡ Accepted n margin feasible stop
+  pub feasible_exactly : {n : ℕ} {margin : Float} {feasible : Bool} {stop : Float} → answer x ≡ forecast_with n margin feasible stop
       → (feasible ≡ true → (k : ℕ) → k < N x → lt (slack_after x g (suc k)) +0 ≡ false) × (((k : ℕ) → k < N x → lt (slack_after x g (suc k)) +0 ≡ false) → feasible ≡ true)
   feasible_exactly {n} {margin} {feasible} {stop} a =
       let only = accepted_free x a in

@@ -1,4 +1,5 @@
 -- A kind that is none of the velocity kinds; the whole answer, by the row that is sent; and that hold, with a box, never gives 13.
+use Rattle.std.specs.Prelude.{Err, Ok, Result}
 use Prim.Native.Nat.{ℕ, zero, suc, min, ◌≤◌}
 use mathlib.Core.Path.{◌≡◌, refl, sym, ap, ◌∙◌}
 use mathlib.Core.Bool.{Bool, true, false, not, ◌&&◌, ◌||◌, false≢true}
@@ -36,8 +37,6 @@ use Rattle.workspace.specs.Rule.{Walls, setpoint, setpoint_masks, unmoved}
 use Rattle.workspace.specs.Of.{walls_of}
 use Rattle.workspace.specs.declared.Workspace.{Workspace}
 use Rattle.workspace.proofs.Inside.{setpoint_sound}
-use Rattle.brake.specs.declared.Sent.{Sent}
-use Rattle.brake.specs.declared.Sent.TheVariants as sent
 use Rattle.checked.specs.declared.Row.{Row}
 use Rattle.brake.specs.Rule.{live, walls_at, brake_row, hold_row, takes_last, sent_masks}
 use Rattle.brake.specs.Of.{workspace_for, row_sent_for}
@@ -102,7 +101,7 @@ module _ (f : Format) (c : FuseConfig) (tabs : Tables) (unfit : Bool) (room give
 all_sent : (f : Format) (c : FuseConfig) (tabs : Tables) (unfit : Bool) (given : ℕ) (row l : List Float) → refusal (before f c tabs unfit (length l) given) ≡ 0 → length row ≡ 8 → {m : List Float} → m ≡ over (at row) l (min c.dim (min (length row) (length l))) → m ≡ over (at row) l c.dim
 all_sent f c tabs unfit given row l z long = let w = sized f c tabs unfit (length l) given z in all_put l row (omega (arith, w.0)) w.1
 
-module _ (f : Format) (c : FuseConfig) (tabs : Tables) (given : ℕ) (l : List Float) {bad unfit : Bool} (ef : bad ≡ unfit) (x : Checked (List Float)) (done : Sent) {k : ℕ}
+module _ (f : Format) (c : FuseConfig) (tabs : Tables) (given : ℕ) (l : List Float) {bad unfit : Bool} (ef : bad ≡ unfit) (x : Checked (List Float)) (done : Result WallMasks Refusal) {k : ℕ}
     (ek : k ≡ refusal (config_judged f c tabs ++ (row_lent c unfit (length l) given ++ ((computed when not x.sound) ∷ [])))) where
   abbrev judged : List Judged
   judged = before f c tabs unfit (length l) given
@@ -113,8 +112,8 @@ module _ (f : Format) (c : FuseConfig) (tabs : Tables) (given : ℕ) (l : List F
   same_judged : refusal (before f c tabs bad (length l) given) ≡ refusal judged
   same_judged = ap (λ (b : Bool). refusal (before f c tabs b (length l) given)) ef
 
-  pub row_refused : {j : ℕ} → j ≡ refusal (before f c tabs bad (length l) given) → (j ≡ 0 → ⊥) → {r : Refusal} → r ≡ refused_for j → Answered sent.Refused done l written k (sent.Refused r) l
-  row_refused g = by_lent sent.Refused done l written judged x.sound ek (g ∙ same_judged)
+  pub row_refused : {j : ℕ} → j ≡ refusal (before f c tabs bad (length l) given) → (j ≡ 0 → ⊥) → {r : Refusal} → r ≡ refused_for j → Answered Err done l written k (Err r) l
+  row_refused g = by_lent Err done l written judged x.sound ek (g ∙ same_judged)
 
   module _ (z : refusal (before f c tabs bad (length l) given) ≡ 0) {row : Row} (er : row ≡ row_from x) where
     passed : refusal judged ≡ 0
@@ -123,18 +122,18 @@ module _ (f : Format) (c : FuseConfig) (tabs : Tables) (given : ℕ) (l : List F
     sound_is : row.sound ≡ x.sound
     sound_is = ap (λ (y : Row). y.sound) er
 
-    pub row_unsound : row.sound ≡ false → {r : Refusal} → r ≡ refused_for 13 → Answered sent.Refused done l written k (sent.Refused r) l
-    row_unsound = by-computed sent.Refused done l written judged x.sound ek passed sound_is
+    pub row_unsound : row.sound ≡ false → {r : Refusal} → r ≡ refused_for 13 → Answered Err done l written k (Err r) l
+    row_unsound = by-computed Err done l written judged x.sound ek passed sound_is
 
-    pub row_done : row.sound ≡ true → length row.at ≡ 8 → {m : List Float} → m ≡ over (at row.at) l (min c.dim (min (length row.at) (length l))) → {r : Sent} → r ≡ done → Answered sent.Refused done l written k r m
-    row_done y long i e = entry.accepted sent.Refused done l written judged x.sound ek passed sound_is y e (all_sent f c tabs bad given row.at l z long i ∙ rw er)
+    pub row_done : row.sound ≡ true → length row.at ≡ 8 → {m : List Float} → m ≡ over (at row.at) l (min c.dim (min (length row.at) (length l))) → {r : Result WallMasks Refusal} → r ≡ done → Answered Err done l written k r m
+    row_done y long i e = entry.accepted Err done l written judged x.sound ek passed sound_is y e (all_sent f c tabs bad given row.at l z long i ∙ rw er)
 
 -- a refused answer names the number that it was refused with
-abbrev number_in : Sent → ℕ
-number_in (sent.Done m) = 0
-number_in (sent.Refused r) = r.number
+abbrev number_in : Result WallMasks Refusal → ℕ
+number_in (Ok m) = 0
+number_in (Err r) = r.number
 
-sent_number_lem : (k : ℕ) (m : WallMasks) {r : Refusal} → sent_at k m ≡ sent.Refused r → k ≡ r.number
+sent_number_lem : (k : ℕ) (m : WallMasks) {r : Refusal} → sent_at k m ≡ Err r → k ≡ r.number
 sent_number_lem zero m e = ap number_in e
 sent_number_lem (suc k) m e = ap number_in e
 
@@ -156,7 +155,7 @@ module _ (w : Walls) (p : List Float) (n : ℕ) {m : WallMasks} where
   position_masks = by_position (λ (k : ActionKind). m ≡ setpoint_masks w p n → m ≡ sent_masks k w p n) (λ e. e) (λ e. e) (λ e. e)
 
 -- the masks that are sent are those at the derived walls
-pub masks_are_sent : (f : Format) (c : FuseConfig) (p : List Float) {w : Workspace} {m : WallMasks} → w ≡ workspace_for f c → m ≡ sent_masks c.kind (walls_of w) p (live c) → sent.Done m ≡ sent.Done (masks_sent f c p)
+pub masks_are_sent : (f : Format) (c : FuseConfig) (p : List Float) {w : Workspace} {m : WallMasks} → w ≡ workspace_for f c → m ≡ sent_masks c.kind (walls_of w) p (live c) → Ok m ≡ Ok (masks_sent f c p)
 unfolding masks_sent
 masks_are_sent f c p ew em = rw (em, ew)
 
@@ -207,6 +206,6 @@ module _ (f : Format) (c : FuseConfig) (p last : List Float) where
       false≢true (sym (ap not (held_sound (walls_at f c) box c.dim c.kind)) ∙ first_applies judges ((exactly_first judges computed).1 (sym (hold_judged tabs room) ∙ e)))
 
   -- nor does its answer name it
-  pub hold_at_a_box : c.shape ≡ Box → (tabs : Tables) (room : ℕ) {r : Refusal} → hold_answer f c tabs p last room ≡ sent.Refused r → r.number ≡ 13 → ⊥
+  pub hold_at_a_box : c.shape ≡ Box → (tabs : Tables) (room : ℕ) {r : Refusal} → hold_answer f c tabs p last room ≡ Err r → r.number ≡ 13 → ⊥
   unfolding hold_answer
   hold_at_a_box box tabs room e n = hold_never_13 box tabs room (sent_number_lem (hold_refusal f c tabs p last room) (masks_sent f c p) e ∙ n)

@@ -10,7 +10,7 @@ use lib.Dec.{eqb, ltb}
 use lib.ListN.{length}
 use lib.Ieee.{Float, Format}
 use Rattle.refusal.specs.Order.{Judged, short, not_finite, computed, ◌when◌, refusal, or_later, refused_for}
-use Rattle.std.specs.Prelude.{if◌then◌else◌}
+use Rattle.std.specs.Prelude.{if◌then◌else◌, Err, Result}
 use Rattle.refusal.specs.Chain.{chain, joined, first_refuses, first_passes, both_pass, passes_at}
 use Rattle.refusal.specs.declared.Refusal.{Refusal}
 use Rattle.refusal.proofs.Entry.{left_kept}
@@ -33,10 +33,9 @@ use Rattle.rollout.specs.Of.{gains_of, leg_of, leg_run, leg_roomy}
 use Rattle.course.specs.Forecast.{Forecast, fine, leading_in, place_of, margin_of, written_of}
 use Rattle.course.proofs.Leading.{leading_whole, leading_le}
 use Rattle.brake.specs.declared.Ran.{Ran}
-use Rattle.brake.specs.declared.Ran.TheVariants as ran
 use Rattle.brake.specs.Rule.{live}
 use Rattle.brake.specs.Answer.{too_short}
-use Rattle.brake.specs.Towards.{gains_in, leg_at, run_short, ran_to, running, plant_at, run_lent, run_refusal, run_answer, run_slacks, run_position, run_velocity}
+use Rattle.brake.specs.Towards.{gains_in, leg_at, run_short, ran_to, running, plant_at, run_lent, run_refusal, run_answer, run_slacks, run_position, run_velocity, ran_with}
 use Rattle.brake.specs.Of.{workspace_for, start_for, run_for, Lends}
 use Rattle.brake.proofs.Judged.{never}
 
@@ -104,14 +103,14 @@ module _ (f : Format) (c : FuseConfig) (tabs : Tables) (a p v : List Float) (n :
   rest = computed when not (eqb (place_of whole) 0) ∷ []
 
   -- the whole answer, with the entries l, the position and the velocity as they are left
-  pub record Answered (l : List Float) (r : Ran) (entries places rates : List Float) : Type 0 where
+  pub record Answered (l : List Float) (r : Result Ran Refusal) (entries places rates : List Float) : Type 0 where
     pub gives : r ≡ run_answer f c tabs a p v n (length l)
     pub slacks : entries ≡ run_slacks f c tabs a p v n l
     pub position : places ≡ run_position f c tabs a p v n (length l)
     pub velocity : rates ≡ run_velocity f c tabs a p v n (length l)
 
   module _ (l : List Float) where
-    pub refused : {k : ℕ} → k ≡ refusal (before f c tabs a p v n (length l)) → (k ≡ 0 → ⊥) → {r : Refusal} → r ≡ refused_for k → Answered l (ran.Refused r) l p v
+    pub refused : {k : ℕ} → k ≡ refusal (before f c tabs a p v n (length l)) → (k ≡ 0 → ⊥) → {r : Refusal} → r ≡ refused_for k → Answered l (Err r) l p v
     unfolding run_answer run_slacks run_position run_velocity run_refusal
     refused {k} g y i =
         let b = before f c tabs a p v n (length l) in
@@ -122,7 +121,7 @@ module _ (f : Format) (c : FuseConfig) (tabs : Tables) (a p v : List Float) (n :
 
     -- where that passes, the place of the first number that isn't finite decides
     module _ (passes : refusal (before f c tabs a p v n (length l)) ≡ 0) where
-      pub failed-at : (k : ℕ) → place_of whole ≡ suc k → Answered l (ran.Refused (record { number = 13; place = suc k })) (written_of whole l) p v
+      pub failed-at : (k : ℕ) → place_of whole ≡ suc k → Answered l (Err (record { number = 13; place = suc k })) (written_of whole l) p v
       unfolding run_answer run_slacks run_position run_velocity run_refusal ran_to
       failed-at k place =
           let j : eqb (place_of whole) 0 ≡ false = ap (λ (i : ℕ). eqb i 0) place ∙ ne_eqb (suc k) 0 (λ o. omega arith) in
@@ -130,7 +129,7 @@ module _ (f : Format) (c : FuseConfig) (tabs : Tables) (a p v : List Float) (n :
           record { gives = rw (z, j, place); slacks = rw z; position = rw z; velocity = rw z }
 
       pub failed-nowhere : place_of whole ≡ 0
-          → Answered l (ran.Accepted n (margin_of whole)) (written_of whole l) (over (at (plant_at f c a p v n).p) p (live c)) (over (at (plant_at f c a p v n).v) v (live c))
+          → Answered l (ran_with n (margin_of whole)) (written_of whole l) (over (at (plant_at f c a p v n).p) p (live c)) (over (at (plant_at f c a p v n).v) v (live c))
       unfolding run_answer run_slacks run_position run_velocity run_refusal ran_to
       failed-nowhere place =
           let z : chain (before f c tabs a p v n (length l) ++ rest) ≡ 0 = first_passes (before f c tabs a p v n (length l)) rest passes ∙ rw place in
@@ -155,13 +154,13 @@ module _ (f : Format) (c : FuseConfig) (tabs : Tables) (a p v : List Float) (n :
         unfolding place_of
         nowhere e = rw (sym told ∙ e)
 
-        pub failed : {entries : List Float} → entries ≡ written_of whole l → run.sound ≡ false → Answered l (ran.Refused (record { number = 13; place = run.done + 1 })) entries p v
+        pub failed : {entries : List Float} → entries ≡ written_of whole l → run.sound ≡ false → Answered l (Err (record { number = 13; place = run.done + 1 })) entries p v
         failed w e =
             let q = failed-at run.done (stopped-at e) in
-            record { gives = ap (λ (k : ℕ). ran.Refused (record { number = 13; place = k })) (add-one run.done) ∙ q.gives; slacks = w ∙ q.slacks; position = q.position; velocity = q.velocity }
+            record { gives = ap (λ (k : ℕ). Err (record { number = 13; place = k })) (add-one run.done) ∙ q.gives; slacks = w ∙ q.slacks; position = q.position; velocity = q.velocity }
 
         pub ran-through : {entries places rates : List Float} → entries ≡ written_of whole l → run.sound ≡ true → places ≡ over (at run.plant.p) p (live c) → rates ≡ over (at run.plant.v) v (live c)
-            → Answered l (ran.Accepted run.done run.margin) entries places rates
+            → Answered l (ran_with run.done run.margin) entries places rates
         unfolding margin_of
         ran-through w e x y =
             let q = failed-nowhere (nowhere e) in

@@ -1,4 +1,6 @@
 -- What the masks of an accepted brake or hold say: they are those of the setpoint, on the first min(dim, pos_dim) axes, and there the row is the setpoint.
+use Rattle.std.specs.Prelude.{Err, Ok, Result}
+use Rattle.refusal.specs.declared.Refusal.{Refusal}
 use Prim.Native.Nat.{ℕ, min, ◌≤◌, ◌<◌}
 use mathlib.Core.Path.{◌≡◌, refl, sym, ap, ◌∙◌}
 use mathlib.Core.Bool.{Bool, true, false, not, ◌||◌, false≢true}
@@ -27,8 +29,6 @@ use Rattle.workspace.specs.Rule.{Walls, onto_disc, setpoint, wall_masks, setpoin
 use Rattle.workspace.specs.Promises.{AxisTold, MovedAsTold, NoBitPast}
 use Rattle.workspace.proofs.Promises as masks
 use Rattle.workspace.proofs.Inside.{inward_on, setpoint_long}
-use Rattle.brake.specs.declared.Sent.{Sent}
-use Rattle.brake.specs.declared.Sent.TheVariants.{Done, Refused}
 use Rattle.brake.specs.Rule.{live, walls_at, is_position, takes_last, sent_row, sent_masks}
 use Rattle.brake.specs.Answer.{last_unfit, row_lent, sent_at, masks_sent, brake_sent, brake_refusal, brake_answer, brake_output, hold_sent, hold_refusal, hold_answer, hold_output}
 use Rattle.brake.specs.Promises.{bounded, SentWalls}
@@ -63,12 +63,12 @@ module _ (w : Walls) (p : List Float) (n : ℕ) where
   none_past JointVelocity = λ j l. (no_bits j, no_bits j)
   none_past Other = (masks.promised).no_bit_past w (eight p 8) n
 
-abbrev masks_in : Sent → WallMasks
-masks_in (Done m) = m
-masks_in (Refused r) = unmoved
+abbrev masks_in : Result WallMasks Refusal → WallMasks
+masks_in (Ok m) = m
+masks_in (Err r) = unmoved
 
 -- an accepted answer has the masks that are sent
-pub masks_of : (k : ℕ) (x m : WallMasks) → sent_at k x ≡ Done m → m ≡ x
+pub masks_of : (k : ℕ) (x m : WallMasks) → sent_at k x ≡ Ok m → m ≡ x
 masks_of k x m e = sym (ap masks_in (sym (ap (λ (n : ℕ). sent_at n x) (sent_zero k x m e)) ∙ e))
 
 -- ---- the position, with zeros up to eight
@@ -161,7 +161,7 @@ module _ (c : FuseConfig) (p last l : List Float) (m : WallMasks) (narrow : c.di
 -- ---- brake and hold
 
 module _ (c : FuseConfig) (tabs : Tables) (p last l : List Float) (m : WallMasks) where
-  pub brake_walls : (v : List Float) → brake_answer binary64 c tabs p v last (length l) ≡ Done m → SentWalls c p m (brake_output binary64 c tabs p v last l)
+  pub brake_walls : (v : List Float) → brake_answer binary64 c tabs p v last (length l) ≡ Ok m → SentWalls c p m (brake_output binary64 c tabs p v last l)
   unfolding brake_answer brake_output brake_refusal brake_sent
   brake_walls v done =
       let k = brake_refusal binary64 c tabs p v last (length l) in
@@ -172,7 +172,7 @@ module _ (c : FuseConfig) (tabs : Tables) (p last l : List Float) (m : WallMasks
       sent_walls c p last l m sizes.0 sizes.1 (masks_of k (masks_sent binary64 c p) m done) _
       (λ is. rw (z, position_brakes (walls_at binary64 c) p c.dim binary64 c.limits.a_max c.limits.dt v c.kind (positions c.kind is)))
 
-  pub hold_walls : hold_answer binary64 c tabs p last (length l) ≡ Done m → SentWalls c p m (hold_output binary64 c tabs p last l)
+  pub hold_walls : hold_answer binary64 c tabs p last (length l) ≡ Ok m → SentWalls c p m (hold_output binary64 c tabs p last l)
   unfolding hold_answer hold_output hold_refusal hold_sent
   hold_walls done =
       let k = hold_refusal binary64 c tabs p last (length l) in

@@ -1,5 +1,5 @@
 -- What the brake's entries judge (R7), and what they answer.
-use Rattle.std.specs.Prelude.{ℕ, Bool, not, ◌&&◌, ◌||◌, List, [], ◌∷◌, ◌++◌, ltb, eqb, length, Float, if◌then◌else◌}
+use Rattle.std.specs.Prelude.{ℕ, Bool, not, ◌&&◌, ◌||◌, List, [], ◌∷◌, ◌++◌, ltb, eqb, length, Float, if◌then◌else◌, Err, Ok, Result}
 use Rattle.std.specs.Float.{Format}
 use Rattle.refusal.specs.declared.Refusal.{Refusal}
 use Rattle.refusal.specs.Order.{Judged, width, short, not_finite, computed, number_of, ◌when◌, refusal, refused_for, answer_by, left_by}
@@ -15,9 +15,6 @@ use Rattle.envelope.specs.declared.Gripper.{Gripper}
 use Rattle.workspace.specs.declared.WallMasks.{WallMasks}
 use Rattle.course.specs.Forecast.{Forecast, place_of, margin_of, feasible_of, written_of}
 use Rattle.brake.specs.declared.BrakeOut.{BrakeOut}
-use Rattle.brake.specs.declared.BrakeOut.TheVariants as out
-use Rattle.brake.specs.declared.Sent.{Sent}
-use Rattle.brake.specs.declared.Sent.TheVariants as sent
 use Rattle.brake.specs.Rule.{live, walls_at, forecast_of, brake_row, hold_row, takes_last, sent_row, sent_masks}
 
 -- ---- the forecast
@@ -30,16 +27,20 @@ too_short pos-dim p v count room = ltb p pos-dim || ltb v pos-dim || ltb room co
 abbrev pub placed_or : {A : Type 0} → (Refusal → A) → A → Forecast → A
 placed_or refused answer t = if eqb (place_of t) 0 then answer else refused (record { number = number_of computed; place = place_of t })
 
+-- a forecast that is accepted, with what it foresees
+abbrev pub forecast_with : ℕ → Float → Bool → Float → Result BrakeOut Refusal
+forecast_with n margin feasible stop = Ok (record { count = n; margin = margin; feasible = feasible; stop_dist = stop })
+
 -- what a forecast comes to
-unfoldable pub outcome : Forecast → BrakeOut
-outcome t = placed_or out.Refused (out.Accepted t.count (margin_of t) (feasible_of t) t.stop.value) t
+unfoldable pub outcome : Forecast → Result BrakeOut Refusal
+outcome t = placed_or Err (forecast_with t.count (margin_of t) (feasible_of t) t.stop.value) t
 
 -- that, by the number of the refusal, 0 where there is none
 abbrev pub decided_at : {A : Type 0} → (Refusal → A) → A → ℕ → A
 decided_at refused comesTo k = if eqb k 0 || eqb k (number_of computed) then comesTo else refused (refused_for k)
 
-abbrev pub answer_at : ℕ → Forecast → BrakeOut
-answer_at k t = decided_at out.Refused (outcome t) k
+abbrev pub answer_at : ℕ → Forecast → Result BrakeOut Refusal
+answer_at k t = decided_at Err (outcome t) k
 
 -- the entries before the failing place are written, and none under another refusal
 abbrev pub slacks_at : ℕ → Forecast → List Float → List Float
@@ -63,7 +64,7 @@ module _ (f : Format) (c : FuseConfig) (t : Tables) (p v rows : List Float) (k :
   unfoldable pub forecast_refusal : ℕ → ℕ
   forecast_refusal room = refusal (config_judged f c t ++ (chunk_reasons k (length rows) ++ (lent_judged f c p v rows k from room ++ (computed when not (eqb (place_of planned) 0) ∷ []))))
 
-  unfoldable pub forecast_answer : ℕ → BrakeOut
+  unfoldable pub forecast_answer : ℕ → Result BrakeOut Refusal
   forecast_answer room = answer_at (forecast_refusal room) planned
 
   unfoldable pub forecast_slacks : List Float → List Float
@@ -72,8 +73,8 @@ module _ (f : Format) (c : FuseConfig) (t : Tables) (p v rows : List Float) (k :
 -- ---- brake and hold
 
 -- the walls that moved the row, where the refusal is 0
-abbrev pub sent_at : ℕ → WallMasks → Sent
-sent_at n m = answer_by sent.Refused (sent.Done m) n
+abbrev pub sent_at : ℕ → WallMasks → Result WallMasks Refusal
+sent_at n m = answer_by Err (Ok m) n
 
 -- the first k numbers of a row over the output, where the refusal is 0; the rest stays
 abbrev pub row_at : ℕ → List Float → ℕ → List Float → List Float
@@ -109,7 +110,7 @@ module _ (f : Format) (c : FuseConfig) (t : Tables) (p v last : List Float) wher
   unfoldable pub brake_refusal : ℕ → ℕ
   brake_refusal room = refusal (config_judged f c t ++ (row_lent c (some_not_finite p || some_not_finite v || last_unfit c.gripper last) room (length last) ++ (computed when not (brake_sent f c p v last).sound ∷ [])))
 
-  unfoldable pub brake_answer : ℕ → Sent
+  unfoldable pub brake_answer : ℕ → Result WallMasks Refusal
   brake_answer room = sent_at (brake_refusal room) (masks_sent f c p)
 
   unfoldable pub brake_output : List Float → List Float
@@ -126,7 +127,7 @@ module _ (f : Format) (c : FuseConfig) (t : Tables) (p last : List Float) where
   unfoldable pub hold_refusal : ℕ → ℕ
   hold_refusal room = refusal (config_judged f c t ++ (row_lent c (some_not_finite p || last_unfit c.gripper last) room (length last) ++ (computed when not (hold_sent f c p last).sound ∷ [])))
 
-  unfoldable pub hold_answer : ℕ → Sent
+  unfoldable pub hold_answer : ℕ → Result WallMasks Refusal
   hold_answer room = sent_at (hold_refusal room) (masks_sent f c p)
 
   unfoldable pub hold_output : List Float → List Float

@@ -1,6 +1,6 @@
 -- What is promised of `run_towards`, said of its answers and of what it leaves: of one call (R7.18); of two halves (R7.19), a first call of m substeps, a second of n from where the first leaves position and velocity,
 -- and one of m + n from the start, at one configuration and towards one setpoint; and of the long forecast, which makes the same runs. The proofs are `proofs/Halves.antt`.
-use Rattle.std.specs.Prelude.{ℕ, suc, ◌+◌, ◌*◌, ◌≤◌, ◌<◌, ◌≡◌, Bool, true, false, List, ◌++◌, length, take, drop, Float}
+use Rattle.std.specs.Prelude.{ℕ, suc, ◌+◌, ◌*◌, ◌≤◌, ◌<◌, ◌≡◌, Bool, true, false, List, ◌++◌, length, take, drop, Float, Err, Result}
 use Rattle.std.specs.Float.{binary64, inf}
 use Rattle.std.specs.Float.Ieee.{lt, eq}
 use Rattle.refusal.specs.declared.Refusal.{Refusal}
@@ -19,9 +19,8 @@ use Rattle.rollout.specs.Rule.{row_substeps, setpoint, entry}
 use Rattle.rollout.specs.Leg.{reached}
 use Rattle.rollout.specs.Halves.{box_leg, disc_leg}
 use Rattle.brake.specs.declared.Ran.{Ran}
-use Rattle.brake.specs.declared.Ran.TheVariants.{Accepted, Refused}
 use Rattle.brake.specs.Rule.{live, walls_at, start_at}
-use Rattle.brake.specs.Towards.{gains_in, leg_at, running, run_answer, run_slacks, run_position, run_velocity}
+use Rattle.brake.specs.Towards.{gains_in, leg_at, running, run_answer, run_slacks, run_position, run_velocity, ran_with}
 use Rattle.brake.specs.Promises as the-forecast
 
 -- ---- a call
@@ -36,7 +35,7 @@ pub record RunCall : Type 0 where
   pub given_entries : List Float
 
 -- what it answers, and what it leaves of the entries, the position and the velocity, as the entry's contract has them
-abbrev pub told_by : RunCall → Ran
+abbrev pub told_by : RunCall → Result Ran Refusal
 told_by x = run_answer binary64 x.given_config x.given_tables x.given_aim x.given_position x.given_velocity x.given_substeps (length x.given_entries)
 
 abbrev pub slacks_left : RunCall → List Float
@@ -50,7 +49,7 @@ velocity_left x = run_velocity binary64 x.given_config x.given_tables x.given_ai
 
 -- refused with 13, naming a place
 abbrev pub StopsAt : RunCall → ℕ → Type 0
-StopsAt x place = told_by x ≡ Refused (record { number = 13; place = place })
+StopsAt x place = told_by x ≡ Err (record { number = 13; place = place })
 
 -- ---- what one call says
 
@@ -89,13 +88,13 @@ finite_run x k = (entry_of x k).sound
 
 -- when a call that nothing else stops is accepted, and where it is refused: at the first substep with a number that isn't finite, which 13 names, and which no other refusal does
 pub record ExactlyThere (x : RunCall) : Type 0 where
-  pub accepted_is_finite : (count : ℕ) (margin : Float) → told_by x ≡ Accepted count margin → (k : ℕ) → k < x.given_substeps → finite_run x k ≡ true
+  pub accepted_is_finite : (count : ℕ) (margin : Float) → told_by x ≡ ran_with count margin → (k : ℕ) → k < x.given_substeps → finite_run x k ≡ true
   pub stopped_is_first : (k : ℕ) → StopsAt x (suc k) → ((j : ℕ) → j < k → finite_run x j ≡ true) × (finite_run x k ≡ false)
-  pub thirteen_has_a_place : (r : Refusal) → told_by x ≡ Refused r → r.number ≡ 13 → (k : ℕ) × (k < x.given_substeps) × StopsAt x (suc k)
-  pub no_other_has : (r : Refusal) → told_by x ≡ Refused r → (r.number ≡ 13 → ⊥) → r.place ≡ 0
+  pub thirteen_has_a_place : (r : Refusal) → told_by x ≡ Err r → r.number ≡ 13 → (k : ℕ) × (k < x.given_substeps) × StopsAt x (suc k)
+  pub no_other_has : (r : Refusal) → told_by x ≡ Err r → (r.number ≡ 13 → ⊥) → r.place ≡ 0
   -- the margin is one of the slacks, and none is below it
-  pub none_below_the_margin : (count : ℕ) (margin : Float) → told_by x ≡ Accepted count margin → (k : ℕ) → k < x.given_substeps → lt (slack_run x (suc k)) margin ≡ false
-  pub margin_is_one : (count : ℕ) (margin : Float) → told_by x ≡ Accepted count margin → (m : ℕ) → x.given_substeps ≡ suc m → (k : ℕ) × (k < suc m) × (margin ≡ slack_run x (suc k))
+  pub none_below_the_margin : (count : ℕ) (margin : Float) → told_by x ≡ ran_with count margin → (k : ℕ) → k < x.given_substeps → lt (slack_run x (suc k)) margin ≡ false
+  pub margin_is_one : (count : ℕ) (margin : Float) → told_by x ≡ ran_with count margin → (m : ℕ) → x.given_substeps ≡ suc m → (k : ℕ) × (k < suc m) × (margin ≡ slack_run x (suc k))
 
 -- no substeps: nothing changes, and the slack is infinite
 pub record NothingRun (x : RunCall) (margin : Float) : Type 0 where
@@ -132,7 +131,7 @@ whole x n l = record {
 
 -- both halves are accepted, with the margins a and b: so is the whole, it leaves what the second leaves, its margin is the lesser of the two, and its entries are those of the first, those of the second, and what was lent
 pub record Joined (x : RunCall) (n : ℕ) (l l' : List Float) (a b : Float) : Type 0 where
-  pub whole_accepted : told_by (whole x n l') ≡ Accepted (x.given_substeps + n) (lesser a b)
+  pub whole_accepted : told_by (whole x n l') ≡ ran_with (x.given_substeps + n) (lesser a b)
   pub in_either_order : eq (lesser b a) (lesser a b) ≡ true
   pub same_position : position_left (whole x n l') ≡ position_left (second x n l)
   pub same_velocity : velocity_left (whole x n l') ≡ velocity_left (second x n l)
@@ -151,13 +150,13 @@ pub record StoppedLater (x : RunCall) (n : ℕ) (l l' : List Float) (k : ℕ) : 
 -- the second is lent the entries l, and the whole l'
 pub record HalvesAnswered (x : RunCall) (n : ℕ) (l l' : List Float) : Type 0 where
   -- once the first is accepted, no refusal but 13 stops the second, and it has a place
-  pub thirteen_alone : (m : ℕ) (a : Float) → told_by x ≡ Accepted m a → (r : Refusal) → told_by (second x n l) ≡ Refused r → (k : ℕ) × (k < n) × StopsAt (second x n l) (suc k)
+  pub thirteen_alone : (m : ℕ) (a : Float) → told_by x ≡ ran_with m a → (r : Refusal) → told_by (second x n l) ≡ Err r → (k : ℕ) × (k < n) × StopsAt (second x n l) (suc k)
   -- where the whole is accepted, every number is finite, and so are both halves
-  pub halves_accepted : x.given_substeps ≤ length x.given_entries → (k : ℕ) (c : Float) → told_by (whole x n l') ≡ Accepted k c
-      → (a : Float) × (b : Float) × (told_by x ≡ Accepted x.given_substeps a) × (told_by (second x n l) ≡ Accepted n b)
-  pub both_accepted : (m k : ℕ) (a b : Float) → told_by x ≡ Accepted m a → told_by (second x n l) ≡ Accepted k b → Joined x n l l' a b
+  pub halves_accepted : x.given_substeps ≤ length x.given_entries → (k : ℕ) (c : Float) → told_by (whole x n l') ≡ ran_with k c
+      → (a : Float) × (b : Float) × (told_by x ≡ ran_with x.given_substeps a) × (told_by (second x n l) ≡ ran_with n b)
+  pub both_accepted : (m k : ℕ) (a b : Float) → told_by x ≡ ran_with m a → told_by (second x n l) ≡ ran_with k b → Joined x n l l' a b
   pub first_refused : (k : ℕ) → StopsAt x (suc k) → StoppedFirst x n l' k
-  pub second_refused : (m k : ℕ) (a : Float) → told_by x ≡ Accepted m a → StopsAt (second x n l) (suc k) → StoppedLater x n l l' k
+  pub second_refused : (m k : ℕ) (a : Float) → told_by x ≡ ran_with m a → StopsAt (second x n l) (suc k) → StoppedLater x n l l' k
 
 -- ---- the long forecast makes the same runs
 
@@ -201,11 +200,11 @@ pub record OfItsShape (c : FuseConfig) (a : List Float) : Type 0 where
 -- ---- all of it
 
 pub record HalvesPromised : Type 0 where
-  pub when_accepted : (x : RunCall) (count : ℕ) (margin : Float) → told_by x ≡ Accepted count margin → RanThrough x count margin
+  pub when_accepted : (x : RunCall) (count : ℕ) (margin : Float) → told_by x ≡ ran_with count margin → RanThrough x count margin
   pub when_stopped : (x : RunCall) (k : ℕ) → StopsAt x (suc k) → StoppedAt x k
   pub exactly_there : (x : RunCall) → ExactlyThere x
-  pub nothing_run : (x : RunCall) → x.given_substeps ≡ 0 → (count : ℕ) (margin : Float) → told_by x ≡ Accepted count margin → NothingRun x margin
-  pub never_thirteen : (x : RunCall) → x.given_substeps ≡ 0 → (r : Refusal) → told_by x ≡ Refused r → r.number ≡ 13 → ⊥
+  pub nothing_run : (x : RunCall) → x.given_substeps ≡ 0 → (count : ℕ) (margin : Float) → told_by x ≡ ran_with count margin → NothingRun x margin
+  pub never_thirteen : (x : RunCall) → x.given_substeps ≡ 0 → (r : Refusal) → told_by x ≡ Err r → r.number ≡ 13 → ⊥
   -- where the entries that are lent to the second and to the whole have room
   pub halves_answered : (x : RunCall) (n : ℕ) (l l' : List Float) → n ≤ length l → x.given_substeps + n ≤ length l' → HalvesAnswered x n l l'
   pub of_its_shape : (c : FuseConfig) (a : List Float) → OfItsShape c a

@@ -1,6 +1,6 @@
 -- What is promised of one call of `brake_feasible` with the second-order brake, said of its own answer and of the entries that were lent to it; that the rows of brake and
 -- hold lie in the box of each axis that has one, in the gripper's new mode of each within pos_dim, what they have past pos_dim in either mode, and what their masks say. The proofs are `proofs/Promises.antt`, `proofs/Boxed.antt`, `proofs/Modes.antt` and `proofs/Walled.antt`.
-use Rattle.std.specs.Prelude.{ℕ, suc, ◌+◌, ◌-◌, ◌*◌, ◌≤◌, ◌<◌, ◌≡◌, Bool, true, false, ◌&&◌, List, T, length, Float, if◌then◌else◌}
+use Rattle.std.specs.Prelude.{ℕ, suc, ◌+◌, ◌-◌, ◌*◌, ◌≤◌, ◌<◌, ◌≡◌, Bool, true, false, ◌&&◌, List, T, length, Float, if◌then◌else◌, Err, Ok, Result}
 use Rattle.std.specs.Float.{binary64, inf}
 use Rattle.std.specs.Float.Ieee.{lt, le, sub, fits}
 use Rattle.refusal.specs.declared.Refusal.{Refusal}
@@ -27,12 +27,8 @@ use Rattle.rollout.specs.Plant.{Gains, substep}
 use Rattle.course.specs.Plant.{State}
 use Rattle.rollout.specs.Rule.{Task, followed, setpoint, aim, after, entry, stop_distance, stop}
 use Rattle.brake.specs.declared.BrakeOut.{BrakeOut}
-use Rattle.brake.specs.declared.BrakeOut.TheVariants.{Accepted, Refused}
-use Rattle.brake.specs.declared.Sent as sent
-use Rattle.brake.specs.declared.Sent.TheVariants as Sent
-use Rattle.brake.specs.declared.Sent.TheVariants.{Done}
 use Rattle.brake.specs.Rule.{live, walls_at, second_order, forecast_of, is_position, takes_last}
-use Rattle.brake.specs.Answer.{forecast_answer, forecast_slacks, masks_sent, brake_sent, hold_sent, brake_answer, brake_output, hold_answer, hold_output}
+use Rattle.brake.specs.Answer.{forecast_answer, forecast_slacks, masks_sent, brake_sent, hold_sent, brake_answer, brake_output, hold_answer, hold_output, forecast_with}
 use Rattle.brake.specs.Towards.{running}
 use Rattle.brake.specs.NoMode as noMode
 
@@ -49,7 +45,7 @@ pub record Call : Type 0 where
   pub lent : List Float
 
 -- what it answers, and the lent entries afterwards, as the entry's contract has them
-abbrev pub answer : Call → BrakeOut
+abbrev pub answer : Call → Result BrakeOut Refusal
 answer x = forecast_answer binary64 x.config x.tables x.position x.velocity x.rows x.header x.from (length x.lent)
 
 abbrev pub entries : Call → List Float
@@ -57,7 +53,7 @@ entries x = forecast_slacks binary64 x.config x.tables x.position x.velocity x.r
 
 -- no refusal but 13 stops the call
 abbrev pub OnlyThirteen : Call → Type 0
-OnlyThirteen x = (r : Refusal) → answer x ≡ Refused r → r.number ≡ 13
+OnlyThirteen x = (r : Refusal) → answer x ≡ Err r → r.number ≡ 13
 
 -- the configuration has the second-order brake, with these gains
 abbrev pub SecondOrder : Call → Gains → Type 0
@@ -111,7 +107,7 @@ pub record Wrote (x : Call) (g : Gains) (n : ℕ) : Type 0 where
 pub record Forecasts (x : Call) (g : Gains) : Type 0 where
   pub margin : Float
   pub feasible : Bool
-  pub reports_n : answer x ≡ Accepted (N x) margin feasible (stop binary64 (task x g)).value
+  pub reports_n : answer x ≡ forecast_with (N x) margin feasible (stop binary64 (task x g)).value
   pub wrote : Wrote x g (N x)
   pub margin_least : (k : ℕ) → k < N x → lt (at (entries x) k) margin ≡ false
   pub margin_attained : 0 < N x → (k : ℕ) × (k < N x) × (margin ≡ at (entries x) k)
@@ -121,12 +117,12 @@ pub record Forecasts (x : Call) (g : Gains) : Type 0 where
 
 -- refused with 13, naming a place
 abbrev pub RefusedAt : Call → ℕ → Type 0
-RefusedAt x place = answer x ≡ Refused (record { number = 13; place = place })
+RefusedAt x place = answer x ≡ Err (record { number = 13; place = place })
 
 pub record Demand3 (x : Call) (g : Gains) : Type 0 where
   -- if every computed number is finite, and only then
   pub forecasts : AllFinite x g → Forecasts x g
-  pub only_finite : (n : ℕ) (margin : Float) (feasible : Bool) (stop : Float) → answer x ≡ Accepted n margin feasible stop → AllFinite x g
+  pub only_finite : (n : ℕ) (margin : Float) (feasible : Bool) (stop : Float) → answer x ≡ forecast_with n margin feasible stop → AllFinite x g
   -- if substep k first computes a number that isn't finite, and only then, it is refused naming k; the k - 1 earlier slacks are written
   pub refuses : (k : ℕ) → FirstFailing x g k → RefusedAt x (suc k)
   pub wrote_before : (k : ℕ) → FirstFailing x g k → Wrote x g k
@@ -150,7 +146,7 @@ SetpointPlaced x g = ((k : ℕ) → k < rows_before x → finite_in x g k ≡ tr
 -- with nothing left to run: no committed row, no braking step. The forecast computes the setpoint and the stop distance, and where they are finite it is feasible, with
 -- infinite slack, wherever the arm stands
 pub record NothingLeft (x : Call) (g : Gains) : Type 0 where
-  pub feasible_anywhere : stop_finite x g ≡ true → answer x ≡ Accepted 0 (inf false) true (stop binary64 (task x g)).value
+  pub feasible_anywhere : stop_finite x g ≡ true → answer x ≡ forecast_with 0 (inf false) true (stop binary64 (task x g)).value
   pub refused_at_one : stop_finite x g ≡ false → RefusedAt x 1
   -- the setpoint is made from the given start; with a box nothing is computed for it
   pub of_the_start : setpoint binary64 (task x g) ≡ inward binary64 (walls_at binary64 x.config) (plant_after x g 0).p (live x.config)
@@ -224,18 +220,18 @@ bounded c = if takes_last c.gripper then live c else c.dim
 -- each of them that brake writes, or hold, lies in its box, where it has one
 abbrev pub BrakesInside : FuseConfig → Tables → List Float → List Float → List Float → List Float → Type 0
 BrakesInside c t p v last l =
-    (m : WallMasks) → brake_answer binary64 c t p v last (length l) ≡ Done m → (j : ℕ) → j < bounded c → boxed c.shape j ≡ true → InBox c j (at (brake_output binary64 c t p v last l) j)
+    (m : WallMasks) → brake_answer binary64 c t p v last (length l) ≡ Ok m → (j : ℕ) → j < bounded c → boxed c.shape j ≡ true → InBox c j (at (brake_output binary64 c t p v last l) j)
 
 abbrev pub HoldsInside : FuseConfig → Tables → List Float → List Float → List Float → Type 0
 HoldsInside c t p last l =
-    (m : WallMasks) → hold_answer binary64 c t p last (length l) ≡ Done m → (j : ℕ) → j < bounded c → boxed c.shape j ≡ true → InBox c j (at (hold_output binary64 c t p last l) j)
+    (m : WallMasks) → hold_answer binary64 c t p last (length l) ≡ Ok m → (j : ℕ) → j < bounded c → boxed c.shape j ≡ true → InBox c j (at (hold_output binary64 c t p last l) j)
 
 -- ---- the axes past pos_dim, in either mode of the gripper
 
 -- a call that is accepted with the masks m in the mode that has the last command, and leaves out of l, beside what the same call answers and leaves in the Rust's mode, whatever is lent there as the last command
-pub record InBothModes (c : FuseConfig) (last l : List Float) (m : WallMasks) (out : List Float) (answered : sent.Sent) (left : List Float) : Type 0 where
+pub record InBothModes (c : FuseConfig) (last l : List Float) (m : WallMasks) (out : List Float) (answered : Result WallMasks Refusal) (left : List Float) : Type 0 where
   -- it is accepted there, too, and the same walls moved it
-  pub accepted_there : answered ≡ Done m
+  pub accepted_there : answered ≡ Ok m
   -- past pos_dim a position kind has the last command's numbers, bit for bit
   pub keeps_last : is_position c.kind ≡ true → (j : ℕ) → c.pos_dim ≤ j → j < c.dim → at out j ≡ at last j
   -- within pos_dim the numbers are the same in both modes, and so is a velocity kind's whole row, and any kind's that has no axis past pos_dim
@@ -249,24 +245,24 @@ pub record InBothModes (c : FuseConfig) (last l : List Float) (m : WallMasks) (o
 abbrev pub BrakesInBoth : FuseConfig → Tables → List Float → List Float → List Float → List Float → List Float → Type 0
 BrakesInBoth c t p v last other l =
     let old = gripped_by c ToZero in
-    (m : WallMasks) → brake_answer binary64 c t p v last (length l) ≡ Done m → InBothModes c last l m (brake_output binary64 c t p v last l) (brake_answer binary64 old t p v other (length l)) (brake_output binary64 old t p v other l)
+    (m : WallMasks) → brake_answer binary64 c t p v last (length l) ≡ Ok m → InBothModes c last l m (brake_output binary64 c t p v last l) (brake_answer binary64 old t p v other (length l)) (brake_output binary64 old t p v other l)
 
 abbrev pub HoldsInBoth : FuseConfig → Tables → List Float → List Float → List Float → List Float → Type 0
 HoldsInBoth c t p last other l =
     let old = gripped_by c ToZero in
-    (m : WallMasks) → hold_answer binary64 c t p last (length l) ≡ Done m → InBothModes c last l m (hold_output binary64 c t p last l) (hold_answer binary64 old t p other (length l)) (hold_output binary64 old t p other l)
+    (m : WallMasks) → hold_answer binary64 c t p last (length l) ≡ Ok m → InBothModes c last l m (hold_output binary64 c t p last l) (hold_answer binary64 old t p other (length l)) (hold_output binary64 old t p other l)
 
 -- what the mode that has the last command answers, new, beside the Rust's, old. Where the last command has dim numbers or more and each of all its numbers is finite it is the same, the masks or the refusal, 13 with them; else, where the
 -- Rust's accepts, 11 or 12
-pub record LastJudged (c : FuseConfig) (last : List Float) (old new : sent.Sent) : Type 0 where
+pub record LastJudged (c : FuseConfig) (last : List Float) (old new : Result WallMasks Refusal) : Type 0 where
   pub where_fit : c.dim ≤ length last → some_not_finite last ≡ false → new ≡ old
-  pub where_short : (m : WallMasks) → old ≡ Done m → length last < c.dim → new ≡ Sent.Refused (refused_for 11)
-  pub where_not_finite : (m : WallMasks) → old ≡ Done m → c.dim ≤ length last → some_not_finite last ≡ true → new ≡ Sent.Refused (refused_for 12)
-  pub enough_long : (m : WallMasks) → new ≡ Done m → c.dim ≤ length last
-  pub each_finite : (m : WallMasks) → new ≡ Done m → some_not_finite last ≡ false
+  pub where_short : (m : WallMasks) → old ≡ Ok m → length last < c.dim → new ≡ Err (refused_for 11)
+  pub where_not_finite : (m : WallMasks) → old ≡ Ok m → c.dim ≤ length last → some_not_finite last ≡ true → new ≡ Err (refused_for 12)
+  pub enough_long : (m : WallMasks) → new ≡ Ok m → c.dim ≤ length last
+  pub each_finite : (m : WallMasks) → new ≡ Ok m → some_not_finite last ≡ false
 
 -- in the Rust's mode an entry answers and leaves what a guard does that has no mode: no last command is an argument
-pub record AsWithoutMode (answered plain : sent.Sent) (left bare : List Float) : Type 0 where
+pub record AsWithoutMode (answered plain : Result WallMasks Refusal) (left bare : List Float) : Type 0 where
   pub same_answer : answered ≡ plain
   pub same_output : left ≡ bare
 
@@ -313,7 +309,7 @@ pub record MarginUnread (c : FuseConfig) (m : Float) : Type 0 where
 abbrev pub ShorterBegins : Type 0
 ShorterBegins =
     (x : Call) (g : Gains) → SecondOrder x g → (b : ControlSteps) (l : List Float) (m n : ℕ) (margin margin' : Float) (feasible feasible' : Bool) (stop stop' : Float)
-    → answer x ≡ Accepted m margin feasible stop → answer (braked x b l) ≡ Accepted n margin' feasible' stop' → x.config.brake.brake_steps.0 ≤ b.0 → Begins (N x) x (braked x b l)
+    → answer x ≡ forecast_with m margin feasible stop → answer (braked x b l) ≡ forecast_with n margin' feasible' stop' → x.config.brake.brake_steps.0 ≤ b.0 → Begins (N x) x (braked x b l)
 
 -- no slack after one substep or more is negative
 abbrev pub NoneNegative : Call → Gains → Type 0
@@ -321,7 +317,7 @@ NoneNegative x g = (k : ℕ) → k < N x → lt (slack_after x g (suc k)) +0 ≡
 
 abbrev pub FeasibleExactly : Type 0
 FeasibleExactly =
-    (x : Call) (g : Gains) → SecondOrder x g → (n : ℕ) (margin : Float) (feasible : Bool) (stop : Float) → answer x ≡ Accepted n margin feasible stop
+    (x : Call) (g : Gains) → SecondOrder x g → (n : ℕ) (margin : Float) (feasible : Bool) (stop : Float) → answer x ≡ forecast_with n margin feasible stop
     → (feasible ≡ true → NoneNegative x g) × (NoneNegative x g → feasible ≡ true)
 
 pub record Promised : Type 0 where
@@ -332,11 +328,11 @@ pub record Promised : Type 0 where
   pub nothing_left : (x : Call) (g : Gains) → SecondOrder x g → OnlyThirteen x → N x ≡ 0 → NothingLeft x g
   pub box_forecast : (x : Call) (g : Gains) → x.config.shape ≡ Box → BoxForecast x g
   pub disc_forecast :
-      (x : Call) (g : Gains) → SecondOrder x g → (n : ℕ) (margin : Float) (feasible : Bool) (stop : Float) → answer x ≡ Accepted n margin feasible stop
+      (x : Call) (g : Gains) → SecondOrder x g → (n : ℕ) (margin : Float) (feasible : Bool) (stop : Float) → answer x ≡ forecast_with n margin feasible stop
       → (cx cy radius : Float) → x.config.shape ≡ Disc cx cy radius → T (fits binary64 radius) → (k : ℕ) → k < N x → DiscForecast x g cx cy radius k
   pub shorter_begins_longer : ShorterBegins
   pub feasible_exactly_where : FeasibleExactly
-  pub feasible_is_inside : (x : Call) (g : Gains) → SecondOrder x g → (n : ℕ) (margin stop : Float) → answer x ≡ Accepted n margin true stop → StaysInside x g
+  pub feasible_is_inside : (x : Call) (g : Gains) → SecondOrder x g → (n : ℕ) (margin stop : Float) → answer x ≡ forecast_with n margin true stop → StaysInside x g
   pub brakes_inside : (c : FuseConfig) (t : Tables) → is_position c.kind ≡ true → (p v last l : List Float) → BrakesInside c t p v last l
   pub holds_inside : (c : FuseConfig) (t : Tables) → is_position c.kind ≡ true → (p last l : List Float) → HoldsInside c t p last l
   -- the gripper: both modes, what the last command is judged for in the one that has it, and the Rust's without one
@@ -349,6 +345,6 @@ pub record Promised : Type 0 where
   pub hold_as_the_rust : (c : FuseConfig) (t : Tables) → c.gripper ≡ ToZero → (p last l : List Float)
       → AsWithoutMode (hold_answer binary64 c t p last (length l)) (noMode.hold_answer binary64 c t p (length l)) (hold_output binary64 c t p last l) (noMode.hold_output binary64 c t p l)
   -- with a box hold computes nothing, and is never refused with 13
-  pub box_holds : (c : FuseConfig) (t : Tables) → c.shape ≡ Box → (p last : List Float) (room : ℕ) (r : Refusal) → hold_answer binary64 c t p last room ≡ Sent.Refused r → r.number ≡ 13 → ⊥
-  pub brake_walls : (c : FuseConfig) (t : Tables) (p v last l : List Float) (m : WallMasks) → brake_answer binary64 c t p v last (length l) ≡ Done m → SentWalls c p m (brake_output binary64 c t p v last l)
-  pub hold_walls : (c : FuseConfig) (t : Tables) (p last l : List Float) (m : WallMasks) → hold_answer binary64 c t p last (length l) ≡ Done m → SentWalls c p m (hold_output binary64 c t p last l)
+  pub box_holds : (c : FuseConfig) (t : Tables) → c.shape ≡ Box → (p last : List Float) (room : ℕ) (r : Refusal) → hold_answer binary64 c t p last room ≡ Err r → r.number ≡ 13 → ⊥
+  pub brake_walls : (c : FuseConfig) (t : Tables) (p v last l : List Float) (m : WallMasks) → brake_answer binary64 c t p v last (length l) ≡ Ok m → SentWalls c p m (brake_output binary64 c t p v last l)
+  pub hold_walls : (c : FuseConfig) (t : Tables) (p last l : List Float) (m : WallMasks) → hold_answer binary64 c t p last (length l) ≡ Ok m → SentWalls c p m (hold_output binary64 c t p last l)

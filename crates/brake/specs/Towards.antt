@@ -1,5 +1,6 @@
 -- A run under one setpoint at a configuration (R7.18): what it judges, what it answers, and what it leaves of the entries, the position and the velocity that are lent.
-use Rattle.std.specs.Prelude.{ℕ, Bool, not, ◌||◌, List, [], ◌∷◌, ◌++◌, ltb, eqb, length, Float}
+use Rattle.refusal.specs.declared.Refusal.{Refusal}
+use Rattle.std.specs.Prelude.{ℕ, Bool, not, ◌||◌, List, [], ◌∷◌, ◌++◌, ltb, eqb, length, Float, Ok, Err, Result}
 use Rattle.std.specs.Float.{Format}
 use Rattle.refusal.specs.Order.{Judged, short, not_finite, computed, ◌when◌, refusal}
 use Rattle.fmath.specs.Answer.{some_lent_not_finite}
@@ -13,7 +14,6 @@ use Rattle.course.specs.Forecast.{Forecast, place_of, margin_of}
 use Rattle.rollout.specs.Plant.{Gains}
 use Rattle.rollout.specs.Leg.{Leg, leg_in, reached, leg}
 use Rattle.brake.specs.declared.Ran.{Ran}
-use Rattle.brake.specs.declared.Ran.TheVariants as ran
 use Rattle.brake.specs.Rule.{live, walls_at, start_at}
 use Rattle.brake.specs.Answer.{too_short, placed_or, decided_at, slacks_at, row_at}
 
@@ -33,12 +33,16 @@ leg_at f c a = leg_in f (gains_in c.brake.kind) (walls_at f c) (live c) a
 unfoldable pub run_short : ℕ → ℕ → ℕ → ℕ → ℕ → ℕ → ℕ → Bool
 run_short dim pos-dim a p v n room = ltb a dim || too_short pos-dim p v n room
 
--- what a run comes to: its count and its margin, or 13 with its place
-unfoldable pub ran_to : Forecast → Ran
-ran_to t = placed_or ran.Refused (ran.Accepted t.count (margin_of t)) t
+-- a run that is accepted, with its entries and the least of them
+abbrev pub ran_with : ℕ → Float → Result Ran Refusal
+ran_with n margin = Ok (record { count = n; margin = margin })
 
-abbrev pub ran_at : ℕ → Forecast → Ran
-ran_at k t = decided_at ran.Refused (ran_to t) k
+-- what a run comes to: its count and its margin, or 13 with its place
+unfoldable pub ran_to : Forecast → Result Ran Refusal
+ran_to t = placed_or Err (ran_with t.count (margin_of t)) t
+
+abbrev pub ran_at : ℕ → Forecast → Result Ran Refusal
+ran_at k t = decided_at Err (ran_to t) k
 
 -- n substeps towards a, from the position p and the velocity v
 module _ (f : Format) (c : FuseConfig) (a p v : List Float) (n : ℕ) where
@@ -57,7 +61,7 @@ module _ (f : Format) (c : FuseConfig) (t : Tables) (a p v : List Float) (n : �
   unfoldable pub run_refusal : ℕ → ℕ
   run_refusal room = refusal (config_judged f c t ++ (run_lent f c a p v n room ++ (computed when not (eqb (place_of (running f c a p v n)) 0) ∷ [])))
 
-  unfoldable pub run_answer : ℕ → Ran
+  unfoldable pub run_answer : ℕ → Result Ran Refusal
   run_answer room = ran_at (run_refusal room) (running f c a p v n)
 
   -- the entries before the failing place are written, and none under another refusal

@@ -32,30 +32,20 @@ use rollout::Law;
 use stopping::Arm;
 use workspace::{Shape, WallMasks, Workspace};
 
-// A forecast: its slack entries, the least of them, whether none is negative, and how far the arm comes; or why there is none.
+// A forecast: its slack entries, the least of them, whether none is negative, and how far the arm comes.
 #[derive(Clone, Copy)]
-pub enum BrakeOut {
-    Accepted {
-        count: usize,
-        margin: f64,
-        feasible: bool,
-        stop_dist: f64,
-    },
-    Refused(Refusal),
+pub struct BrakeOut {
+    pub count: usize,
+    pub margin: f64,
+    pub feasible: bool,
+    pub stop_dist: f64,
 }
 
-// A run under one setpoint: its slack entries and the least of them; or why there is none.
+// A run under one setpoint: its slack entries and the least of them.
 #[derive(Clone, Copy)]
-pub enum Ran {
-    Accepted { count: usize, margin: f64 },
-    Refused(Refusal),
-}
-
-// What became of a lent row: it is written, with the walls that moved it, or why it is not.
-#[derive(Clone, Copy)]
-pub enum Sent {
-    Done(WallMasks),
-    Refused(Refusal),
+pub struct Ran {
+    pub count: usize,
+    pub margin: f64,
 }
 
 // The shape, and the walls that are derived (R4).
@@ -115,22 +105,22 @@ fn start_of(c: FuseConfig, pos: &[f64], vel: &[f64]) -> Plant
 }
 
 // What a run and the stop distance at its end come to: the first number that isn't finite has the place after the entries.
-fn settled(run: Run, stop: Reckoned) -> BrakeOut
+fn settled(run: Run, stop: Reckoned) -> Result<BrakeOut, Refusal>
     requires { run.done ≤ 4096 }
     ensures { (t : Forecast) → Settles t run stop → result ≡ outcome t }
 {
     if !run.sound | !stop.sound {
-        return BrakeOut::Refused(Refusal {
+        return Err(Refusal {
             number: Refusal::COMPUTED,
             place: run.done + 1,
         });
     }
-    BrakeOut::Accepted {
+    Ok(BrakeOut {
         count: run.done,
         margin: run.margin,
         feasible: 0.0 <= run.margin,
         stop_dist: stop.value,
-    }
+    })
 }
 
 // The second-order brake.
@@ -141,7 +131,7 @@ fn second_order(
     start: Plant,
     rows: &[f64],
     slack: &mut [f64],
-) -> BrakeOut
+) -> Result<BrakeOut, Refusal>
     requires { (rolled.roomy c (length rows.now) (length slack.old) ≡ true) × (substeps_in (left_of c) c.brake c.per ≤ 4096) }
     ensures { (result ≡ outcome (rolling.forecast binary64 (rolled.task_of g w c start rows.now))) × (slack.new ≡ written_of (rolling.forecast binary64 (rolled.task_of g w c start rows.now)) slack.old) }
 {
@@ -160,7 +150,7 @@ fn closed(
     start: Plant,
     rows: &[f64],
     slack: &mut [f64],
-) -> BrakeOut
+) -> Result<BrakeOut, Refusal>
     requires { (stopped.roomy c (length rows.now) (length slack.old) ≡ true) × (suc (left_of c).0 ≤ 4096) }
     ensures { (result ≡ outcome (stopping-rule.forecast binary64 (stopped.task_of arm react_ticks w c start rows.now))) × (slack.new ≡ written_of (stopping-rule.forecast binary64 (stopped.task_of arm react_ticks w c start rows.now)) slack.old) }
 {
@@ -180,7 +170,7 @@ fn forecast(
     header: Header,
     from: usize,
     slack: &mut [f64],
-) -> BrakeOut
+) -> Result<BrakeOut, Refusal>
     requires { Planned c (length rows.now) header from (length slack.old) × (w ≡ workspace_for binary64 c) }
     ensures { (result ≡ outcome (forecast_of binary64 c pos.now vel.now rows.now header from)) × (slack.new ≡ written_of (forecast_of binary64 c pos.now vel.now rows.now header from) slack.old) }
 {
@@ -272,14 +262,14 @@ pub fn brake_feasible(
     header: Header,
     from: usize,
     slack: &mut [f64],
-) -> BrakeOut
+) -> Result<BrakeOut, Refusal>
     ensures { (result ≡ forecast_answer binary64 c (tables center.now scale.now) pos.now vel.now rows.now header from (length slack.old)) × (slack.new ≡ forecast_slacks binary64 c (tables center.now scale.now) pos.now vel.now rows.now header from slack.old) }
 {
     let compiled = envelope::compile(c, center, scale);
     let room = slack.len();
     let number = forecast_refusal(c, compiled.number, pos, vel, rows, header, from, room);
     if number != 0 {
-        return BrakeOut::Refused(Refusal::of(number));
+        return Err(Refusal::of(number));
     }
     let shape = c.shape;
     let w = workspace_of(shape, compiled.derived);
@@ -366,31 +356,31 @@ pub fn run_towards(
     vel: &mut [f64],
     n: usize,
     slack: &mut [f64],
-) -> Ran
+) -> Result<Ran, Refusal>
     ensures { (result ≡ run_answer binary64 c (tables center.now scale.now) setpoint.now pos.old vel.old n (length slack.old)) × (slack.new ≡ run_slacks binary64 c (tables center.now scale.now) setpoint.now pos.old vel.old n slack.old) × (pos.new ≡ run_position binary64 c (tables center.now scale.now) setpoint.now pos.old vel.old n (length slack.old)) × (vel.new ≡ run_velocity binary64 c (tables center.now scale.now) setpoint.now pos.old vel.old n (length slack.old)) }
 {
     let compiled = envelope::compile(c, center, scale);
     let room = slack.len();
     let number = run_refusal(c, compiled.number, setpoint, pos, vel, n, room);
     if number != 0 {
-        return Ran::Refused(Refusal::of(number));
+        return Err(Refusal::of(number));
     }
     let shape = c.shape;
     let w = workspace_of(shape, compiled.derived);
     let run = run_of(c, w, setpoint, pos, vel, n, slack);
     let written = run.done;
     if !run.sound {
-        return Ran::Refused(Refusal {
+        return Err(Refusal {
             number: Refusal::COMPUTED,
             place: written + 1,
         });
     }
     let live = fmath::fewer(c.dim, c.pos_dim);
     put_plant(run.plant, live, pos, vel);
-    Ran::Accepted {
+    Ok(Ran {
         count: written,
         margin: run.margin,
-    }
+    })
 }
 
 // ---- brake and hold
@@ -587,7 +577,7 @@ pub fn brake_action(
     vel: &[f64],
     last: &[f64],
     out: &mut [f64],
-) -> Sent
+) -> Result<WallMasks, Refusal>
     ensures { (result ≡ brake_answer binary64 c (tables center.now scale.now) pos.now vel.now last.now (length out.old)) × (out.new ≡ brake_output binary64 c (tables center.now scale.now) pos.now vel.now last.now out.old) }
 {
     let compiled = envelope::compile(c, center, scale);
@@ -596,7 +586,7 @@ pub fn brake_action(
     let unfit = measured | last_unfit(gripper, last);
     let number = row_refusal(c, compiled.number, unfit, out.len(), last.len());
     if number != 0 {
-        return Sent::Refused(Refusal::of(number));
+        return Err(Refusal::of(number));
     }
     let shape = c.shape;
     let w = workspace_of(shape, compiled.derived);
@@ -604,11 +594,11 @@ pub fn brake_action(
     let made = brake_row(kind, c.limits.a_max, c.limits.dt, w, pos, vel, c.dim);
     let row = sent_row(gripper, kind, c.pos_dim, last, made, c.dim);
     if !row.sound {
-        return Sent::Refused(Refusal::of(Refusal::COMPUTED));
+        return Err(Refusal::of(Refusal::COMPUTED));
     }
     let at = row.at;
     fmath::put(&at, c.dim, out);
-    Sent::Done(sent_masks(c, w, pos))
+    Ok(sent_masks(c, w, pos))
 }
 
 // The row that holds a latched position, likewise.
@@ -619,7 +609,7 @@ pub fn hold_action(
     pos: &[f64],
     last: &[f64],
     out: &mut [f64],
-) -> Sent
+) -> Result<WallMasks, Refusal>
     ensures { (result ≡ hold_answer binary64 c (tables center.now scale.now) pos.now last.now (length out.old)) × (out.new ≡ hold_output binary64 c (tables center.now scale.now) pos.now last.now out.old) }
 {
     let compiled = envelope::compile(c, center, scale);
@@ -627,7 +617,7 @@ pub fn hold_action(
     let unfit = !fmath::all_finite(pos, pos.len()) | last_unfit(gripper, last);
     let number = row_refusal(c, compiled.number, unfit, out.len(), last.len());
     if number != 0 {
-        return Sent::Refused(Refusal::of(number));
+        return Err(Refusal::of(number));
     }
     let shape = c.shape;
     let w = workspace_of(shape, compiled.derived);
@@ -635,9 +625,9 @@ pub fn hold_action(
     let made = hold_row(kind, w, pos, c.dim);
     let held = sent_row(gripper, kind, c.pos_dim, last, made, c.dim);
     if !held.sound {
-        return Sent::Refused(Refusal::of(Refusal::COMPUTED));
+        return Err(Refusal::of(Refusal::COMPUTED));
     }
     let row = held.at;
     fmath::put(&row, c.dim, out);
-    Sent::Done(sent_masks(c, w, pos))
+    Ok(sent_masks(c, w, pos))
 }

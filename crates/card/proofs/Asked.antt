@@ -1,4 +1,6 @@
 -- What the forecast is asked for a card is what the rule asks.
+use Rattle.std.specs.Prelude.{Result}
+use Rattle.refusal.specs.declared.Refusal.{Refusal}
 use mathlib.Core.Path.{◌≡◌}
 use mathlib.Core.List.{List, [], ◌∷◌}
 use lib.ListN.{length, replicate}
@@ -11,7 +13,7 @@ use Rattle.brake.specs.declared.BrakeOut.{BrakeOut}
 use Rattle.card.specs.declared.record.Card.{Card}
 use Rattle.card.specs.Desk.{num, config_of, four_rows, outcome_of, slacks_of}
 
-pub ran : (c : Card) (old : List Float) {g : FuseConfig} {t : List Float} {p v r0 r1 r2 r3 : Float} {o : BrakeOut} {new : List Float}
+pub ran : (c : Card) (old : List Float) {g : FuseConfig} {t : List Float} {p v r0 r1 r2 r3 : Float} {o : Result BrakeOut Refusal} {new : List Float}
     → g ≡ config_of c
     → t ≡ replicate 192 1!
     → p ≡ num c.p

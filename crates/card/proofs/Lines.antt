@@ -1,4 +1,5 @@
 -- Lines put one after the other are the text of a block, and how long they are at most.
+use Rattle.refusal.specs.declared.Refusal.{Refusal}
 use mathlib.Core.Path.{◌≡◌, refl}
 use mathlib.Core.Bool.{Bool, true, false}
 use mathlib.Core.List.{List, [], append-nil}
@@ -8,7 +9,7 @@ use native.Mathlib.Omega.{arith}
 use borrow.Author.Tests.{eq-eqb, ne_eqb}
 use lib.Dec.{eqb}
 use lib.ListN.{length, take, drop, length-append}
-use Rattle.std.specs.Prelude.{if◌then◌else◌}
+use Rattle.std.specs.Prelude.{if◌then◌else◌, Result}
 use Rattle.brake.specs.declared.BrakeOut.{BrakeOut}
 use Rattle.card.specs.declared.record.Card.{Card}
 use Rattle.card.specs.declared.desk.Answer.{Answer}
@@ -21,7 +22,7 @@ use Rattle.card.proofs.Lengths.{line_most}
 use Rattle.card.proofs.Part.{part_card}
 
 -- the line of the record that is the part of k bytes from `from` on
-pub line_is : (n : ℕ) (l : List ℕ) (from k : ℕ) {c : Card} {o : BrakeOut} {a : Answer} {room : ℕ}
+pub line_is : (n : ℕ) (l : List ℕ) (from k : ℕ) {c : Card} {o : Result BrakeOut Refusal} {a : Answer} {room : ℕ}
     → k ≡ 96
     → c ≡ card_at (take k (drop from l)) 0
     → room ≡ 4096

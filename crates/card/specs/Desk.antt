@@ -1,5 +1,6 @@
 -- What the contracts of `card::desk` cite: the configuration of a card (R9.2), its forecast by the brake's rule, and what the desk is answered.
-use Rattle.std.specs.Prelude.{ℕ, ◌-◌, false, List, [], ◌∷◌, eqb, replicate, Float, if◌then◌else◌}
+use Rattle.refusal.specs.declared.Refusal.{Refusal}
+use Rattle.std.specs.Prelude.{ℕ, ◌-◌, false, List, [], ◌∷◌, eqb, replicate, Float, if◌then◌else◌, Err, Result}
 use Rattle.std.specs.Float.{binary64}
 use Rattle.std.specs.Float.Ieee.{of_bits, to_bits}
 use Rattle.refusal.specs.Order.{computed, number_of}
@@ -21,9 +22,8 @@ use Rattle.envelope.specs.declared.Box.{Box}
 use Rattle.envelope.specs.declared.BrakeModel.{BrakeModel}
 use Rattle.envelope.specs.declared.FuseConfig.{FuseConfig}
 use Rattle.workspace.specs.declared.Shape.TheVariants as shapes
-use Rattle.brake.specs.Answer.{forecast_answer, forecast_slacks}
+use Rattle.brake.specs.Answer.{forecast_answer, forecast_slacks, forecast_with}
 use Rattle.brake.specs.declared.BrakeOut.{BrakeOut}
-use Rattle.brake.specs.declared.BrakeOut.TheVariants.{Accepted, Refused}
 use Rattle.card.specs.declared.record.Card.{Card}
 use Rattle.card.specs.declared.desk.Answer.{Answer}
 
@@ -92,7 +92,7 @@ rows_of c = num c.row0 ∷ num c.row1 ∷ num c.row2 ∷ num c.row3 ∷ []
 abbrev pub four_rows : Header
 four_rows = record { seq = 0; t_emit = 0; horizon = 4; dim = 1; exec_steps = 1 }
 
-unfoldable pub outcome_of : Card → ℕ → BrakeOut
+unfoldable pub outcome_of : Card → ℕ → Result BrakeOut Refusal
 outcome_of c room = forecast_answer binary64 (config_of c) tables_of (num c.p ∷ []) (num c.v ∷ []) (rows_of c) four_rows c.from room
 
 unfoldable pub slacks_of : Card → List Float → List Float
@@ -105,6 +105,6 @@ unfoldable pub count_of : ℕ → ℕ → ℕ
 count_of number place = if eqb number (number_of computed) then place - 1 else 0
 
 -- the numbers of a line, with the bits of the margin and of the stop distance
-unfoldable pub answer_for : BrakeOut → Answer
-answer_for (Accepted n margin feasible stop) = record { number = 0; count = n; margin = to_bits binary64 margin; stop = to_bits binary64 stop }
-answer_for (Refused r) = record { number = r.number; count = count_of r.number r.place; margin = 0; stop = 0 }
+unfoldable pub answer_for : Result BrakeOut Refusal → Answer
+answer_for (Ok o) = record { number = 0; count = o.count; margin = to_bits binary64 o.margin; stop = to_bits binary64 o.stop_dist }
+answer_for (Err r) = record { number = r.number; count = count_of r.number r.place; margin = 0; stop = 0 }

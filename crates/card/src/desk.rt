@@ -142,7 +142,7 @@ fn table() -> [f64; 192]
 }
 
 // The forecast of a card: four rows of one number, one of them to be executed.
-pub fn run(c: Card, slack: &mut [f64]) -> BrakeOut
+pub fn run(c: Card, slack: &mut [f64]) -> Result<BrakeOut, Refusal>
     ensures { (result ≡ outcome_of c (length slack.old)) × (slack.new ≡ slacks_of c slack.old) }
 {
     let config = configure(c);
@@ -185,22 +185,17 @@ fn written(number: u8, place: usize) -> u64
 }
 
 // What the desk is answered.
-pub fn answer_of(o: BrakeOut) -> Answer
+pub fn answer_of(o: Result<BrakeOut, Refusal>) -> Answer
     ensures { result ≡ answer_for o }
 {
     match o {
-        BrakeOut::Accepted {
-            count,
-            margin,
-            feasible: _,
-            stop_dist,
-        } => Answer {
+        Ok(forecast) => Answer {
             number: 0,
-            count: count as u64,
-            margin: pattern(margin),
-            stop: pattern(stop_dist),
+            count: forecast.count as u64,
+            margin: pattern(forecast.margin),
+            stop: pattern(forecast.stop_dist),
         },
-        BrakeOut::Refused(r) => Answer {
+        Err(r) => Answer {
             number: r.number as u64,
             count: written(r.number, r.place),
             margin: 0,

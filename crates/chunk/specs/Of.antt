@@ -1,5 +1,6 @@
 -- The rules at the declared structs.
-use Rattle.std.specs.Prelude.{ℕ, ◌+◌, ◌*◌, ◌≡◌, Bool, true, false, List, eqb, Float, length, replicate, if◌then◌else◌}
+use Rattle.refusal.specs.declared.Refusal.{Refusal}
+use Rattle.std.specs.Prelude.{ℕ, ◌+◌, ◌*◌, ◌≡◌, Bool, true, false, List, eqb, Float, length, replicate, if◌then◌else◌, Err, Ok, Result}
 use Rattle.std.proofs.Math.Seq.{paste}
 use Rattle.std.specs.Borrow.{Bor, MutBor}
 use Rattle.checked.specs.Finite.{+0}
@@ -8,8 +9,6 @@ use Rattle.chunk.specs.declared.ChunkBuf.{ChunkBuf}
 use Rattle.chunk.specs.declared.ChunkView.{ChunkView}
 use Rattle.chunk.specs.declared.Filled.{Filled}
 use Rattle.chunk.specs.declared.Header.{Header}
-use Rattle.chunk.specs.declared.Holding.{Holding}
-use Rattle.chunk.specs.declared.Holding.TheVariants.{Held, Refused}
 use Rattle.chunk.specs.declared.Part.{Part}
 use Rattle.chunk.specs.Rule.{row_start, row_within, row_of, held_rows}
 use Rattle.chunk.specs.Refusals.{lent_reasons, held_reasons}
@@ -43,8 +42,8 @@ unfoldable pub clear_of : ChunkBuf → Filled
 clear_of b = if eqb (held_refusal_of b) 0 then record { number = 0; buf = cleared_of b } else record { number = held_refusal_of b; buf = b }
 
 -- whether a chunk is held, where it is not refused
-unfoldable pub holding_of : ChunkBuf → Holding
-holding_of b = if eqb (held_refusal_of b) 0 then Held b.filled else Refused (refused_for (held_refusal_of b))
+unfoldable pub holding_of : ChunkBuf → Result Bool Refusal
+holding_of b = if eqb (held_refusal_of b) 0 then Ok b.filled else Err (refused_for (held_refusal_of b))
 
 -- where row i lies among n numbers: from its start, d long, or an empty part
 unfoldable pub part_of : ℕ → ℕ → ℕ → ℕ → Part

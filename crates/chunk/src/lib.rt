@@ -34,13 +34,6 @@ pub struct Filled {
     pub buf: ChunkBuf,
 }
 
-// Whether a chunk is held, or why that is not answered.
-#[derive(Clone, Copy)]
-pub enum Holding {
-    Held(bool),
-    Refused(Refusal),
-}
-
 // A chunk whose rows stay the caller's.
 #[derive(Clone, Copy)]
 pub struct ChunkView<'a> {
@@ -158,14 +151,14 @@ impl ChunkBuf {
     }
 
     // Whether a chunk is held; one that is refused is not answered about.
-    pub fn is_filled(self) -> Holding
+    pub fn is_filled(self) -> Result<bool, Refusal>
         ensures { result ≡ holding_of self }
     {
         let number = self.held_refusal();
         if number != 0 {
-            return Holding::Refused(Refusal::of(number));
+            return Err(Refusal::of(number));
         }
-        Holding::Held(self.filled)
+        Ok(self.filled)
     }
 
     // The number for the held chunk: 0 where none is held, else as for a lent one.

@@ -1,4 +1,5 @@
 -- Nothing of Stall passes: an accepted calibration has passed the test of 17 and, by that of 1, counts no more terms than that test looks at.
+use Rattle.refusal.specs.declared.Refusal.{Refusal}
 use Prim.Native.Nat.{ℕ, zero, suc, ◌≤◌, ◌<◌}
 use mathlib.Core.Path.{◌≡◌, refl, ap, ◌∙◌}
 use mathlib.Core.Bool.{Bool, true, false, ◌||◌, false≢true}
@@ -10,7 +11,7 @@ use lib.ListN.{get_or}
 use lib.Ieee.{Float, Format}
 use Rattle.refusal.specs.Order.{size, withdrawn, among, refused_for}
 use Rattle.refusal.specs.Exactly.{exactly_none}
-use Rattle.std.specs.Prelude.{if◌then◌else◌}
+use Rattle.std.specs.Prelude.{if◌then◌else◌, Err, Ok, Result}
 use Rattle.bits.specs.Bits.{bit}
 use Rattle.bits.proofs.Bits.{bit_where}
 use Rattle.checked.specs.Each.{at}
@@ -23,8 +24,6 @@ use Rattle.conformal.specs.Answer.{scores_judged, judged, live_of, standards_of,
 use Rattle.conformal.specs.Promises.{NamesNoStall, WithoutStall, with_terms, AgreeCounted, PastTheCount}
 use Rattle.conformal.specs.declared.Calibration.{Calibration}
 use Rattle.conformal.specs.declared.Scores.{Scores}
-use Rattle.conformal.specs.declared.Verdict.{Verdict}
-use Rattle.conformal.specs.declared.Verdict.TheVariants.{Refused, Trips}
 
 -- ---- what is accepted names it nowhere
 
@@ -44,14 +43,14 @@ module _ (cal : Calibration) (sizes : sizes_ok cal ≡ true) (features : feature
   names_no_stall = record { not_in_mask = not-true _ (every_at _ 0 features); not_in_a_term = in_no_term }
 
 -- a verdict that says whether the scores trip is no refusal
-abbrev told : Verdict → Bool
-told (Refused r) = false
-told (Trips b) = true
+abbrev told : Result Bool Refusal → Bool
+told (Err r) = false
+told (Ok b) = true
 
-answered : (n : ℕ) (b c : Bool) → verdict n b ≡ Trips c → n ≡ 0
+answered : (n : ℕ) (b c : Bool) → verdict n b ≡ Ok c → n ≡ 0
 answered n b c e = go (eqb n 0) refl e
   where
-    go : (none : Bool) → eqb n 0 ≡ none → (if none then Trips b else Refused (refused_for n)) ≡ Trips c → n ≡ 0
+    go : (none : Bool) → eqb n 0 ≡ none → (if none then Ok b else Err (refused_for n)) ≡ Ok c → n ≡ 0
     go true z h = eqb-true n 0 z
     go false z h = absurd (false≢true (ap told h))
 

@@ -1,5 +1,6 @@
 -- The answers of the gate's entries (R8): the number of the first refusal that applies, or what the rule gives.
-use Rattle.std.specs.Prelude.{ℕ, Bool, true, not, [], ◌∷◌, List, eqb, Float, if◌then◌else◌}
+use Rattle.refusal.specs.declared.Refusal.{Refusal}
+use Rattle.std.specs.Prelude.{ℕ, Bool, true, not, [], ◌∷◌, List, eqb, Float, if◌then◌else◌, Err, Ok, Result}
 use Rattle.std.specs.Float.{Format}
 use Rattle.refusal.specs.Order.{Judged, size, number, steps, withdrawn, not_finite, computed, ◌when◌, refusal, refused_for}
 use Rattle.checked.specs.Checked.{Checked}
@@ -8,10 +9,6 @@ use Rattle.conformal.specs.Refusals.{sizes_ok, numbers_ok, features_ok, scores_o
 use Rattle.conformal.specs.declared.Calibration.{Calibration}
 use Rattle.conformal.specs.declared.Scores.{Scores}
 use Rattle.conformal.specs.declared.Scored.{Scored}
-use Rattle.conformal.specs.declared.Verdict.{Verdict}
-use Rattle.conformal.specs.declared.Verdict.TheVariants.{Refused, Trips}
-use Rattle.conformal.specs.declared.TimeBin.{TimeBin}
-use Rattle.conformal.specs.declared.TimeBin.TheVariants.{NoBin, Bin}
 
 -- what is judged of a calibration and scores, by whether each number that was computed is finite
 abbrev pub scores_judged : Calibration → Tables → Scores → Bool → List Judged
@@ -48,18 +45,18 @@ aggregated cal t sc =
     scored (judged cal t sc true) sc
     (record { f = sc.f; z = sc.z; s = aggregate cal.gate (live_of cal sc) sc.z; valid = sc.valid; fired = fired_bits (live_of cal sc) cal.tau sc.z })
 
-abbrev pub verdict : ℕ → Bool → Verdict
-verdict n b = if eqb n 0 then Trips b else Refused (refused_for n)
+abbrev pub verdict : ℕ → Bool → Result Bool Refusal
+verdict n b = if eqb n 0 then Ok b else Err (refused_for n)
 
-unfoldable pub tripped : Calibration → Tables → Scores → Verdict
+unfoldable pub tripped : Calibration → Tables → Scores → Result Bool Refusal
 tripped cal t sc = verdict (judged cal t sc true) (trips cal.tau sc.s)
 
-abbrev pub binned : ℕ → ℕ → TimeBin
-binned n bin = if eqb n 0 then Bin bin else NoBin (refused_for n)
+abbrev pub binned : ℕ → ℕ → Result ℕ Refusal
+binned n bin = if eqb n 0 then Ok bin else Err (refused_for n)
 
 -- a bin on a horizon, which has to have ticks
-abbrev pub on_horizon : ℕ → ℕ → TimeBin
+abbrev pub on_horizon : ℕ → ℕ → Result ℕ Refusal
 on_horizon horizon bin = binned (refusal ((steps when eqb horizon 0) ∷ [])) bin
 
-unfoldable pub time_bin_of : ℕ → ℕ → TimeBin
+unfoldable pub time_bin_of : ℕ → ℕ → Result ℕ Refusal
 time_bin_of t horizon = on_horizon horizon (bin_at t horizon)

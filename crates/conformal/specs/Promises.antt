@@ -1,7 +1,7 @@
 -- What the gate promises beyond its rules: what s is, that an empty term is never live, what fired says, that
 -- nothing of Stall passes, and which ticks a time bin has. The proof is
 -- `proofs/Promises.promised`.
-use Rattle.std.specs.Prelude.{ℕ, ◌+◌, ◌*◌, ◌/◌, ◌<◌, ◌≤◌, min, ◌≡◌, Bool, true, false, not, ◌&&◌, ◌⊎◌, List, T, get_or, Float}
+use Rattle.std.specs.Prelude.{ℕ, ◌+◌, ◌*◌, ◌/◌, ◌<◌, ◌≤◌, min, ◌≡◌, Bool, true, false, not, ◌&&◌, ◌⊎◌, List, T, get_or, Float, Ok}
 use Rattle.std.specs.Float.{Format, inf}
 use Rattle.std.specs.Float.Ieee.{lt, is_nan}
 use Rattle.checked.specs.Each.{at, Among}
@@ -13,8 +13,6 @@ use Rattle.conformal.specs.Answer.{standardised, aggregated, tripped, on_horizon
 use Rattle.conformal.specs.declared.GateSpec.{GateSpec}
 use Rattle.conformal.specs.declared.Calibration.{Calibration}
 use Rattle.conformal.specs.declared.Scores.{Scores}
-use Rattle.conformal.specs.declared.Verdict.TheVariants.{Trips}
-use Rattle.conformal.specs.declared.TimeBin.TheVariants.{Bin}
 
 -- p holds of none below n
 abbrev pub NoneOf : (ℕ → Bool) → ℕ → Type 0
@@ -44,7 +42,7 @@ pub record WithoutStall (cal : Calibration) (t : Tables) (sc : Scores) : Type 0 
   -- a calibration that is accepted names it nowhere
   pub to_standardise : (f : Format) (bin : ℕ) → (standardised f cal t bin sc).refusal.number ≡ 0 → NamesNoStall cal
   pub to_aggregate : (aggregated cal t sc).refusal.number ≡ 0 → NamesNoStall cal
-  pub to_trip : (b : Bool) → tripped cal t sc ≡ Trips b → NamesNoStall cal
+  pub to_trip : (b : Bool) → tripped cal t sc ≡ Ok b → NamesNoStall cal
   -- so its z is 0.0 and it does not fire, also where the scores that came in hold it
   pub z_of_stall : (f : Format) (bin : ℕ) → (standardised f cal t bin sc).refusal.number ≡ 0 → at (standardised f cal t bin sc).scores.z STALL ≡ +0
   pub stall_not_fired : (aggregated cal t sc).refusal.number ≡ 0 → bit (aggregated cal t sc).scores.fired STALL ≡ false
@@ -71,16 +69,16 @@ from_zero t horizon = min (t * 16 / horizon) 15
 
 pub record TimeBins (horizon : ℕ) : Type 0 where
   -- every tick has a bin, unless the horizon has no ticks
-  pub answered : (t : ℕ) → 0 < horizon → time_bin_of t horizon ≡ Bin (bin_at t horizon)
+  pub answered : (t : ℕ) → 0 < horizon → time_bin_of t horizon ≡ Ok (bin_at t horizon)
   -- tick t + 1 is answered as tick t is where ticks are numbered from 0, and tick 0 as tick 1
   pub one_later : (t : ℕ) → time_bin_of (t + 1) horizon ≡ on_horizon horizon (from_zero t horizon)
   pub tick_0 : time_bin_of 0 horizon ≡ time_bin_of 1 horizon
   -- a later tick is in no earlier bin, and no bin is above 15
-  pub never_decreases : (t u b c : ℕ) → t ≤ u → time_bin_of t horizon ≡ Bin b → time_bin_of u horizon ≡ Bin c → b ≤ c
-  pub at_most_15 : (t b : ℕ) → time_bin_of t horizon ≡ Bin b → b ≤ 15
+  pub never_decreases : (t u b c : ℕ) → t ≤ u → time_bin_of t horizon ≡ Ok b → time_bin_of u horizon ≡ Ok c → b ≤ c
+  pub at_most_15 : (t b : ℕ) → time_bin_of t horizon ≡ Ok b → b ≤ 15
   -- rounded down: with t ticks over, b sixteenths of the horizon are over, and b + 1 are not unless b is the last bin
-  pub begun : (t b : ℕ) → time_bin_of (t + 1) horizon ≡ Bin b → b * horizon ≤ t * 16
-  pub not_ended : (t b : ℕ) → time_bin_of (t + 1) horizon ≡ Bin b → b < 15 → t * 16 < (b + 1) * horizon
+  pub begun : (t b : ℕ) → time_bin_of (t + 1) horizon ≡ Ok b → b * horizon ≤ t * 16
+  pub not_ended : (t b : ℕ) → time_bin_of (t + 1) horizon ≡ Ok b → b < 15 → t * 16 < (b + 1) * horizon
 
 pub record Promised : Type 0 where
   -- no feature of a term has a z below the term's least, which in a live term is the z of one of them

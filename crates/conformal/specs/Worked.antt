@@ -1,5 +1,6 @@
 -- Worked calibrations and time bins, by computation.
-use Rattle.std.specs.Prelude.{ℕ, ◌≡◌, refl, true, false, List, [], ◌∷◌, map, replicate, Float}
+use Rattle.refusal.specs.declared.Refusal.{Refusal}
+use Rattle.std.specs.Prelude.{ℕ, ◌≡◌, refl, true, false, List, [], ◌∷◌, map, replicate, Float, Err, Ok, Result}
 use Rattle.std.specs.Float.{nan}
 use Rattle.std.specs.Float.Ieee.{is_nan}
 use Rattle.refusal.specs.Order.{refused_for}
@@ -12,8 +13,6 @@ use Rattle.conformal.specs.Refusals.{sizes_ok, numbers_ok, features_ok, scores_o
 use Rattle.conformal.specs.Answer.{judged, time_bin_of}
 use Rattle.conformal.specs.declared.Calibration.{Calibration}
 use Rattle.conformal.specs.declared.Scores.{Scores}
-use Rattle.conformal.specs.declared.TimeBin.{TimeBin}
-use Rattle.conformal.specs.declared.TimeBin.TheVariants.{NoBin, Bin}
 
 -- a calibration by its mask, its count of terms, its first two terms and tau
 abbrev by : ℕ → ℕ → ℕ → ℕ → Float → Calibration
@@ -52,20 +51,20 @@ module _ (t : Tables) (centers : all_finite t.center 192 ≡ true) (scales : all
   of_order = rw (nan_fails, centers, scales)
 
 -- the answers for several ticks
-abbrev answers : List ℕ → ℕ → List TimeBin
+abbrev answers : List ℕ → ℕ → List (Result ℕ Refusal)
 answers ticks horizon = map (λ (t : ℕ). time_bin_of t horizon) ticks
 
 -- 200 ticks: 0 to 13 are in the first bin, 14 begins the second, and the last bin has the ticks after the horizon too
-pub of_200 : answers (0 ∷ 1 ∷ 12 ∷ 13 ∷ 14 ∷ 188 ∷ 189 ∷ 200 ∷ 201 ∷ []) 200 ≡ (Bin 0 ∷ Bin 0 ∷ Bin 0 ∷ Bin 0 ∷ Bin 1 ∷ Bin 14 ∷ Bin 15 ∷ Bin 15 ∷ Bin 15 ∷ [])
+pub of_200 : answers (0 ∷ 1 ∷ 12 ∷ 13 ∷ 14 ∷ 188 ∷ 189 ∷ 200 ∷ 201 ∷ []) 200 ≡ (Ok 0 ∷ Ok 0 ∷ Ok 0 ∷ Ok 0 ∷ Ok 1 ∷ Ok 14 ∷ Ok 15 ∷ Ok 15 ∷ Ok 15 ∷ [])
 unfolding time_bin_of bin_at
 of_200 = refl
 
 -- the largest tick, on the longest horizon and on the shortest
-pub of_the_largest : (time_bin_of 4294967295 4294967295 ∷ time_bin_of 4294967295 1 ∷ []) ≡ (Bin 15 ∷ Bin 15 ∷ [])
+pub of_the_largest : (time_bin_of 4294967295 4294967295 ∷ time_bin_of 4294967295 1 ∷ []) ≡ (Ok 15 ∷ Ok 15 ∷ [])
 unfolding time_bin_of bin_at
 of_the_largest = refl
 
 -- no ticks
-pub of_none : answers (0 ∷ 1 ∷ 200 ∷ []) 0 ≡ (NoBin (refused_for 3) ∷ NoBin (refused_for 3) ∷ NoBin (refused_for 3) ∷ [])
+pub of_none : answers (0 ∷ 1 ∷ 200 ∷ []) 0 ≡ (Err (refused_for 3) ∷ Err (refused_for 3) ∷ Err (refused_for 3) ∷ [])
 unfolding time_bin_of
 of_none = refl

@@ -87,20 +87,6 @@ pub struct Scored {
     pub scores: Scores,
 }
 
-// Whether the scores trip, or why that is not said.
-#[derive(Clone, Copy)]
-pub enum Verdict {
-    Refused(Refusal),
-    Trips(bool),
-}
-
-// A time bin from 0 to 15, or why there is none.
-#[derive(Clone, Copy)]
-pub enum TimeBin {
-    NoBin(Refusal),
-    Bin(usize),
-}
-
 // What is judged of the terms that count: that none has a bit above 11, and that none names Stall.
 #[derive(Clone, Copy)]
 struct Counted {
@@ -416,14 +402,19 @@ pub fn aggregate(
 // ---- trip and the time bin
 
 // Whether s is above tau, strictly.
-pub fn trip(cal: Calibration, center: &[f64; 192], scale: &[f64; 192], scores: Scores) -> Verdict
+pub fn trip(
+    cal: Calibration,
+    center: &[f64; 192],
+    scale: &[f64; 192],
+    scores: Scores,
+) -> Result<bool, Refusal>
     ensures { result ≡ tripped cal (tables center.now scale.now) scores }
 {
     let number = judge(cal, center, scale, scores, true);
     if number == 0 {
-        Verdict::Trips(scores.s > cal.tau)
+        Ok(scores.s > cal.tau)
     } else {
-        Verdict::Refused(Refusal::of(number))
+        Err(Refusal::of(number))
     }
 }
 
@@ -436,13 +427,13 @@ fn ticks_before(t: u32) -> u32
 
 // The time bin of tick t, of 16 over the horizon. Ticks are numbered from 1; tick 0, which has no chunk, is in the first bin too.
 // Refused for a horizon of 0 ticks.
-pub fn time_bin(t: u32, horizon_ticks: u32) -> TimeBin
+pub fn time_bin(t: u32, horizon_ticks: u32) -> Result<usize, Refusal>
     ensures { result ≡ time_bin_of t horizon_ticks }
 {
     if horizon_ticks == 0 {
-        return TimeBin::NoBin(Refusal::of(Refusal::STEPS));
+        return Err(Refusal::of(Refusal::STEPS));
     }
     let before = ticks_before(t);
     let bin = (before as u64) * 16 / (horizon_ticks as u64);
-    TimeBin::Bin(last_bin(bin as usize))
+    Ok(last_bin(bin as usize))
 }

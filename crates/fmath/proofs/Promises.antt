@@ -1,5 +1,6 @@
 -- What `sqrt` and `clamp` promise. Of the root: 13 exactly below zero, at an infinity and at a NaN, and else a root. By cases on the number: the root of one above zero is
 -- written with its digits and an exponent, so it is finite, and neither of the two zeros is below zero.
+use Rattle.refusal.specs.declared.Refusal.{Refusal}
 use Prim.Native.Nat.{ℕ, zero, suc, ◌+◌, ◌*◌, ◌<◌}
 use mathlib.Core.Path.{◌≡◌, refl, sym, ap, ◌∙◌}
 use mathlib.Core.Bool.{Bool, true, false, not}
@@ -11,10 +12,8 @@ use lib.IntN.{ℤ, pos, negsuc}
 use lib.Ieee.{Float, Format, nan, inf, fin, prec, odd, lt, up, down}
 use lib.Ieee.Fits.{up_pos}
 use Rattle.refusal.specs.Order.{computed, ◌when◌, refusal, refused_for}
-use Rattle.std.specs.Prelude.{if◌then◌else◌}
+use Rattle.std.specs.Prelude.{if◌then◌else◌, Err, Ok, Result}
 use Rattle.root.specs.Root.{number, root_of}
-use Rattle.fmath.specs.declared.Number.{Number}
-use Rattle.fmath.specs.declared.Number.TheVariants.{Value, Refused}
 use Rattle.checked.specs.Finite.{finite, +0}
 use Rattle.fmath.specs.Answer.{no_root, number_or, sqrt_answer}
 use Rattle.fmath.specs.Promises.{Promised}
@@ -52,18 +51,18 @@ fine_exactly f (fin true (suc m) e) = sym (ap not (below_is_below m e))
 fine_exactly f (fin false (suc m) e) = number_fine (prec f) _ _ ∙ sym (ap not (above_not_below (suc m) e))
 
 -- the answer, by whether there is a root
-answers : (none g : Bool) (x : Float) → g ≡ not none → number_or (refusal (computed when not g ∷ [])) x ≡ (if none then Refused (refused_for 13) else Value x)
+answers : (none g : Bool) (x : Float) → g ≡ not none → number_or (refusal (computed when not g ∷ [])) x ≡ (if none then Err (refused_for 13) else Ok x)
 answers true g x e = rw e
 answers false g x e = rw e
 
-sqrt_answer_lem : (f : Format) (x : Float) → sqrt_answer f x ≡ (if no_root x then Refused (refused_for 13) else Value (root_of f x))
+sqrt_answer_lem : (f : Format) (x : Float) → sqrt_answer f x ≡ (if no_root x then Err (refused_for 13) else Ok (root_of f x))
 sqrt_answer_lem f x = answers (no_root x) (finite (root_of f x)) (root_of f x) (fine_exactly f x)
 
-unfoldable refused : Number → Bool
-refused (Value x) = false
-refused (Refused r) = true
+unfoldable refused : Result Float Refusal → Bool
+refused (Ok x) = false
+refused (Err r) = true
 
-only_then : (none : Bool) (x : Float) (a : Number) → a ≡ (if none then Refused (refused_for 13) else Value x) → a ≡ Refused (refused_for 13) → none ≡ true
+only_then : (none : Bool) (x : Float) (a : Result Float Refusal) → a ≡ (if none then Err (refused_for 13) else Ok x) → a ≡ Err (refused_for 13) → none ≡ true
 unfolding refused
 only_then true x a e h = refl
 only_then false x a e h = ap refused (sym e ∙ h)

@@ -1,18 +1,17 @@
 -- What `sqrt`, `norm` and `dist` answer: a number, or why there is none.
-use Rattle.std.specs.Prelude.{ℕ, zero, suc, Bool, true, false, not, ◌||◌, List, [], ◌∷◌, ltb, length, Float}
+use Rattle.refusal.specs.declared.Refusal.{Refusal}
+use Rattle.std.specs.Prelude.{ℕ, zero, suc, Bool, true, false, not, ◌||◌, List, [], ◌∷◌, ltb, length, Float, Err, Ok, Result}
 use Rattle.std.specs.Float.{Format, nan, inf, fin}
 use Rattle.std.specs.Float.Ieee.{lt}
 use Rattle.refusal.specs.Order.{short, not_finite, computed, ◌when◌, refusal, refused_for}
-use Rattle.fmath.specs.declared.Number.{Number}
-use Rattle.fmath.specs.declared.Number.TheVariants.{Value, Refused}
 use Rattle.checked.specs.Finite.{+0, all_finite}
 use Rattle.checked.specs.Checked.{root}
 use Rattle.fmath.specs.Norm.{norm, dist}
 
 -- a number where the refusal is 0
-abbrev pub number_or : ℕ → Float → Number
-number_or zero x = Value x
-number_or (suc k) x = Refused (refused_for (suc k))
+abbrev pub number_or : ℕ → Float → Result Float Refusal
+number_or zero x = Ok x
+number_or (suc k) x = Err (refused_for (suc k))
 
 -- some of the numbers of a lent slice is not finite, read or not
 abbrev pub some_not_finite : List Float → Bool
@@ -34,16 +33,16 @@ no_root nan = true
 no_root (inf s) = true
 no_root (fin s m e) = lt (fin s m e) +0
 
-abbrev pub sqrt_answer : Format → Float → Number
+abbrev pub sqrt_answer : Format → Float → Result Float Refusal
 sqrt_answer f x = number_or (refusal (computed when not (root f x).sound ∷ [])) (root f x).value
 
-abbrev pub norm_answer : Format → List Float → ℕ → Number
+abbrev pub norm_answer : Format → List Float → ℕ → Result Float Refusal
 norm_answer f v n =
     number_or
     (refusal (short when ltb (length v) n ∷ not_finite when some_not_finite v ∷ computed when not (norm f v n).sound ∷ []))
     (norm f v n).value
 
-abbrev pub dist_answer : Format → List Float → List Float → ℕ → Number
+abbrev pub dist_answer : Format → List Float → List Float → ℕ → Result Float Refusal
 dist_answer f a b n =
     number_or
     (refusal

@@ -1,10 +1,9 @@
 -- What `sqrt` promises, over the format, and what `clamp` promises of the side. The proof is `proofs/Promises.promised`.
-use Rattle.std.specs.Prelude.{◌≡◌, Bool, true, false, ℤ, pos, negsuc, Float, if◌then◌else◌}
+use Rattle.std.specs.Prelude.{◌≡◌, Bool, true, false, ℤ, pos, negsuc, Float, if◌then◌else◌, Err, Ok}
 use Rattle.std.specs.Float.{Format, nan, fin}
 use Rattle.std.specs.Float.Ieee.{lt, le}
 use Rattle.refusal.specs.Order.{refused_for}
 use Rattle.root.specs.Root.{root_of}
-use Rattle.fmath.specs.declared.Number.TheVariants.{Value, Refused}
 use Rattle.fmath.specs.Answer.{no_root, sqrt_answer}
 use Rattle.fmath.specs.Clamp.{clamped, side}
 
@@ -34,10 +33,10 @@ pub record ZeroUntouched (s t : Bool) (d e : ℤ) (wall : Float) : Type 0 where
 
 pub record Promised : Type 0 where
   -- the root where there is one, else 13
-  pub sqrt_answer_lem : (f : Format) (x : Float) → sqrt_answer f x ≡ (if no_root x then Refused (refused_for 13) else Value (root_of f x))
+  pub sqrt_answer_lem : (f : Format) (x : Float) → sqrt_answer f x ≡ (if no_root x then Err (refused_for 13) else Ok (root_of f x))
   -- 13 exactly below zero, at an infinity and at a NaN
-  pub sqrt_refused_where : (f : Format) (x : Float) → no_root x ≡ true → sqrt_answer f x ≡ Refused (refused_for 13)
-  pub sqrt_refused_only : (f : Format) (x : Float) → sqrt_answer f x ≡ Refused (refused_for 13) → no_root x ≡ true
+  pub sqrt_refused_where : (f : Format) (x : Float) → no_root x ≡ true → sqrt_answer f x ≡ Err (refused_for 13)
+  pub sqrt_refused_only : (f : Format) (x : Float) → sqrt_answer f x ≡ Err (refused_for 13) → no_root x ≡ true
   -- of which wall moved a number: for lo at most hi, and of the value whatever the walls are
   pub side_exactly : (x lo hi : Float) → le lo hi ≡ true → SideExactly x lo hi
   pub value_by_side : (x lo hi : Float) → ValueBySide x lo hi

@@ -13,13 +13,6 @@ ghost use Rattle.fmath.specs.Clamp.{sided};
 
 use refusal::Refusal;
 
-// A number, or why there is none.
-#[derive(Clone, Copy)]
-pub enum Number {
-    Value(f64),
-    Refused(Refusal),
-}
-
 // A number between two walls, and which of them moved it: -1 where lo raised it, 1 where hi lowered it, 0 where neither did.
 #[derive(Clone, Copy)]
 pub struct Sided {
@@ -155,14 +148,14 @@ pub fn clamp(x: f64, lo: f64, hi: f64) -> Sided
 }
 
 // The root, to nearest; 13 below zero, at an infinity and at a NaN.
-pub fn sqrt(x: f64) -> Number
+pub fn sqrt(x: f64) -> Result<f64, Refusal>
     ensures { result ≡ sqrt_answer binary64 x }
 {
     let root = root::sqrt(x);
     if finite(root) {
-        return Number::Value(root);
+        return Ok(root);
     }
-    Number::Refused(Refusal::of(Refusal::COMPUTED))
+    Err(Refusal::of(Refusal::COMPUTED))
 }
 
 // The length of the first n coordinates. It is finite exactly where each number on the way to it is, and a NaN where there are fewer.
@@ -202,36 +195,36 @@ pub fn distance(a: &[f64], b: &[f64], n: usize) -> f64
 }
 
 // The length of the first n coordinates; 11 where there are fewer, 12 where any number of the slice is not finite, 13 where a computed one is not.
-pub fn norm(v: &[f64], n: usize) -> Number
+pub fn norm(v: &[f64], n: usize) -> Result<f64, Refusal>
     ensures { result ≡ norm_answer binary64 v.now n }
 {
     if v.len() < n {
-        return Number::Refused(Refusal::of(Refusal::SHORT));
+        return Err(Refusal::of(Refusal::SHORT));
     }
     if !all_finite(v, v.len()) {
-        return Number::Refused(Refusal::of(Refusal::NOT_FINITE));
+        return Err(Refusal::of(Refusal::NOT_FINITE));
     }
     let length = magnitude(v, n);
     if finite(length) {
-        return Number::Value(length);
+        return Ok(length);
     }
-    Number::Refused(Refusal::of(Refusal::COMPUTED))
+    Err(Refusal::of(Refusal::COMPUTED))
 }
 
 // The distance over the first n coordinates, with the refusals of `norm` for both slices.
-pub fn dist(a: &[f64], b: &[f64], n: usize) -> Number
+pub fn dist(a: &[f64], b: &[f64], n: usize) -> Result<f64, Refusal>
     ensures { result ≡ dist_answer binary64 a.now b.now n }
 {
     if (a.len() < n) | (b.len() < n) {
-        return Number::Refused(Refusal::of(Refusal::SHORT));
+        return Err(Refusal::of(Refusal::SHORT));
     }
     let fine = all_finite(a, a.len()) & all_finite(b, b.len());
     if !fine {
-        return Number::Refused(Refusal::of(Refusal::NOT_FINITE));
+        return Err(Refusal::of(Refusal::NOT_FINITE));
     }
     let far = distance(a, b, n);
     if finite(far) {
-        return Number::Value(far);
+        return Ok(far);
     }
-    Number::Refused(Refusal::of(Refusal::COMPUTED))
+    Err(Refusal::of(Refusal::COMPUTED))
 }

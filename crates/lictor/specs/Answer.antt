@@ -1,33 +1,21 @@
 -- What C is given of an answer: the number of the table (R0), 0 for an accepted call, and each place as it stands at exit. A refusal leaves the places as they were.
-use Rattle.std.specs.Prelude.{ℕ, ◌≡◌, Bool, List, [], ◌∷◌, eqb, Float, if◌then◌else◌}
-use Rattle.fmath.specs.declared.Number.{Number}
-use Rattle.fmath.specs.declared.Number.TheVariants as N
+use Rattle.workspace.specs.declared.WallMasks.{WallMasks}
+use Rattle.tier0.specs.Refusals.{passed_with}
+use Rattle.refusal.specs.declared.Refusal.{Refusal}
+use Rattle.brake.specs.Towards.{ran_with}
+use Rattle.brake.specs.Answer.{forecast_with}
+use Rattle.std.specs.Prelude.{ℕ, ◌≡◌, Bool, List, [], ◌∷◌, eqb, Float, if◌then◌else◌, Err, Ok, Result}
 use Rattle.chunk.specs.declared.Filled.{Filled}
-use Rattle.window.specs.declared.Masked.{Masked}
-use Rattle.window.specs.declared.Masked.TheVariants as M
 use Rattle.window.specs.declared.Recorded.{Recorded}
-use Rattle.window.specs.declared.Count.{Count}
-use Rattle.window.specs.declared.Count.TheVariants as C
-use Rattle.window.specs.declared.Emptiness.{Emptiness}
-use Rattle.window.specs.declared.Emptiness.TheVariants as E
 use Rattle.window.specs.Rule.{flag}
 use Rattle.conformal.specs.declared.Scored.{Scored}
-use Rattle.conformal.specs.declared.Verdict.{Verdict}
-use Rattle.conformal.specs.declared.Verdict.TheVariants as Y
-use Rattle.conformal.specs.declared.TimeBin.{TimeBin}
-use Rattle.conformal.specs.declared.TimeBin.TheVariants as B
 use Rattle.envelope.specs.declared.Derived.{Derived}
 use Rattle.tier0.specs.declared.Tier0Out.{Tier0Out}
-use Rattle.tier0.specs.declared.Tier0Out.TheVariants as T
 use Rattle.tier1.specs.declared.Tier1Rt.{Tier1Rt}
 use Rattle.tier1.specs.declared.Featured.{Featured}
 use Rattle.tier1.specs.declared.Cleared.{Cleared}
 use Rattle.brake.specs.declared.BrakeOut.{BrakeOut}
-use Rattle.brake.specs.declared.BrakeOut.TheVariants as F
 use Rattle.brake.specs.declared.Ran.{Ran}
-use Rattle.brake.specs.declared.Ran.TheVariants as R
-use Rattle.brake.specs.declared.Sent.{Sent}
-use Rattle.brake.specs.declared.Sent.TheVariants as S
 use Rattle.layout.specs.Chunk.{header_flat, unheld}
 use Rattle.layout.specs.Trail.{trail_marks}
 use Rattle.layout.specs.State.{held_marks}
@@ -44,16 +32,16 @@ written n new old = if eqb n 0 then new else old
 
 -- ---- fmath (R1): a number
 
-unfoldable pub number_of : Number → ℕ
-number_of (N.Value x) = 0
-number_of (N.Refused r) = r.number
+unfoldable pub number_of : Result Float Refusal → ℕ
+number_of (Ok x) = 0
+number_of (Err r) = r.number
 
-unfoldable pub value_of : Number → Float → Float
-value_of (N.Value x) old = x
-value_of (N.Refused r) old = old
+unfoldable pub value_of : Result Float Refusal → Float → Float
+value_of (Ok x) old = x
+value_of (Err r) old = old
 
 -- r is returned, and the place that held `old` holds `new`
-pub record NumberGiven (a : Number) (r : ℕ) (old new : Float) : Type 0 where
+pub record NumberGiven (a : Result Float Refusal) (r : ℕ) (old new : Float) : Type 0 where
   pub number : r ≡ number_of a
   pub value : new ≡ value_of a old
 
@@ -66,15 +54,15 @@ pub record FilledGiven (a : Filled) (r : ℕ) (d₀ d : List Float) (h₀ h : Li
 
 -- ---- window (R3): a mask
 
-unfoldable pub mask_number : Masked → ℕ
-mask_number (M.Mask m) = 0
-mask_number (M.Refused r) = r.number
+unfoldable pub mask_number : Result ℕ Refusal → ℕ
+mask_number (Ok m) = 0
+mask_number (Err r) = r.number
 
-unfoldable pub mask_value : Masked → ℕ → ℕ
-mask_value (M.Mask m) old = m
-mask_value (M.Refused r) old = old
+unfoldable pub mask_value : Result ℕ Refusal → ℕ → ℕ
+mask_value (Ok m) old = m
+mask_value (Err r) old = old
 
-pub record MaskGiven (a : Masked) (r old new : ℕ) : Type 0 where
+pub record MaskGiven (a : Result ℕ Refusal) (r old new : ℕ) : Type 0 where
   pub number : r ≡ mask_number a
   pub value : new ≡ mask_value a old
 
@@ -86,28 +74,28 @@ pub record RecordedGiven (a : Recorded) (r : ℕ) (l₀ l : List Float) (m₀ m 
   pub marks : m ≡ written a.number (trail_marks a.trail) m₀
 
 -- a count of a trail's samples
-unfoldable pub count_number : Count → ℕ
-count_number (C.Samples n) = 0
-count_number (C.Refused r) = r.number
+unfoldable pub count_number : Result ℕ Refusal → ℕ
+count_number (Ok n) = 0
+count_number (Err r) = r.number
 
-unfoldable pub count_value : Count → ℕ → ℕ
-count_value (C.Samples n) old = n
-count_value (C.Refused r) old = old
+unfoldable pub count_value : Result ℕ Refusal → ℕ → ℕ
+count_value (Ok n) old = n
+count_value (Err r) old = old
 
-pub record CountGiven (a : Count) (r old new : ℕ) : Type 0 where
+pub record CountGiven (a : Result ℕ Refusal) (r old new : ℕ) : Type 0 where
   pub number : r ≡ count_number a
   pub len : new ≡ count_value a old
 
 -- 1 where a trail is empty, else 0
-unfoldable pub emptiness_number : Emptiness → ℕ
-emptiness_number (E.Empty b) = 0
-emptiness_number (E.Refused r) = r.number
+unfoldable pub emptiness_number : Result Bool Refusal → ℕ
+emptiness_number (Ok b) = 0
+emptiness_number (Err r) = r.number
 
-unfoldable pub emptiness_value : Emptiness → ℕ → ℕ
-emptiness_value (E.Empty b) old = flag b
-emptiness_value (E.Refused r) old = old
+unfoldable pub emptiness_value : Result Bool Refusal → ℕ → ℕ
+emptiness_value (Ok b) old = flag b
+emptiness_value (Err r) old = old
 
-pub record EmptinessGiven (a : Emptiness) (r old new : ℕ) : Type 0 where
+pub record EmptinessGiven (a : Result Bool Refusal) (r old new : ℕ) : Type 0 where
   pub number : r ≡ emptiness_number a
   pub empty : new ≡ emptiness_value a old
 
@@ -119,26 +107,26 @@ pub record DerivedGiven (n : ℕ) (d : Derived) (r : ℕ) (old new : List Float)
 
 -- ---- tier0 (R5): trips, clamped_dims and the masks of the low and the high walls in 4 counts, a speed, and the output
 
-unfoldable pub check_number : Tier0Out → ℕ
-check_number (T.Passed trips dims speed walls) = 0
-check_number (T.Refused r) = r.number
+unfoldable pub check_number : Result Tier0Out Refusal → ℕ
+check_number (Ok o) = 0
+check_number (Err r) = r.number
 
-unfoldable pub check_marks : Tier0Out → List ℕ → List ℕ
-check_marks (T.Passed trips dims speed walls) old = trips ∷ dims ∷ walls.low ∷ walls.high ∷ []
-check_marks (T.Refused r) old = old
+unfoldable pub check_marks : Result Tier0Out Refusal → List ℕ → List ℕ
+check_marks (Ok o) old = o.trips ∷ o.clamped_dims ∷ o.walls.low ∷ o.walls.high ∷ []
+check_marks (Err r) old = old
 
-unfoldable pub check_speed : Tier0Out → Float → Float
-check_speed (T.Passed trips dims speed walls) old = speed
-check_speed (T.Refused r) old = old
+unfoldable pub check_speed : Result Tier0Out Refusal → Float → Float
+check_speed (Ok o) old = o.peak_speed
+check_speed (Err r) old = old
 
 -- r is returned, and the places of the marks and of the speed hold m and x
-pub record CheckPut (a : Tier0Out) (r : ℕ) (m₀ m : List ℕ) (x₀ x : Float) : Type 0 where
+pub record CheckPut (a : Result Tier0Out Refusal) (r : ℕ) (m₀ m : List ℕ) (x₀ x : Float) : Type 0 where
   pub number : r ≡ check_number a
   pub marks : m ≡ check_marks a m₀
   pub speed : x ≡ check_speed a x₀
 
 -- a check of a configuration whose counts may not fit; the entry leaves l in the output
-pub record CheckGiven (fits : Bool) (a : Tier0Out) (l : List Float) (r : ℕ) (m₀ m : List ℕ) (x₀ x : Float) (o₀ o : List Float) : Type 0 where
+pub record CheckGiven (fits : Bool) (a : Result Tier0Out Refusal) (l : List Float) (r : ℕ) (m₀ m : List ℕ) (x₀ x : Float) (o₀ o : List Float) : Type 0 where
   pub number : r ≡ fitting fits (check_number a)
   pub marks : m ≡ (if fits then check_marks a m₀ else m₀)
   pub speed : x ≡ (if fits then check_speed a x₀ else x₀)
@@ -176,30 +164,30 @@ pub record ClearedGiven (fits : Bool) (a : Cleared) (r : ℕ) (d₀ d : List Flo
 
 -- ---- brake (R7): count and feasible in 2 counts, margin and stop distance in 2 numbers, the place of a refusal, and the slacks
 
-unfoldable pub forecast_number : BrakeOut → ℕ
-forecast_number (F.Accepted count margin feasible stop) = 0
-forecast_number (F.Refused r) = r.number
+unfoldable pub forecast_number : Result BrakeOut Refusal → ℕ
+forecast_number (Ok o) = 0
+forecast_number (Err r) = r.number
 
-unfoldable pub forecast_marks : BrakeOut → List ℕ → List ℕ
-forecast_marks (F.Accepted count margin feasible stop) old = count ∷ flag feasible ∷ []
-forecast_marks (F.Refused r) old = old
+unfoldable pub forecast_marks : Result BrakeOut Refusal → List ℕ → List ℕ
+forecast_marks (Ok o) old = o.count ∷ flag o.feasible ∷ []
+forecast_marks (Err r) old = old
 
-unfoldable pub forecast_distances : BrakeOut → List Float → List Float
-forecast_distances (F.Accepted count margin feasible stop) old = margin ∷ stop ∷ []
-forecast_distances (F.Refused r) old = old
+unfoldable pub forecast_distances : Result BrakeOut Refusal → List Float → List Float
+forecast_distances (Ok o) old = o.margin ∷ o.stop_dist ∷ []
+forecast_distances (Err r) old = old
 
-unfoldable pub forecast_place : BrakeOut → ℕ → ℕ
-forecast_place (F.Accepted count margin feasible stop) old = old
-forecast_place (F.Refused r) old = r.place
+unfoldable pub forecast_place : Result BrakeOut Refusal → ℕ → ℕ
+forecast_place (Ok o) old = old
+forecast_place (Err r) old = r.place
 
-pub record ForecastPut (a : BrakeOut) (r : ℕ) (m₀ m : List ℕ) (x₀ x : List Float) (p₀ p : ℕ) : Type 0 where
+pub record ForecastPut (a : Result BrakeOut Refusal) (r : ℕ) (m₀ m : List ℕ) (x₀ x : List Float) (p₀ p : ℕ) : Type 0 where
   pub number : r ≡ forecast_number a
   pub marks : m ≡ forecast_marks a m₀
   pub distances : x ≡ forecast_distances a x₀
   pub place : p ≡ forecast_place a p₀
 
 -- a forecast of a configuration whose counts may not fit; the entry leaves l in the slacks
-pub record ForecastGiven (fits : Bool) (a : BrakeOut) (l : List Float) (r : ℕ) (m₀ m : List ℕ) (x₀ x : List Float) (p₀ p : ℕ) (s₀ s : List Float) : Type 0 where
+pub record ForecastGiven (fits : Bool) (a : Result BrakeOut Refusal) (l : List Float) (r : ℕ) (m₀ m : List ℕ) (x₀ x : List Float) (p₀ p : ℕ) (s₀ s : List Float) : Type 0 where
   pub number : r ≡ fitting fits (forecast_number a)
   pub marks : m ≡ (if fits then forecast_marks a m₀ else m₀)
   pub distances : x ≡ (if fits then forecast_distances a x₀ else x₀)
@@ -207,30 +195,30 @@ pub record ForecastGiven (fits : Bool) (a : BrakeOut) (l : List Float) (r : ℕ)
   pub slacks : s ≡ (if fits then l else s₀)
 
 -- a run under one setpoint: a count and a margin, and the place of a refusal
-unfoldable pub ran_number : Ran → ℕ
-ran_number (R.Accepted count margin) = 0
-ran_number (R.Refused r) = r.number
+unfoldable pub ran_number : Result Ran Refusal → ℕ
+ran_number (Ok o) = 0
+ran_number (Err r) = r.number
 
-unfoldable pub ran_count : Ran → ℕ → ℕ
-ran_count (R.Accepted count margin) old = count
-ran_count (R.Refused r) old = old
+unfoldable pub ran_count : Result Ran Refusal → ℕ → ℕ
+ran_count (Ok o) old = o.count
+ran_count (Err r) old = old
 
-unfoldable pub ran_margin : Ran → Float → Float
-ran_margin (R.Accepted count margin) old = margin
-ran_margin (R.Refused r) old = old
+unfoldable pub ran_margin : Result Ran Refusal → Float → Float
+ran_margin (Ok o) old = o.margin
+ran_margin (Err r) old = old
 
-unfoldable pub ran_place : Ran → ℕ → ℕ
-ran_place (R.Accepted count margin) old = old
-ran_place (R.Refused r) old = r.place
+unfoldable pub ran_place : Result Ran Refusal → ℕ → ℕ
+ran_place (Ok o) old = old
+ran_place (Err r) old = r.place
 
-pub record RanPut (a : Ran) (r n₀ n : ℕ) (x₀ x : Float) (p₀ p : ℕ) : Type 0 where
+pub record RanPut (a : Result Ran Refusal) (r n₀ n : ℕ) (x₀ x : Float) (p₀ p : ℕ) : Type 0 where
   pub number : r ≡ ran_number a
   pub count : n ≡ ran_count a n₀
   pub margin : x ≡ ran_margin a x₀
   pub place : p ≡ ran_place a p₀
 
 -- of a configuration whose counts may not fit; the entry leaves l in the slacks, q in the position and w in the velocity
-pub record RanGiven (fits : Bool) (a : Ran) (l q w : List Float) (r n₀ n : ℕ) (x₀ x : Float) (p₀ p : ℕ) (s₀ s q₀ q₁ w₀ w₁ : List Float) : Type 0 where
+pub record RanGiven (fits : Bool) (a : Result Ran Refusal) (l q w : List Float) (r n₀ n : ℕ) (x₀ x : Float) (p₀ p : ℕ) (s₀ s q₀ q₁ w₀ w₁ : List Float) : Type 0 where
   pub number : r ≡ fitting fits (ran_number a)
   pub count : n ≡ (if fits then ran_count a n₀ else n₀)
   pub margin : x ≡ (if fits then ran_margin a x₀ else x₀)
@@ -240,20 +228,20 @@ pub record RanGiven (fits : Bool) (a : Ran) (l q w : List Float) (r n₀ n : ℕ
   pub velocity : w₁ ≡ (if fits then w else w₀)
 
 -- a row that brakes or holds, and the masks of the walls in 2 counts
-unfoldable pub sent_number : Sent → ℕ
-sent_number (S.Done walls) = 0
-sent_number (S.Refused r) = r.number
+unfoldable pub sent_number : Result WallMasks Refusal → ℕ
+sent_number (Ok walls) = 0
+sent_number (Err r) = r.number
 
-unfoldable pub sent_marks : Sent → List ℕ → List ℕ
-sent_marks (S.Done walls) old = walls.low ∷ walls.high ∷ []
-sent_marks (S.Refused r) old = old
+unfoldable pub sent_marks : Result WallMasks Refusal → List ℕ → List ℕ
+sent_marks (Ok walls) old = walls.low ∷ walls.high ∷ []
+sent_marks (Err r) old = old
 
-pub record SentPut (a : Sent) (r : ℕ) (m₀ m : List ℕ) : Type 0 where
+pub record SentPut (a : Result WallMasks Refusal) (r : ℕ) (m₀ m : List ℕ) : Type 0 where
   pub number : r ≡ sent_number a
   pub marks : m ≡ sent_marks a m₀
 
 -- of a configuration whose counts may not fit; the entry leaves l in the output
-pub record SentGiven (fits : Bool) (a : Sent) (l : List Float) (r : ℕ) (m₀ m : List ℕ) (o₀ o : List Float) : Type 0 where
+pub record SentGiven (fits : Bool) (a : Result WallMasks Refusal) (l : List Float) (r : ℕ) (m₀ m : List ℕ) (o₀ o : List Float) : Type 0 where
   pub number : r ≡ fitting fits (sent_number a)
   pub marks : m ≡ (if fits then sent_marks a m₀ else m₀)
   pub output : o ≡ (if fits then l else o₀)
@@ -265,26 +253,26 @@ pub record ScoredGiven (fits : Bool) (a : Scored) (r : ℕ) (s₀ s : List Float
   pub scores : s ≡ written (fitting fits a.refusal.number) (scores_flat a.scores) s₀
   pub marks : m ≡ written (fitting fits a.refusal.number) (marks_flat a.scores) m₀
 
-unfoldable pub verdict_number : Verdict → ℕ
-verdict_number (Y.Refused r) = r.number
-verdict_number (Y.Trips b) = 0
+unfoldable pub verdict_number : Result Bool Refusal → ℕ
+verdict_number (Err r) = r.number
+verdict_number (Ok b) = 0
 
-unfoldable pub verdict_value : Verdict → ℕ → ℕ
-verdict_value (Y.Refused r) old = old
-verdict_value (Y.Trips b) old = flag b
+unfoldable pub verdict_value : Result Bool Refusal → ℕ → ℕ
+verdict_value (Err r) old = old
+verdict_value (Ok b) old = flag b
 
-pub record VerdictGiven (fits : Bool) (a : Verdict) (r old new : ℕ) : Type 0 where
+pub record VerdictGiven (fits : Bool) (a : Result Bool Refusal) (r old new : ℕ) : Type 0 where
   pub number : r ≡ fitting fits (verdict_number a)
   pub trips : new ≡ (if fits then verdict_value a old else old)
 
-unfoldable pub bin_number : TimeBin → ℕ
-bin_number (B.NoBin r) = r.number
-bin_number (B.Bin b) = 0
+unfoldable pub bin_number : Result ℕ Refusal → ℕ
+bin_number (Err r) = r.number
+bin_number (Ok b) = 0
 
-unfoldable pub bin_value : TimeBin → ℕ → ℕ
-bin_value (B.NoBin r) old = old
-bin_value (B.Bin b) old = b
+unfoldable pub bin_value : Result ℕ Refusal → ℕ → ℕ
+bin_value (Err r) old = old
+bin_value (Ok b) old = b
 
-pub record BinGiven (a : TimeBin) (r old new : ℕ) : Type 0 where
+pub record BinGiven (a : Result ℕ Refusal) (r old new : ℕ) : Type 0 where
   pub number : r ≡ bin_number a
   pub bin : new ≡ bin_value a old

@@ -5,14 +5,15 @@ ghost use Rattle.layout.specs.Chunk.{header_from};
 ghost use Rattle.lictor.specs.Asked.{rows_over};
 ghost use Rattle.lictor.specs.Answer.{fitting, NumberGiven, MaskGiven, RecordedGiven, CountGiven, EmptinessGiven, DerivedGiven, CheckPut, ClearedGiven, ForecastPut, RanPut, SentPut, ScoredGiven, VerdictGiven, BinGiven};
 
-use brake::{BrakeOut, Ran, Sent};
+use brake::{BrakeOut, Ran};
 use chunk::Header;
-use conformal::{Scored, TimeBin, Verdict};
+use conformal::Scored;
 use envelope::Derived;
-use fmath::Number;
+use refusal::Refusal;
 use tier0::Tier0Out;
 use tier1::Cleared;
-use window::{Count, Emptiness, Masked, Recorded};
+use window::Recorded;
+use workspace::WallMasks;
 
 // The number that is given: 255 where a code or a flag is none of its kind, or a count does not fit its field and the table does not refuse it.
 pub(crate) fn fitting(fits: bool, number: u8) -> u64
@@ -21,15 +22,15 @@ pub(crate) fn fitting(fits: bool, number: u8) -> u64
     if fits { number as u64 } else { 255 }
 }
 
-pub(crate) fn put_number(a: Number, value: &mut f64) -> u64
+pub(crate) fn put_number(a: Result<f64, Refusal>, value: &mut f64) -> u64
     ensures { NumberGiven a result value.old value.new }
 {
     match a {
-        Number::Value(x) => {
+        Ok(x) => {
             *value = x;
             0
         }
-        Number::Refused(r) => r.number as u64,
+        Err(r) => r.number as u64,
     }
 }
 
@@ -58,15 +59,15 @@ pub(crate) fn put_lent(
     }
 }
 
-pub(crate) fn put_mask(a: Masked, mask: &mut u64) -> u64
+pub(crate) fn put_mask(a: Result<u64, Refusal>, mask: &mut u64) -> u64
     ensures { MaskGiven a result mask.old mask.new }
 {
     match a {
-        Masked::Mask(m) => {
+        Ok(m) => {
             *mask = m;
             0
         }
-        Masked::Refused(r) => r.number as u64,
+        Err(r) => r.number as u64,
     }
 }
 
@@ -80,24 +81,24 @@ pub(crate) fn put_recorded(a: Recorded, numbers: &mut [f64; 256], marks: &mut [u
     refused
 }
 
-pub(crate) fn put_count(a: Count, len: &mut u64) -> u64
+pub(crate) fn put_count(a: Result<usize, Refusal>, len: &mut u64) -> u64
     ensures { CountGiven a result len.old len.new }
 {
     match a {
-        Count::Refused(r) => r.number as u64,
-        Count::Samples(n) => {
+        Err(r) => r.number as u64,
+        Ok(n) => {
             *len = n as u64;
             0
         }
     }
 }
 
-pub(crate) fn put_emptiness(a: Emptiness, empty: &mut u64) -> u64
+pub(crate) fn put_emptiness(a: Result<bool, Refusal>, empty: &mut u64) -> u64
     ensures { EmptinessGiven a result empty.old empty.new }
 {
     match a {
-        Emptiness::Refused(r) => r.number as u64,
-        Emptiness::Empty(b) => {
+        Err(r) => r.number as u64,
+        Ok(b) => {
             *empty = b as u64;
             0
         }
@@ -113,26 +114,22 @@ pub(crate) fn put_derived(number: u64, d: Derived, derived: &mut [f64; 29]) -> u
     number
 }
 
-pub(crate) fn put_check(a: Tier0Out, marks: &mut [u64; 4], speed: &mut f64) -> u64
+pub(crate) fn put_check(a: Result<Tier0Out, Refusal>, marks: &mut [u64; 4], speed: &mut f64) -> u64
     ensures { CheckPut a result marks.old marks.new speed.old speed.new }
 {
     match a {
-        Tier0Out::Passed {
-            trips,
-            clamped_dims,
-            peak_speed,
-            walls,
-        } => {
+        Ok(found) => {
+            let walls = found.walls;
             *marks = [
-                trips as u64,
-                clamped_dims as u64,
+                found.trips as u64,
+                found.clamped_dims as u64,
                 walls.low as u64,
                 walls.high as u64,
             ];
-            *speed = peak_speed;
+            *speed = found.peak_speed;
             0
         }
-        Tier0Out::Refused(r) => r.number as u64,
+        Err(r) => r.number as u64,
     }
 }
 
@@ -163,7 +160,7 @@ pub(crate) fn put_cleared(
 }
 
 pub(crate) fn put_forecast(
-    a: BrakeOut,
+    a: Result<BrakeOut, Refusal>,
     marks: &mut [u64; 2],
     distances: &mut [f64; 2],
     place: &mut u64,
@@ -171,36 +168,33 @@ pub(crate) fn put_forecast(
     ensures { ForecastPut a result marks.old marks.new distances.old distances.new place.old place.new }
 {
     match a {
-        BrakeOut::Accepted {
-            count,
-            margin,
-            feasible,
-            stop_dist,
-        } => {
-            *marks = [count as u64, feasible as u64];
-            *distances = [margin, stop_dist];
+        Ok(forecast) => {
+            *marks = [forecast.count as u64, forecast.feasible as u64];
+            *distances = [forecast.margin, forecast.stop_dist];
             0
         }
-        BrakeOut::Refused(r) => {
+        Err(r) => {
             *place = r.place as u64;
             r.number as u64
         }
     }
 }
 
-pub(crate) fn put_ran(a: Ran, count: &mut u64, margin: &mut f64, place: &mut u64) -> u64
+pub(crate) fn put_ran(
+    a: Result<Ran, Refusal>,
+    count: &mut u64,
+    margin: &mut f64,
+    place: &mut u64,
+) -> u64
     ensures { RanPut a result count.old count.new margin.old margin.new place.old place.new }
 {
     match a {
-        Ran::Accepted {
-            count: written,
-            margin: least,
-        } => {
-            *count = written as u64;
-            *margin = least;
+        Ok(ran) => {
+            *count = ran.count as u64;
+            *margin = ran.margin;
             0
         }
-        Ran::Refused(r) => {
+        Err(r) => {
             *place = r.place as u64;
             r.number as u64
         }
@@ -208,15 +202,15 @@ pub(crate) fn put_ran(a: Ran, count: &mut u64, margin: &mut f64, place: &mut u64
 }
 
 // A row is written by its entry; C is given the number, and the walls that moved the row.
-pub(crate) fn put_sent(a: Sent, marks: &mut [u64; 2]) -> u64
+pub(crate) fn put_sent(a: Result<WallMasks, Refusal>, marks: &mut [u64; 2]) -> u64
     ensures { SentPut a result marks.old marks.new }
 {
     match a {
-        Sent::Done(walls) => {
+        Ok(walls) => {
             *marks = [walls.low as u64, walls.high as u64];
             0
         }
-        Sent::Refused(r) => r.number as u64,
+        Err(r) => r.number as u64,
     }
 }
 
@@ -230,27 +224,27 @@ pub(crate) fn put_scored(fits: bool, a: Scored, scores: &mut [f64; 25], marks: &
     number
 }
 
-pub(crate) fn put_verdict(fits: bool, a: Verdict, trips: &mut u64) -> u64
+pub(crate) fn put_verdict(fits: bool, a: Result<bool, Refusal>, trips: &mut u64) -> u64
     ensures { VerdictGiven fits a result trips.old trips.new }
 {
     if !fits {
         return 255;
     }
     match a {
-        Verdict::Refused(r) => r.number as u64,
-        Verdict::Trips(b) => {
+        Err(r) => r.number as u64,
+        Ok(b) => {
             *trips = b as u64;
             0
         }
     }
 }
 
-pub(crate) fn put_bin(a: TimeBin, bin: &mut u64) -> u64
+pub(crate) fn put_bin(a: Result<usize, Refusal>, bin: &mut u64) -> u64
     ensures { BinGiven a result bin.old bin.new }
 {
     match a {
-        TimeBin::NoBin(r) => r.number as u64,
-        TimeBin::Bin(b) => {
+        Err(r) => r.number as u64,
+        Ok(b) => {
             *bin = b as u64;
             0
         }

@@ -1,13 +1,13 @@
 -- The inputs of the numbers on the wall that are proved (R10.7), and the whole answers that the definitions give for them. A float stands as its bits.
-use Rattle.std.specs.Prelude.{ℕ, Bool, false, List, [], ◌∷◌, ◌++◌, map, replicate, Float, if◌then◌else◌}
+use Rattle.tier0.specs.Refusals.{passed_with}
+use Rattle.brake.specs.Answer.{forecast_with}
+use Rattle.std.specs.Prelude.{ℕ, Bool, false, List, [], ◌∷◌, ◌++◌, map, replicate, Float, if◌then◌else◌, Err, Ok, Result}
 use Rattle.std.specs.Float.{binary64}
 use Rattle.std.specs.Float.Ieee.{to_bits}
 use Rattle.refusal.specs.declared.Refusal.{Refusal}
 use Rattle.checked.specs.Constants.{1! as one}
 use Rattle.checked.specs.Finite.{+0}
 use Rattle.fmath.specs.Answer.{sqrt_answer}
-use Rattle.fmath.specs.declared.Number.{Number}
-use Rattle.fmath.specs.declared.Number.TheVariants as number
 use Rattle.chunk.specs.declared.Header.{Header}
 use Rattle.window.specs.Rule.{hits_in, mask_for}
 use Rattle.window.specs.Of.{empty_window, pushed_of}
@@ -15,8 +15,6 @@ use Rattle.window.specs.declared.Window.{Window}
 use Rattle.conformal.specs.Answer.{aggregated, tripped}
 use Rattle.conformal.specs.declared.Calibration.{Calibration}
 use Rattle.conformal.specs.declared.Scores.{Scores}
-use Rattle.conformal.specs.declared.Verdict.{Verdict}
-use Rattle.conformal.specs.declared.Verdict.TheVariants as verdict
 use Rattle.envelope.specs.declared.ActionKind.TheVariants.{EePosition}
 use Rattle.envelope.specs.declared.ClampMode.TheVariants.{Project}
 use Rattle.envelope.specs.declared.AbsentCamera.TheVariants.{Slow}
@@ -27,9 +25,7 @@ use Rattle.workspace.specs.declared.Shape.TheVariants.{Box}
 use Rattle.tier0.specs.Rule.{SPEED}
 use Rattle.tier0.specs.Of.{chunk_answer, chunk_out}
 use Rattle.tier0.specs.declared.Tier0Out.{Tier0Out}
-use Rattle.tier0.specs.declared.Tier0Out.TheVariants as check
 use Rattle.brake.specs.declared.BrakeOut.{BrakeOut}
-use Rattle.brake.specs.declared.BrakeOut.TheVariants as forecast
 use Rattle.card.specs.declared.record.Card.{Card}
 use Rattle.card.specs.Desk.{tables_of, num, norm_of, walls_of, brake_of, calibration_of, outcome_of, slacks_of}
 
@@ -74,9 +70,9 @@ card p hi from brake = record {
 }
 
 -- count, margin, whether it is feasible, stop distance
-abbrev pub forecast_told : BrakeOut → List ℕ
-forecast_told (forecast.Accepted n margin feasible stop) = 0 ∷ n ∷ bits margin ∷ flag feasible ∷ bits stop ∷ []
-forecast_told (forecast.Refused r) = refused r
+abbrev pub forecast_told : Result BrakeOut Refusal → List ℕ
+forecast_told (Ok o) = 0 ∷ o.count ∷ bits o.margin ∷ flag o.feasible ∷ bits o.stop_dist ∷ []
+forecast_told (Err r) = refused r
 
 -- the answer, and then so many lent entries
 abbrev pub forecast_of : Card → ℕ → List ℕ
@@ -84,9 +80,9 @@ forecast_of c room = forecast_told (outcome_of c room) ++ map bits (slacks_of c 
 
 -- ---- fmath (R1)
 
-abbrev pub number_told : Number → List ℕ
-number_told (number.Value x) = 0 ∷ bits x ∷ []
-number_told (number.Refused r) = refused r
+abbrev pub number_told : Result Float Refusal → List ℕ
+number_told (Ok x) = 0 ∷ bits x ∷ []
+number_told (Err r) = refused r
 
 abbrev pub root_of : ℕ → List ℕ
 root_of x = number_told (sqrt_answer binary64 (num x))
@@ -115,9 +111,9 @@ plane = record {
 }
 
 -- trips, clamped_dims, the greatest speed
-abbrev pub check_told : Tier0Out → List ℕ
-check_told (check.Passed trips clamped peak walls) = 0 ∷ trips ∷ clamped ∷ bits peak ∷ []
-check_told (check.Refused r) = refused r
+abbrev pub check_told : Result Tier0Out Refusal → List ℕ
+check_told (Ok o) = 0 ∷ o.trips ∷ o.clamped_dims ∷ bits o.peak_speed ∷ []
+check_told (Err r) = refused r
 
 -- the answer for one row from (0,0), and then the projected row
 abbrev pub row_of : ℕ → ℕ → List ℕ
@@ -149,9 +145,9 @@ gate = record {
 abbrev pub scores : ℕ → Scores
 scores valid = record { f = replicate 12 +0; z = num 2! ∷ one ∷ replicate 10 +0; s = +0; valid = valid; fired = 0 }
 
-abbrev pub verdict_told : Verdict → List ℕ
-verdict_told (verdict.Trips b) = 0 ∷ flag b ∷ []
-verdict_told (verdict.Refused r) = refused r
+abbrev pub verdict_told : Result Bool Refusal → List ℕ
+verdict_told (Ok b) = 0 ∷ flag b ∷ []
+verdict_told (Err r) = refused r
 
 -- the refusal's number, s, and then whether the aggregated scores trip
 abbrev pub gate_of : ℕ → List ℕ

@@ -2,13 +2,12 @@
 #![tactic(auto)]
 
 use card::Card;
-use conformal::TimeBin;
 
 // The bin of tick t on a horizon of 200, or 16 where there is none.
 fn bin_of(t: u32) -> u64 {
     match conformal::time_bin(t, 200) {
-        TimeBin::Bin(b) => b as u64,
-        TimeBin::NoBin(_) => 16,
+        Ok(b) => b as u64,
+        Err(_) => 16,
     }
 }
 

@@ -1,4 +1,5 @@
 -- The four beliefs, and what is easily mixed up with the first: each follows from the promises of the crate that has the entry.
+use Rattle.std.specs.Prelude.{Err}
 use Prim.Native.Nat.{ℕ, min}
 use mathlib.Core.Path.{◌≡◌, refl, sym, ap, subst, ◌∙◌}
 use mathlib.Core.Bool.{Bool, true, false, not, ◌&&◌, ◌||◌, false≢true}
@@ -30,19 +31,15 @@ use Rattle.envelope.specs.declared.FuseConfig.{FuseConfig}
 use Rattle.tier0.specs.declared.Checks.{Checks}
 use Rattle.tier0.specs.Rule.{CONTACT}
 use Rattle.tier0.specs.Chunk.{some_longer}
-use Rattle.tier0.specs.Refusals.{answer_at as checked}
+use Rattle.tier0.specs.Refusals.{answer_at as checked, passed_with}
 use Rattle.tier0.specs.Of.{checks_of, lent_to_action, action_ruling, action_refusal, action_answer, lent_to_chunk, chunk_ruling, chunk_refusal, chunk_answer}
 use Rattle.tier0.specs.Promises.{trips_in, raised, before_first, NoZones, zone_found, inside_at, ZoneUnseen, InsideUnseen}
-use Rattle.tier0.specs.declared.Tier0Out.TheVariants as check
 use Rattle.tier0.proofs.Promises.{no_contact_no_trip, no_contact_no_action_trip}
 use Rattle.tier0.proofs.Within.{chunk_touched, action_touched, trips_raised}
 use Rattle.tier0.proofs.Leash.{chunk_contact, action_contact}
 use Rattle.tier0.proofs.Zones.{no_contact_as_unarmed, unseen_is_inside}
 use Rattle.course.specs.Forecast.{place_of}
-use Rattle.brake.specs.declared.BrakeOut.TheVariants as forecast
-use Rattle.brake.specs.declared.Ran.TheVariants as run
 use Rattle.brake.specs.Towards.{ran_at, running, run_lent, run_refusal, run_answer}
-use Rattle.brake.specs.declared.Sent.TheVariants as sent
 use Rattle.brake.specs.Answer.{answer_at as foreseen, plan, lent_judged, forecast_refusal, forecast_answer, last_unfit, row_lent, sent_at, masks_sent, brake_sent, brake_refusal, brake_answer, hold_sent, hold_refusal, hold_answer}
 use Rattle.brake.proofs.Promises.{feasible_exactly}
 use Rattle.promises.specs.Beliefs.{EmptyBoxSlowsNothing, SilentCameraSlows, ChannelsAre4, OneChannelIsRefused, SamePairIsRefused, TouchingTripsNothing, StartIsNotInspected}
@@ -91,13 +88,13 @@ module _ (c : FuseConfig) (tabs : Tables) (k : ℕ) (p aux : List Float) (radius
   of_some longer e = some_there (λ (z : ℕ). inside_at binary64 s p aux z && longer (zone_found binary64 s p aux z).step) (counted c.zones) k silent.counts (told.counts_as_inside &&≡ (ap longer (told.its_step ∙ one_step) ∙ e))
 
   silent_chunk : (rows : List Float) (h : Header) (room trips dims : ℕ) (peak : Float) (walls : WallMasks)
-      → chunk_answer binary64 c tabs p aux rows h room ≡ check.Passed trips dims peak walls
+      → chunk_answer binary64 c tabs p aux rows h room ≡ passed_with trips dims peak walls
       → some_longer binary64 (before_first binary64 c p aux rows) rows c.dim (mul binary64 speed c.limits.dt) h.horizon ≡ true → raised CONTACT trips ≡ true
   silent_chunk rows h room trips dims peak walls e long =
       chunk_contact binary64 c tabs p aux rows h room trips dims peak walls e ∙ of_some (λ (x : Float). some_longer binary64 (before_first binary64 c p aux rows) rows c.dim x h.horizon) long
 
   silent_action : (prev a : List Float) (room trips dims : ℕ) (peak : Float) (walls : WallMasks)
-      → action_answer binary64 c tabs p aux prev a room ≡ check.Passed trips dims peak walls
+      → action_answer binary64 c tabs p aux prev a room ≡ passed_with trips dims peak walls
       → lt (mul binary64 speed c.limits.dt) (dist binary64 a prev c.dim).value ≡ true → raised CONTACT trips ≡ true
   silent_action prev a room trips dims peak walls e long =
       action_contact binary64 c tabs p aux prev a room trips dims peak walls e ∙ of_some (λ (x : Float). lt x (dist binary64 a prev c.dim).value) long
@@ -110,13 +107,13 @@ module _ (c : FuseConfig) (tabs : Tables) (k : ℕ) (p aux : List Float) (radius
       ∙ (subst (λ (z : ℕ). (inside_at binary64 s p aux z && longer (zone_found binary64 s p aux z).step) ≡ longer (mul binary64 speed c.limits.dt)) first (told.counts_as_inside &&≡ ap longer (told.its_step ∙ one_step)))
 
   only_chunk : c.zones.count ≡ 1 → (rows : List Float) (h : Header) (room trips dims : ℕ) (peak : Float) (walls : WallMasks)
-      → chunk_answer binary64 c tabs p aux rows h room ≡ check.Passed trips dims peak walls
+      → chunk_answer binary64 c tabs p aux rows h room ≡ passed_with trips dims peak walls
       → raised CONTACT trips ≡ some_longer binary64 (before_first binary64 c p aux rows) rows c.dim (mul binary64 speed c.limits.dt) h.horizon
   only_chunk one rows h room trips dims peak walls e =
       chunk_contact binary64 c tabs p aux rows h room trips dims peak walls e ∙ of_only one (λ (x : Float). some_longer binary64 (before_first binary64 c p aux rows) rows c.dim x h.horizon)
 
   only_action : c.zones.count ≡ 1 → (prev a : List Float) (room trips dims : ℕ) (peak : Float) (walls : WallMasks)
-      → action_answer binary64 c tabs p aux prev a room ≡ check.Passed trips dims peak walls
+      → action_answer binary64 c tabs p aux prev a room ≡ passed_with trips dims peak walls
       → raised CONTACT trips ≡ lt (mul binary64 speed c.limits.dt) (dist binary64 a prev c.dim).value
   only_action one prev a room trips dims peak walls e =
       action_contact binary64 c tabs p aux prev a room trips dims peak walls e ∙ of_only one (λ (x : Float). lt x (dist binary64 a prev c.dim).value)
@@ -136,36 +133,36 @@ module _ (c : FuseConfig) (tabs : Tables) (four : refusal (config_judged binary6
   is_4 : (rest : List Judged) → chain (config_judged binary64 c tabs ++ rest) ≡ 4
   is_4 rest = first_refuses (config_judged binary64 c tabs) rest (λ z. let f : chain (config_judged binary64 c tabs) ≡ 4 = four in omega (arith, f, z)) ∙ four
 
-  chunk_4 : (p aux rows : List Float) (k : Header) (room : ℕ) → chunk_answer binary64 c tabs p aux rows k room ≡ check.Refused (refused_for 4)
+  chunk_4 : (p aux rows : List Float) (k : Header) (room : ℕ) → chunk_answer binary64 c tabs p aux rows k room ≡ Err (refused_for 4)
   unfolding chunk_answer chunk_refusal
   chunk_4 p aux rows k room =
       ap (λ (n : ℕ). checked n (chunk_ruling binary64 c p aux rows k.horizon).value)
       (is_4 (chunk_reasons k (length rows) ++ lent_to_chunk c p aux rows k room ((computed when not (chunk_ruling binary64 c p aux rows k.horizon).sound) ∷ [])))
 
-  action_4 : (p aux prev a : List Float) (room : ℕ) → action_answer binary64 c tabs p aux prev a room ≡ check.Refused (refused_for 4)
+  action_4 : (p aux prev a : List Float) (room : ℕ) → action_answer binary64 c tabs p aux prev a room ≡ Err (refused_for 4)
   unfolding action_answer action_refusal
   action_4 p aux prev a room =
       ap (λ (n : ℕ). checked n (action_ruling binary64 c p aux prev a).value) (is_4 (lent_to_action c p aux prev a room ((computed when not (action_ruling binary64 c p aux prev a).sound) ∷ [])))
 
-  forecast_4 : (p v rows : List Float) (k : Header) (from room : ℕ) → forecast_answer binary64 c tabs p v rows k from room ≡ forecast.Refused (refused_for 4)
+  forecast_4 : (p v rows : List Float) (k : Header) (from room : ℕ) → forecast_answer binary64 c tabs p v rows k from room ≡ Err (refused_for 4)
   unfolding forecast_answer forecast_refusal
   forecast_4 p v rows k from room =
       let t = plan binary64 c p v rows k from in
       ap (λ (n : ℕ). foreseen n t) (is_4 (chunk_reasons k (length rows) ++ (lent_judged binary64 c p v rows k from room ++ ((computed when not (eqb (place_of t) 0)) ∷ []))))
 
-  run_4 : (a p v : List Float) (n room : ℕ) → run_answer binary64 c tabs a p v n room ≡ run.Refused (refused_for 4)
+  run_4 : (a p v : List Float) (n room : ℕ) → run_answer binary64 c tabs a p v n room ≡ Err (refused_for 4)
   unfolding run_answer run_refusal
   run_4 a p v n room =
       let t = running binary64 c a p v n in
       ap (λ (k : ℕ). ran_at k t) (is_4 (run_lent binary64 c a p v n room ++ (computed when not (eqb (place_of t) 0) ∷ [])))
 
-  brake_4 : (p v last : List Float) (room : ℕ) → brake_answer binary64 c tabs p v last room ≡ sent.Refused (refused_for 4)
+  brake_4 : (p v last : List Float) (room : ℕ) → brake_answer binary64 c tabs p v last room ≡ Err (refused_for 4)
   unfolding brake_answer brake_refusal
   brake_4 p v last room =
       ap (λ (n : ℕ). sent_at n (masks_sent binary64 c p))
       (is_4 (row_lent c (some_not_finite p || some_not_finite v || last_unfit c.gripper last) room (length last) ++ ((computed when not (brake_sent binary64 c p v last).sound) ∷ [])))
 
-  hold_4 : (p last : List Float) (room : ℕ) → hold_answer binary64 c tabs p last room ≡ sent.Refused (refused_for 4)
+  hold_4 : (p last : List Float) (room : ℕ) → hold_answer binary64 c tabs p last room ≡ Err (refused_for 4)
   unfolding hold_answer hold_refusal
   hold_4 p last room =
       ap (λ (n : ℕ). sent_at n (masks_sent binary64 c p)) (is_4 (row_lent c (some_not_finite p || last_unfit c.gripper last) room (length last) ++ (computed when not (hold_sent binary64 c p last).sound ∷ [])))

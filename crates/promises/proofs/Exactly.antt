@@ -11,7 +11,7 @@ use lib.Ieee.{Float, Format, binary64}
 use lib.ListN.{length}
 use Rattle.refusal.specs.declared.Refusal.{Refusal}
 use Rattle.refusal.specs.Order.{Reason, Judged, size, steps, short, not_finite, computed, ◌when◌, number_of, order, among, given, refusal, refused_for, ◌or◌}
-use Rattle.std.specs.Prelude.{if◌then◌else◌}
+use Rattle.std.specs.Prelude.{if◌then◌else◌, Err, Ok, Result}
 use Rattle.refusal.specs.Exactly.{First, here, later, exactly_first, exactly_none}
 use Rattle.checked.specs.Checked.{root}
 use Rattle.fmath.specs.Norm.{norm, dist}
@@ -19,8 +19,6 @@ use Rattle.fmath.specs.Answer.{some_not_finite, number_or, sqrt_answer, norm_ans
 use Rattle.chunk.specs.Refusals.{chunk_reasons, lent_reasons, held_reasons}
 use Rattle.chunk.specs.declared.ChunkBuf.{ChunkBuf}
 use Rattle.chunk.specs.declared.Filled.{Filled}
-use Rattle.chunk.specs.declared.Holding.{Holding}
-use Rattle.chunk.specs.declared.Holding.TheVariants.{Held, Refused as NotTold}
 use Rattle.chunk.specs.Of.{fill_of, held_refusal_of, clear_of as chunk_clear_of, holding_of}
 use Rattle.window.specs.declared.Trail.{Trail}
 use Rattle.window.specs.declared.Recorded.{Recorded}
@@ -41,10 +39,8 @@ use Rattle.tier1.specs.declared.Tier1Rt.{Tier1Rt}
 use Rattle.tier1.specs.Refusals.{none, prev_judged, state_judged}
 use Rattle.tier1.specs.Of as tier1
 use Rattle.course.specs.Forecast.{Forecast, place_of}
-use Rattle.brake.specs.declared.BrakeOut.TheVariants as out
 use Rattle.workspace.specs.declared.WallMasks.{WallMasks}
 use Rattle.brake.specs.Answer.{plan, lent_judged, last_unfit, row_lent, placed_or, outcome, decided_at, sent_at, forecast_refusal, forecast_answer, brake_sent, brake_refusal, brake_answer, hold_sent, hold_refusal, hold_answer}
-use Rattle.brake.specs.declared.Ran.TheVariants as ran
 use Rattle.brake.specs.Towards.{ran_to, running, run_lent, run_refusal, run_answer}
 use Rattle.lictor.specs.Answer.{number_of as number_in, mask_number, count_number, emptiness_number, verdict_number, bin_number, check_number, forecast_number, ran_number, sent_number}
 
@@ -102,9 +98,9 @@ unfolding chunk_clear_of
 chunk_clear_exactly b = exactly _ (chosen (λ (r : Filled). r.number) (held_refusal_of b) _ _ refl refl ∙ held_number b)
 
 -- the number of an answer to whether a chunk is held
-abbrev holding_number : Holding → ℕ
-holding_number (Held b) = 0
-holding_number (NotTold r) = r.number
+abbrev holding_number : Result Bool Refusal → ℕ
+holding_number (Ok b) = 0
+holding_number (Err r) = r.number
 
 pub is_filled_exactly : (b : ChunkBuf) → Exactly (holding_number (holding_of b)) (prev_judged b)
 unfolding holding_of
@@ -217,7 +213,7 @@ module _ (c : FuseConfig) (tabs : Tables) (p v rows : List Float) (k : Header) (
   brake_feasible_exactly =
       let none = (exactly_none (among forecast_judged)).1 in
       let last = (exactly_first (among forecast_judged) computed).1 in
-      exactly _ (placed_told forecast_number out.Refused _ refl (λ r. refl) (plan binary64 c p v rows k from) (refusal forecast_judged) (λ z. none z computed) (λ z. applied _ _ _ (last z)))
+      exactly _ (placed_told forecast_number Err _ refl (λ r. refl) (plan binary64 c p v rows k from) (refusal forecast_judged) (λ z. none z computed) (λ z. applied _ _ _ (last z)))
 
 module _ (c : FuseConfig) (tabs : Tables) (a p v : List Float) (n room : ℕ) where
   abbrev run_judged : List Judged
@@ -228,7 +224,7 @@ module _ (c : FuseConfig) (tabs : Tables) (a p v : List Float) (n room : ℕ) wh
   run_towards_number =
       let none = (exactly_none (among run_judged)).1 in
       let last = (exactly_first (among run_judged) computed).1 in
-      placed_told ran_number ran.Refused _ refl (λ r. refl) (running binary64 c a p v n) (refusal run_judged) (λ z. none z computed) (λ z. applied _ _ _ (last z))
+      placed_told ran_number Err _ refl (λ r. refl) (running binary64 c a p v n) (refusal run_judged) (λ z. none z computed) (λ z. applied _ _ _ (last z))
 
   pub run_towards_exactly : Exactly (ran_number (run_answer binary64 c tabs a p v n room)) (among run_judged)
   unfolding run_refusal

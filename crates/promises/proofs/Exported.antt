@@ -1,19 +1,16 @@
 -- One answer for each input of the static library: of every exported function, two answers and states of the lent places that meet its contract for the
 -- same arguments are the same. Each contract is an equation, or a record of equations, one for the number and one for each place.
+use Rattle.workspace.specs.declared.WallMasks.{WallMasks}
+use Rattle.std.specs.Prelude.{Result}
+use Rattle.refusal.specs.declared.Refusal.{Refusal}
 use Prim.Native.Nat.{ℕ}
 use mathlib.Core.Path.{◌≡◌}
 use mathlib.Core.Bool.{Bool}
 use mathlib.Core.List.{List}
 use lib.Ieee.{Float}
-use Rattle.fmath.specs.declared.Number.{Number}
 use Rattle.chunk.specs.declared.Filled.{Filled}
-use Rattle.window.specs.declared.Masked.{Masked}
 use Rattle.window.specs.declared.Recorded.{Recorded}
-use Rattle.window.specs.declared.Count.{Count}
-use Rattle.window.specs.declared.Emptiness.{Emptiness}
 use Rattle.conformal.specs.declared.Scored.{Scored}
-use Rattle.conformal.specs.declared.Verdict.{Verdict}
-use Rattle.conformal.specs.declared.TimeBin.{TimeBin}
 use Rattle.envelope.specs.declared.Derived.{Derived}
 use Rattle.tier0.specs.declared.Tier0Out.{Tier0Out}
 use Rattle.tier1.specs.declared.Tier1Rt.{Tier1Rt}
@@ -21,7 +18,6 @@ use Rattle.tier1.specs.declared.Featured.{Featured}
 use Rattle.tier1.specs.declared.Cleared.{Cleared}
 use Rattle.brake.specs.declared.BrakeOut.{BrakeOut}
 use Rattle.brake.specs.declared.Ran.{Ran}
-use Rattle.brake.specs.declared.Sent.{Sent}
 use Rattle.lictor.specs.Answer.{NumberGiven, FilledGiven, MaskGiven, RecordedGiven, CountGiven, EmptinessGiven, DerivedGiven, CheckGiven, FeaturedGiven, StateLaid, ClearedGiven, ForecastGiven, RanGiven, SentGiven, ScoredGiven, VerdictGiven, BinGiven}
 use Rattle.lictor.proofs.lictor_environment.Reads as lictor-environment
 use Rattle.lictor.proofs.lictor_min.Reads as lictor-min
@@ -62,28 +58,28 @@ use Rattle.promises.proofs.OneAnswer.{unique, both, One, OneWithLent, With3}
 
 -- ---- the records
 
-number_given : {a : Number} {r r' : ℕ} {old : Float} {new new' : Float} → NumberGiven a r old new → NumberGiven a r' old new' → (r ≡ r') × (new ≡ new')
+number_given : {a : Result Float Refusal} {r r' : ℕ} {old : Float} {new new' : Float} → NumberGiven a r old new → NumberGiven a r' old new' → (r ≡ r') × (new ≡ new')
 number_given p q = (unique p.number q.number, unique p.value q.value)
 
 filled_given : {a : Filled} {r r' : ℕ} {d₀ : List Float} {d d' : List Float} {h₀ : List ℕ} {h h' : List ℕ} → FilledGiven a r d₀ d h₀ h → FilledGiven a r' d₀ d' h₀ h' → (r ≡ r') × ((d ≡ d') × (h ≡ h'))
 filled_given p q = (unique p.number q.number, (unique p.numbers q.numbers, unique p.header q.header))
 
-mask_given : {a : Masked} {r r' : ℕ} {old : ℕ} {new new' : ℕ} → MaskGiven a r old new → MaskGiven a r' old new' → (r ≡ r') × (new ≡ new')
+mask_given : {a : Result ℕ Refusal} {r r' : ℕ} {old : ℕ} {new new' : ℕ} → MaskGiven a r old new → MaskGiven a r' old new' → (r ≡ r') × (new ≡ new')
 mask_given p q = (unique p.number q.number, unique p.value q.value)
 
 recorded_given : {a : Recorded} {r r' : ℕ} {l₀ : List Float} {l l' : List Float} {m₀ : List ℕ} {m m' : List ℕ} → RecordedGiven a r l₀ l m₀ m → RecordedGiven a r' l₀ l' m₀ m' → (r ≡ r') × ((l ≡ l') × (m ≡ m'))
 recorded_given p q = (unique p.number q.number, (unique p.numbers q.numbers, unique p.marks q.marks))
 
-count_given : {a : Count} {r r' : ℕ} {old : ℕ} {new new' : ℕ} → CountGiven a r old new → CountGiven a r' old new' → (r ≡ r') × (new ≡ new')
+count_given : {a : Result ℕ Refusal} {r r' : ℕ} {old : ℕ} {new new' : ℕ} → CountGiven a r old new → CountGiven a r' old new' → (r ≡ r') × (new ≡ new')
 count_given p q = (unique p.number q.number, unique p.len q.len)
 
-emptiness_given : {a : Emptiness} {r r' : ℕ} {old : ℕ} {new new' : ℕ} → EmptinessGiven a r old new → EmptinessGiven a r' old new' → (r ≡ r') × (new ≡ new')
+emptiness_given : {a : Result Bool Refusal} {r r' : ℕ} {old : ℕ} {new new' : ℕ} → EmptinessGiven a r old new → EmptinessGiven a r' old new' → (r ≡ r') × (new ≡ new')
 emptiness_given p q = (unique p.number q.number, unique p.empty q.empty)
 
 derived_given : {n : ℕ} {d : Derived} {r r' : ℕ} {old : List Float} {new new' : List Float} → DerivedGiven n d r old new → DerivedGiven n d r' old new' → (r ≡ r') × (new ≡ new')
 derived_given p q = (unique p.number q.number, unique p.numbers q.numbers)
 
-check_given : {fits : Bool} {a : Tier0Out} {l : List Float} {r r' : ℕ} {m₀ : List ℕ} {m m' : List ℕ} {x₀ : Float} {x x' : Float} {o₀ : List Float} {o o' : List Float} → CheckGiven fits a l r m₀ m x₀ x o₀ o → CheckGiven fits a l r' m₀ m' x₀ x' o₀ o' → (r ≡ r') × ((m ≡ m') × ((x ≡ x') × (o ≡ o')))
+check_given : {fits : Bool} {a : Result Tier0Out Refusal} {l : List Float} {r r' : ℕ} {m₀ : List ℕ} {m m' : List ℕ} {x₀ : Float} {x x' : Float} {o₀ : List Float} {o o' : List Float} → CheckGiven fits a l r m₀ m x₀ x o₀ o → CheckGiven fits a l r' m₀ m' x₀ x' o₀ o' → (r ≡ r') × ((m ≡ m') × ((x ≡ x') × (o ≡ o')))
 check_given p q = (unique p.number q.number, (unique p.marks q.marks, (unique p.speed q.speed, unique p.output q.output)))
 
 featured_given : {fits came : Bool} {a : Featured} {r r' : ℕ} {d₀ : List Float} {d d' : List Float} {h₀ : List ℕ} {h h' : List ℕ} {f₀ : List Float} {f f' : List Float} {c₀ : List ℕ} {c c' : List ℕ} {s₀ : List Float} {s s' : List Float} {m₀ : List ℕ} {m m' : List ℕ} → FeaturedGiven fits came a r d₀ d h₀ h f₀ f c₀ c s₀ s m₀ m → FeaturedGiven fits came a r' d₀ d' h₀ h' f₀ f' c₀ c' s₀ s' m₀ m' → (r ≡ r') × ((d ≡ d') × ((h ≡ h') × ((f ≡ f') × ((c ≡ c') × ((s ≡ s') × (m ≡ m'))))))
@@ -95,23 +91,23 @@ state_laid p q = (unique p.rows q.rows, (unique p.header q.header, (unique p.tra
 cleared_given : {fits : Bool} {a : Cleared} {r r' : ℕ} {d₀ : List Float} {d d' : List Float} {h₀ : List ℕ} {h h' : List ℕ} {p₀ : List Float} {p p' : List Float} {t₀ : List ℕ} {t t' : List ℕ} {f₀ : List Float} {f f' : List Float} {c₀ : List ℕ} {c c' : List ℕ} → ClearedGiven fits a r d₀ d h₀ h p₀ p t₀ t f₀ f c₀ c → ClearedGiven fits a r' d₀ d' h₀ h' p₀ p' t₀ t' f₀ f' c₀ c' → (r ≡ r') × ((d ≡ d') × ((h ≡ h') × ((p ≡ p') × ((t ≡ t') × ((f ≡ f') × (c ≡ c'))))))
 cleared_given p q = (unique p.number q.number, (unique p.rows q.rows, (unique p.header q.header, (unique p.trail q.trail, (unique p.samples q.samples, (unique p.held q.held, unique p.kept q.kept))))))
 
-forecast_given : {fits : Bool} {a : BrakeOut} {l : List Float} {r r' : ℕ} {m₀ : List ℕ} {m m' : List ℕ} {x₀ : List Float} {x x' : List Float} {p₀ : ℕ} {p p' : ℕ} {s₀ : List Float} {s s' : List Float} → ForecastGiven fits a l r m₀ m x₀ x p₀ p s₀ s → ForecastGiven fits a l r' m₀ m' x₀ x' p₀ p' s₀ s' → (r ≡ r') × ((m ≡ m') × ((x ≡ x') × ((p ≡ p') × (s ≡ s'))))
+forecast_given : {fits : Bool} {a : Result BrakeOut Refusal} {l : List Float} {r r' : ℕ} {m₀ : List ℕ} {m m' : List ℕ} {x₀ : List Float} {x x' : List Float} {p₀ : ℕ} {p p' : ℕ} {s₀ : List Float} {s s' : List Float} → ForecastGiven fits a l r m₀ m x₀ x p₀ p s₀ s → ForecastGiven fits a l r' m₀ m' x₀ x' p₀ p' s₀ s' → (r ≡ r') × ((m ≡ m') × ((x ≡ x') × ((p ≡ p') × (s ≡ s'))))
 forecast_given p q = (unique p.number q.number, (unique p.marks q.marks, (unique p.distances q.distances, (unique p.place q.place, unique p.slacks q.slacks))))
 
-ran_given : {fits : Bool} {a : Ran} {l q w : List Float} {r r' n₀ n n' : ℕ} {x₀ x x' : Float} {p₀ p p' : ℕ} {s₀ s s' q₀ q₁ q₁' w₀ w₁ w₁' : List Float} → RanGiven fits a l q w r n₀ n x₀ x p₀ p s₀ s q₀ q₁ w₀ w₁ → RanGiven fits a l q w r' n₀ n' x₀ x' p₀ p' s₀ s' q₀ q₁' w₀ w₁'
+ran_given : {fits : Bool} {a : Result Ran Refusal} {l q w : List Float} {r r' n₀ n n' : ℕ} {x₀ x x' : Float} {p₀ p p' : ℕ} {s₀ s s' q₀ q₁ q₁' w₀ w₁ w₁' : List Float} → RanGiven fits a l q w r n₀ n x₀ x p₀ p s₀ s q₀ q₁ w₀ w₁ → RanGiven fits a l q w r' n₀ n' x₀ x' p₀ p' s₀ s' q₀ q₁' w₀ w₁'
     → (r ≡ r') × ((n ≡ n') × ((x ≡ x') × ((p ≡ p') × ((s ≡ s') × ((q₁ ≡ q₁') × (w₁ ≡ w₁'))))))
 ran_given p q = (unique p.number q.number, (unique p.count q.count, (unique p.margin q.margin, (unique p.place q.place, (unique p.slacks q.slacks, (unique p.position q.position, unique p.velocity q.velocity))))))
 
-sent_given : {fits : Bool} {a : Sent} {l : List Float} {r r' : ℕ} {m₀ : List ℕ} {m m' : List ℕ} {o₀ : List Float} {o o' : List Float} → SentGiven fits a l r m₀ m o₀ o → SentGiven fits a l r' m₀ m' o₀ o' → (r ≡ r') × ((m ≡ m') × (o ≡ o'))
+sent_given : {fits : Bool} {a : Result WallMasks Refusal} {l : List Float} {r r' : ℕ} {m₀ : List ℕ} {m m' : List ℕ} {o₀ : List Float} {o o' : List Float} → SentGiven fits a l r m₀ m o₀ o → SentGiven fits a l r' m₀ m' o₀ o' → (r ≡ r') × ((m ≡ m') × (o ≡ o'))
 sent_given p q = (unique p.number q.number, (unique p.marks q.marks, unique p.output q.output))
 
 scored_given : {fits : Bool} {a : Scored} {r r' : ℕ} {s₀ : List Float} {s s' : List Float} {m₀ : List ℕ} {m m' : List ℕ} → ScoredGiven fits a r s₀ s m₀ m → ScoredGiven fits a r' s₀ s' m₀ m' → (r ≡ r') × ((s ≡ s') × (m ≡ m'))
 scored_given p q = (unique p.number q.number, (unique p.scores q.scores, unique p.marks q.marks))
 
-verdict_given : {fits : Bool} {a : Verdict} {r r' : ℕ} {old : ℕ} {new new' : ℕ} → VerdictGiven fits a r old new → VerdictGiven fits a r' old new' → (r ≡ r') × (new ≡ new')
+verdict_given : {fits : Bool} {a : Result Bool Refusal} {r r' : ℕ} {old : ℕ} {new new' : ℕ} → VerdictGiven fits a r old new → VerdictGiven fits a r' old new' → (r ≡ r') × (new ≡ new')
 verdict_given p q = (unique p.number q.number, unique p.trips q.trips)
 
-bin_given : {a : TimeBin} {r r' : ℕ} {old : ℕ} {new new' : ℕ} → BinGiven a r old new → BinGiven a r' old new' → (r ≡ r') × (new ≡ new')
+bin_given : {a : Result ℕ Refusal} {r r' : ℕ} {old : ℕ} {new new' : ℕ} → BinGiven a r old new → BinGiven a r' old new' → (r ≡ r') × (new ≡ new')
 bin_given p q = (unique p.number q.number, unique p.bin q.bin)
 
 -- ---- what is told of an answer and of several places

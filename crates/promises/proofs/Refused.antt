@@ -10,7 +10,7 @@ use lib.Ieee.{Float, binary64}
 use Rattle.refusal.specs.declared.Refusal.{Refusal}
 use Rattle.refusal.specs.Order.{given, refusal, refused_for}
 use Rattle.refusal.proofs.Entry.{left_kept}
-use Rattle.std.specs.Prelude.{if◌then◌else◌}
+use Rattle.std.specs.Prelude.{if◌then◌else◌, Err}
 use Rattle.chunk.specs.Refusals.{lent_reasons}
 use Rattle.chunk.specs.declared.ChunkBuf.{ChunkBuf}
 use Rattle.chunk.specs.declared.Filled.{Filled}
@@ -32,10 +32,8 @@ use Rattle.tier1.specs.declared.Tier1Rt.{Tier1Rt}
 use Rattle.tier1.specs.Refusals.{state_judged}
 use Rattle.tier1.specs.Of.{Tick, featured_at, ticked, features_refusal, features_of, cleared_at, reset_of}
 use Rattle.course.specs.Forecast.{Forecast, place_of, written_of}
-use Rattle.brake.specs.declared.BrakeOut.TheVariants as out
 use Rattle.workspace.specs.declared.WallMasks.{WallMasks}
 use Rattle.brake.specs.Answer.{placed_or, outcome, decided_at, slacks_at, plan, forecast_refusal, forecast_answer, forecast_slacks, sent_at, masks_sent, row_at, brake_sent, brake_refusal, brake_answer, brake_output, hold_sent, hold_refusal, hold_answer, hold_output}
-use Rattle.brake.specs.declared.Ran.TheVariants as ran
 use Rattle.brake.specs.Towards.{ran_to, running, run_refusal, run_answer, run_slacks, run_position, run_velocity}
 use Rattle.lictor.specs.Answer.{check_number, forecast_number, ran_number, sent_number}
 use Rattle.promises.proofs.Exactly.{run_towards_number}
@@ -138,7 +136,7 @@ module _ {A : Type 0} (number : A → ℕ) (refused : Refusal → A) (answer : A
 forecast_kept : (c : FuseConfig) (tabs : Tables) (p v rows : List Float) (k : Header) (from : ℕ) (l : List Float) → Refuses (forecast_number (forecast_answer binary64 c tabs p v rows k from (length l)))
     → (forecast_number (forecast_answer binary64 c tabs p v rows k from (length l)) ≡ 13 → ⊥) → forecast_slacks binary64 c tabs p v rows k from l ≡ l
 unfolding forecast_answer forecast_slacks forecast_number outcome
-forecast_kept c tabs p v rows k from l = slacks_kept forecast_number out.Refused _ refl (λ r. refl) (forecast_refusal binary64 c tabs p v rows k from (length l)) (plan binary64 c p v rows k from) l
+forecast_kept c tabs p v rows k from l = slacks_kept forecast_number Err _ refl (λ r. refl) (forecast_refusal binary64 c tabs p v rows k from (length l)) (plan binary64 c p v rows k from) l
 
 run_kept : (c : FuseConfig) (tabs : Tables) (a p v : List Float) (n : ℕ) (l : List Float) → Refuses (ran_number (run_answer binary64 c tabs a p v n (length l)))
     → (run_position binary64 c tabs a p v n (length l) ≡ p) × (run_velocity binary64 c tabs a p v n (length l) ≡ v) × ((ran_number (run_answer binary64 c tabs a p v n (length l)) ≡ 13 → ⊥) → run_slacks binary64 c tabs a p v n l ≡ l)
@@ -147,7 +145,7 @@ run_kept c tabs a p v n l is =
     let k = run_refusal binary64 c tabs a p v n (length l) in
     let t = running binary64 c a p v n in
     let refuses : Refuses k = λ z. is (run_towards_number c tabs a p v n (length l) ∙ z) in
-    (left_kept p _ k refuses, left_kept v _ k refuses, slacks_kept ran_number ran.Refused _ refl (λ r. refl) k t l is)
+    (left_kept p _ k refuses, left_kept v _ k refuses, slacks_kept ran_number Err _ refl (λ r. refl) k t l is)
 
 pub refusal_changes_nothing : RefusalChangesNothing
 refusal_changes_nothing = record {

@@ -1,5 +1,6 @@
 -- Four beliefs that do not hold (docs/TRAINEES.md), each with what holds instead, said of the entries' answers; beside the first, what is easily mixed up with it. The proofs are `proofs/Beliefs.antt`.
-use Rattle.std.specs.Prelude.{ℕ, suc, ◌<◌, ◌≡◌, Bool, true, false, List, Float}
+use Rattle.tier0.specs.Refusals.{passed_with}
+use Rattle.std.specs.Prelude.{ℕ, suc, ◌<◌, ◌≡◌, Bool, true, false, List, Float, Err}
 use Rattle.std.specs.Float.Ieee.{lt, mul}
 use Rattle.std.specs.Float.{binary64}
 use Rattle.refusal.specs.Order.{refusal, refused_for}
@@ -19,14 +20,10 @@ use Rattle.tier0.specs.Rule.{CONTACT}
 use Rattle.tier0.specs.Chunk.{some_longer}
 use Rattle.tier0.specs.Of.{action_answer, chunk_answer}
 use Rattle.tier0.specs.Promises.{trips_in, raised, before_first, ChunkWithin, ActionWithin, NoZones, ZoneUnseen, AsUnarmed}
-use Rattle.tier0.specs.declared.Tier0Out.TheVariants as check
 use Rattle.rollout.specs.Plant.{Gains}
-use Rattle.brake.specs.Answer.{forecast_answer, brake_answer, hold_answer}
+use Rattle.brake.specs.Answer.{forecast_answer, brake_answer, hold_answer, forecast_with}
 use Rattle.brake.specs.Promises.{Call, SecondOrder, N, slack_after, answer}
-use Rattle.brake.specs.declared.BrakeOut.TheVariants as forecast
 use Rattle.brake.specs.Towards.{run_answer}
-use Rattle.brake.specs.declared.Ran.TheVariants as run
-use Rattle.brake.specs.declared.Sent.TheVariants as sent
 
 -- "An empty contact box means slow everywhere": with no zone configured, under either choice for an absent camera, CONTACT is never raised, and a call answers and writes what it does with CONTACT unarmed
 pub record EmptyBoxSlowsNothing : Type 0 where
@@ -38,19 +35,19 @@ pub record EmptyBoxSlowsNothing : Type 0 where
 pub record SilentCameraIsSlow (c : FuseConfig) (tabs : Tables) (p aux : List Float) (speed : Float) : Type 0 where
   pub chunk_raised :
       (rows : List Float) (k : Header) (room trips dims : ℕ) (peak : Float) (walls : WallMasks)
-      → chunk_answer binary64 c tabs p aux rows k room ≡ check.Passed trips dims peak walls
+      → chunk_answer binary64 c tabs p aux rows k room ≡ passed_with trips dims peak walls
       → some_longer binary64 (before_first binary64 c p aux rows) rows c.dim (mul binary64 speed c.limits.dt) k.horizon ≡ true → raised CONTACT trips ≡ true
   pub action_raised :
       (prev a : List Float) (room trips dims : ℕ) (peak : Float) (walls : WallMasks)
-      → action_answer binary64 c tabs p aux prev a room ≡ check.Passed trips dims peak walls
+      → action_answer binary64 c tabs p aux prev a room ≡ passed_with trips dims peak walls
       → lt (mul binary64 speed c.limits.dt) (dist binary64 a prev c.dim).value ≡ true → raised CONTACT trips ≡ true
   pub only_zone_chunk :
       c.zones.count ≡ 1 → (rows : List Float) (k : Header) (room trips dims : ℕ) (peak : Float) (walls : WallMasks)
-      → chunk_answer binary64 c tabs p aux rows k room ≡ check.Passed trips dims peak walls
+      → chunk_answer binary64 c tabs p aux rows k room ≡ passed_with trips dims peak walls
       → raised CONTACT trips ≡ some_longer binary64 (before_first binary64 c p aux rows) rows c.dim (mul binary64 speed c.limits.dt) k.horizon
   pub only_zone_action :
       c.zones.count ≡ 1 → (prev a : List Float) (room trips dims : ℕ) (peak : Float) (walls : WallMasks)
-      → action_answer binary64 c tabs p aux prev a room ≡ check.Passed trips dims peak walls
+      → action_answer binary64 c tabs p aux prev a room ≡ passed_with trips dims peak walls
       → raised CONTACT trips ≡ lt (mul binary64 speed c.limits.dt) (dist binary64 a prev c.dim).value
 
 abbrev pub SilentCameraSlows : Type 0
@@ -59,12 +56,12 @@ SilentCameraSlows = (c : FuseConfig) (tabs : Tables) (k : ℕ) (p aux : List Flo
 -- "Two arms may share camera channels": where 1, 2 and 3 do not apply, one channel for both coordinates of a zone that counts is refused with 4 by the configuration's own judging, the checks, the forecast, a run under one setpoint, brake and hold; and so are two zones of one arm that name the same channels in the same order
 pub record ChannelsAre4 (c : FuseConfig) (tabs : Tables) : Type 0 where
   pub configuration_is_4 : refusal (config_judged binary64 c tabs) ≡ 4
-  pub chunk_is_4 : (p aux rows : List Float) (k : Header) (room : ℕ) → chunk_answer binary64 c tabs p aux rows k room ≡ check.Refused (refused_for 4)
-  pub action_is_4 : (p aux prev a : List Float) (room : ℕ) → action_answer binary64 c tabs p aux prev a room ≡ check.Refused (refused_for 4)
-  pub forecast_is_4 : (p v rows : List Float) (k : Header) (from room : ℕ) → forecast_answer binary64 c tabs p v rows k from room ≡ forecast.Refused (refused_for 4)
-  pub run_is_4 : (a p v : List Float) (n room : ℕ) → run_answer binary64 c tabs a p v n room ≡ run.Refused (refused_for 4)
-  pub brake_is_4 : (p v last : List Float) (room : ℕ) → brake_answer binary64 c tabs p v last room ≡ sent.Refused (refused_for 4)
-  pub hold_is_4 : (p last : List Float) (room : ℕ) → hold_answer binary64 c tabs p last room ≡ sent.Refused (refused_for 4)
+  pub chunk_is_4 : (p aux rows : List Float) (k : Header) (room : ℕ) → chunk_answer binary64 c tabs p aux rows k room ≡ Err (refused_for 4)
+  pub action_is_4 : (p aux prev a : List Float) (room : ℕ) → action_answer binary64 c tabs p aux prev a room ≡ Err (refused_for 4)
+  pub forecast_is_4 : (p v rows : List Float) (k : Header) (from room : ℕ) → forecast_answer binary64 c tabs p v rows k from room ≡ Err (refused_for 4)
+  pub run_is_4 : (a p v : List Float) (n room : ℕ) → run_answer binary64 c tabs a p v n room ≡ Err (refused_for 4)
+  pub brake_is_4 : (p v last : List Float) (room : ℕ) → brake_answer binary64 c tabs p v last room ≡ Err (refused_for 4)
+  pub hold_is_4 : (p last : List Float) (room : ℕ) → hold_answer binary64 c tabs p last room ≡ Err (refused_for 4)
 
 abbrev pub OneChannelIsRefused : Type 0
 OneChannelIsRefused =
@@ -83,6 +80,6 @@ pub record TouchingTripsNothing : Type 0 where
 
 -- "The stopping forecast inspects where the arm stands now": an accepted one is feasible exactly when no slack after k substeps is negative, with k at least 1
 pub record StartIsNotInspected : Type 0 where
-  pub feasible_only_inside : (x : Call) (g : Gains) → SecondOrder x g → (n : ℕ) (margin stop : Float) → answer x ≡ forecast.Accepted n margin true stop → (k : ℕ) → k < N x → lt (slack_after x g (suc k)) +0 ≡ false
-  pub inside_is_feasible : (x : Call) (g : Gains) → SecondOrder x g → (n : ℕ) (margin : Float) (feasible : Bool) (stop : Float) → answer x ≡ forecast.Accepted n margin feasible stop
+  pub feasible_only_inside : (x : Call) (g : Gains) → SecondOrder x g → (n : ℕ) (margin stop : Float) → answer x ≡ forecast_with n margin true stop → (k : ℕ) → k < N x → lt (slack_after x g (suc k)) +0 ≡ false
+  pub inside_is_feasible : (x : Call) (g : Gains) → SecondOrder x g → (n : ℕ) (margin : Float) (feasible : Bool) (stop : Float) → answer x ≡ forecast_with n margin feasible stop
       → ((k : ℕ) → k < N x → lt (slack_after x g (suc k)) +0 ≡ false) → feasible ≡ true

@@ -1,15 +1,14 @@
 // Records of the float helpers and of the time bin.
 use crate::record::{Numbers, Words, exact, part};
-use conformal::TimeBin;
-use fmath::Number;
 use layout::places::to_u32;
+use refusal::Refusal;
 use sample::agrees;
 
 // Whether an answer is the number kept.
-fn is_number(a: Number, kept: f64) -> bool {
+fn is_number(a: Result<f64, Refusal>, kept: f64) -> bool {
     match a {
-        Number::Value(x) => agrees(&[kept], &[x]),
-        Number::Refused(_) => false,
+        Ok(x) => agrees(&[kept], &[x]),
+        Err(_) => false,
     }
 }
 
@@ -30,7 +29,7 @@ pub(crate) fn dist_agrees(w: &Words, x: &Numbers) -> bool {
 
 pub(crate) fn time_bin_agrees(w: &Words) -> bool {
     match conformal::time_bin(to_u32(w[0]), to_u32(w[1])) {
-        TimeBin::Bin(k) => agrees(&[exact(w[2])], &[exact(k as u64)]),
-        TimeBin::NoBin(_) => false,
+        Ok(k) => agrees(&[exact(w[2])], &[exact(k as u64)]),
+        Err(_) => false,
     }
 }

@@ -1,22 +1,22 @@
 // Records of tier 0: the check of an action, and of a chunk.
 use crate::config::{config, unread};
 use crate::record::{Numbers, Words, exact, header, part, rows_of};
+use refusal::Refusal;
 use sample::agrees;
 use tier0::Tier0Out;
 
 // Whether an answer has the trips, clamped dims and peak speed kept. Which walls moved the rows the sample, which is the Rust's, does not say.
-fn is_check(a: Tier0Out, trips: u64, dims: u64, peak: f64) -> bool {
+fn is_check(a: Result<Tier0Out, Refusal>, trips: u64, dims: u64, peak: f64) -> bool {
     match a {
-        Tier0Out::Passed {
-            trips: t,
-            clamped_dims,
-            peak_speed,
-            walls: _,
-        } => agrees(
+        Ok(found) => agrees(
             &[exact(trips), exact(dims), peak],
-            &[t as f64, clamped_dims as f64, peak_speed],
+            &[
+                found.trips as f64,
+                found.clamped_dims as f64,
+                found.peak_speed,
+            ],
         ),
-        Tier0Out::Refused(_) => false,
+        Err(_) => false,
     }
 }
 

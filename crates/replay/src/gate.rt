@@ -2,8 +2,9 @@
 ghost use Rattle.std.specs.Prelude.{◌≤◌};
 
 use crate::record::{Numbers, Words, exact, part};
-use conformal::{Calibration, GateSpec, Scores, Verdict};
+use conformal::{Calibration, GateSpec, Scores};
 use layout::places::{to_u8, to_u32};
+use refusal::Refusal;
 use sample::agrees;
 
 // Twelve numbers from word at on, for each of 16 time bins.
@@ -58,17 +59,17 @@ fn scores(w: &Words, x: &Numbers) -> Scores {
 }
 
 // Whether scores and a verdict, 1 for a trip, are those from word 49 on.
-fn is_trip(sc: Scores, v: Verdict, w: &Words, x: &Numbers) -> bool {
+fn is_trip(sc: Scores, v: Result<bool, Refusal>, w: &Words, x: &Numbers) -> bool {
     let z = sc.z;
     match v {
-        Verdict::Trips(t) => {
+        Ok(t) => {
             agrees(part(x, 49, 12), &z)
                 & agrees(
                     &[x[61], exact(w[62]), exact(w[63])],
                     &[sc.s, sc.fired as f64, exact(t as u64)],
                 )
         }
-        Verdict::Refused(_) => false,
+        Err(_) => false,
     }
 }
 

@@ -1,27 +1,24 @@
 // Records of the brake: the forecast, and the rows that brake and hold.
 use crate::config::{config, unread};
 use crate::record::{Numbers, Words, exact, header, part, rows_of};
-use brake::{BrakeOut, Sent};
+use brake::BrakeOut;
+use refusal::Refusal;
 use sample::agrees;
+use workspace::WallMasks;
 
 // Whether an answer has the verdict, margin, stop distance and count of entries from word 110 on.
-fn is_forecast(a: BrakeOut, w: &Words, x: &Numbers) -> bool {
+fn is_forecast(a: Result<BrakeOut, Refusal>, w: &Words, x: &Numbers) -> bool {
     match a {
-        BrakeOut::Accepted {
-            count,
-            margin,
-            feasible,
-            stop_dist,
-        } => agrees(
+        Ok(forecast) => agrees(
             &[exact(w[110]), x[111], x[112], exact(w[113])],
             &[
-                exact(feasible as u64),
-                margin,
-                stop_dist,
-                exact(count as u64),
+                exact(forecast.feasible as u64),
+                forecast.margin,
+                forecast.stop_dist,
+                exact(forecast.count as u64),
             ],
         ),
-        BrakeOut::Refused(_) => false,
+        Err(_) => false,
     }
 }
 
@@ -39,10 +36,10 @@ pub(crate) fn forecast_agrees(w: &Words, x: &Numbers) -> bool {
 }
 
 // Whether a row was written, as it is kept.
-fn is_sent(s: Sent, out: &[f64], kept: &[f64]) -> bool {
+fn is_sent(s: Result<WallMasks, Refusal>, out: &[f64], kept: &[f64]) -> bool {
     match s {
-        Sent::Done(_) => agrees(kept, out),
-        Sent::Refused(_) => false,
+        Ok(_) => agrees(kept, out),
+        Err(_) => false,
     }
 }
 

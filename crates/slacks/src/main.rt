@@ -67,7 +67,7 @@ fn put_card(to: &impl Print, n: u64, record: &[u8]) -> bool {
     let mut space = slack_buffer();
     let slacks: &mut [f64] = &mut space;
     let card = card::decode(record);
-    let outcome: BrakeOut = card::run(card, slacks);
+    let outcome: Result<BrakeOut, Refusal> = card::run(card, slacks);
     let answer = card::answer_of(outcome);
     put_line(to, n, answer.number, answer.count, slacks)
 }

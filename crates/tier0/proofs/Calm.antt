@@ -38,11 +38,10 @@ use Rattle.envelope.specs.declared.ClampMode.{ClampMode}
 use Rattle.envelope.specs.declared.ClampMode.TheVariants.{Off, Project}
 use Rattle.envelope.specs.declared.FuseConfig.{FuseConfig}
 use Rattle.tier0.specs.declared.Checks.{Checks}
-use Rattle.tier0.specs.declared.Tier0Out.TheVariants.{Passed}
 use Rattle.tier0.specs.Rule.{SPEED, REACH, arms, box_dims, Slow, clear, slow_zone, out_of_workspace, out_of_reach, leash, moved_inside, leashed, reached, moves, project, projection, moves_inside, row_masks, Projected, check_action}
 use Rattle.tier0.specs.Chunk.{raw_row, start_row, row_before, step_to, some_longer, peak_step, some_out_of_workspace, some_of, next_row, run_rows, projected_rows, check_chunk}
 use Rattle.tier0.specs.Promises.{accepts, raised, chunk_trips, action_trips, UnarmedAction, UnarmedChunk}
-use Rattle.tier0.specs.Refusals.{too_short}
+use Rattle.tier0.specs.Refusals.{too_short, passed_with}
 use Rattle.tier0.specs.Of.{checks_of, action_ruling, action_refusal, action_answer, action_out, chunk_ruling, chunk_refusal, chunk_answer, chunk_out}
 use Rattle.tier0.specs.Calm.{Calm, ChunkUntouched, ActionUntouched, Gated, ChunkAgain, ActionAgain, CalmPromised}
 use Rattle.tier0.proofs.Stays.{kept, padded_alike}
@@ -245,7 +244,7 @@ chunk_real f c t p aux rows k room e i j a b =
     let steps = and_left (peak_step f start rows s.dim k.horizon).sound _ (and_right (slow_zone f s p aux).sound _ (chunk_passes f c t p aux rows k room e).all_finite_lem) in
     dist_sees f (raw_row rows s.dim i) (row_before start rows s.dim i) s.dim j b (all_at (λ (m : ℕ). (step_to f start rows s.dim m).sound) k.horizon steps i a)
 
-module _ (f : Format) (c : FuseConfig) (t : Tables) (p aux rows : List Float) (k : Header) (l : List Float) (trips dims : ℕ) (speed : Float) (walls : WallMasks) (e : chunk_answer f c t p aux rows k (length l) ≡ Passed trips dims speed walls) (calm-so : Calm trips) where
+module _ (f : Format) (c : FuseConfig) (t : Tables) (p aux rows : List Float) (k : Header) (l : List Float) (trips dims : ℕ) (speed : Float) (walls : WallMasks) (e : chunk_answer f c t p aux rows k (length l) ≡ passed_with trips dims speed walls) (calm-so : Calm trips) where
   abbrev its_checks : Checks
   its_checks = checks_of f c
 
@@ -288,7 +287,7 @@ module _ (f : Format) (c : FuseConfig) (t : Tables) (p aux rows : List Float) (k
   chunk_again : ChunkUntouched f c t p aux rows k l dims walls → ChunkAgain f c t p aux rows k l trips speed
   chunk_again left =
       let same = ap (take (k.horizon * c.dim)) left.rows_as_they_came ∙ take_at rows (drop (length rows) l) (k.horizon * c.dim) left.all_rows_there in
-      record { same_rows = same; answers_as_before = ap (λ (x : List Float). chunk_answer f c t p aux x k (length l)) same ∙ e ∙ ap (λ (x : ℕ). Passed trips x speed walls) left.nothing_clamped ∙ ap (Passed trips 0 speed) left.no_wall_moved }
+      record { same_rows = same; answers_as_before = ap (λ (x : List Float). chunk_answer f c t p aux x k (length l)) same ∙ e ∙ ap (λ (x : ℕ). passed_with trips x speed walls) left.nothing_clamped ∙ ap (passed_with trips 0 speed) left.no_wall_moved }
 
 -- an action is read as far as a row goes
 module _ (f : Format) (s : Checks) (narrow : s.dim ≤ 8) (fits : spans s.shape s.dim s.pos_dim ≡ true) (p aux prev a b : List Float) (same : (j : ℕ) → j < s.dim → at b j ≡ at a j) where
@@ -314,7 +313,7 @@ module _ (f : Format) (s : Checks) (narrow : s.dim ≤ 8) (fits : spans s.shape 
   unfolding check_action
   read_action = rw (dist_same f b prev a prev s.dim same (λ j l. refl), read_outside, read_reach, same_padded, read_masks)
 
-module _ (f : Format) (c : FuseConfig) (t : Tables) (p aux prev a l : List Float) (trips dims : ℕ) (speed : Float) (walls : WallMasks) (e : action_answer f c t p aux prev a (length l) ≡ Passed trips dims speed walls) (calm-so : Calm trips) where
+module _ (f : Format) (c : FuseConfig) (t : Tables) (p aux prev a l : List Float) (trips dims : ℕ) (speed : Float) (walls : WallMasks) (e : action_answer f c t p aux prev a (length l) ≡ passed_with trips dims speed walls) (calm-so : Calm trips) where
   abbrev row_checks : Checks
   row_checks = checks_of f c
 
@@ -388,7 +387,7 @@ module _ (f : Format) (c : FuseConfig) (t : Tables) (p aux prev a l : List Float
   action_again : ActionUntouched f c t p aux prev a l dims walls → ActionAgain f c t p aux prev a l trips speed
   action_again left =
       let same = ap (take c.dim) left.row_as_it_came ∙ take_at (take c.dim a) (drop c.dim l) c.dim left.whole_row_there in
-      record { same_row = same; answers_as_before = ap (λ (x : List Float). action_answer f c t p aux prev x (length l)) same ∙ row_answer (length l) ∙ e ∙ ap (λ (x : ℕ). Passed trips x speed walls) left.row_not_clamped ∙ ap (Passed trips 0 speed) left.no_wall_moved }
+      record { same_row = same; answers_as_before = ap (λ (x : List Float). action_answer f c t p aux prev x (length l)) same ∙ row_answer (length l) ∙ e ∙ ap (λ (x : ℕ). passed_with trips x speed walls) left.row_not_clamped ∙ ap (passed_with trips 0 speed) left.no_wall_moved }
 
 -- ---- what is not armed moves nothing
 

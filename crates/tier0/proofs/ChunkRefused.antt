@@ -1,4 +1,5 @@
 -- A chunk: what is known where nothing that is lent is refused, and the whole answer in each case.
+use Rattle.std.specs.Prelude.{Err, Result}
 use Prim.Native.Nat.{ℕ, ◌*◌, ◌≤◌, ◌<◌, min}
 use mathlib.Core.Path.{◌≡◌, refl, ap, ◌∙◌}
 use mathlib.Core.Bool.{Bool, true, false, not}
@@ -28,11 +29,10 @@ use Rattle.envelope.specs.Refusals.{config_judged}
 use Rattle.envelope.specs.declared.FuseConfig.{FuseConfig}
 use Rattle.envelope.proofs.Accepted.{accepted, dim_most}
 use Rattle.tier0.specs.declared.Tier0Out.{Tier0Out}
-use Rattle.tier0.specs.declared.Tier0Out.TheVariants.{Passed, Refused}
 use Rattle.tier0.specs.declared.Checks.{Checks}
 use Rattle.tier0.specs.declared.JudgedChunk.{JudgedChunk}
 use Rattle.tier0.specs.Chunk.{check_chunk}
-use Rattle.tier0.specs.Refusals.{chunk_too_short, passed_for}
+use Rattle.tier0.specs.Refusals.{chunk_too_short, passed_for, passed_with}
 use Rattle.tier0.specs.Rule.{Judgement}
 use Rattle.tier0.specs.Of.{checks_of, judged_chunk_from, lent_to_chunk, chunk_ruling, chunk_refusal, chunk_answer, chunk_out}
 
@@ -121,14 +121,14 @@ module _ (f : Format) (c : FuseConfig) (t : Tables) (p aux rows : List Float) (k
     unfolding chunk_refusal
     number_is = refl
 
-    whole : {r : Tier0Out} {m : List Float} → Answered Refused (passed_for ruling.value) l written number r m
+    whole : {r : Result Tier0Out Refusal} {m : List Float} → Answered Err (passed_for ruling.value) l written number r m
         → (r ≡ chunk_answer f c t p aux rows k (length l)) × (m ≡ chunk_out f c t p aux rows k l)
     unfolding chunk_answer chunk_out
     whole w = (w.gives, w.leaves)
 
     pub lent_refused : (n : ℕ) → n ≡ refusal (before (length l)) → (n ≡ 0 → ⊥) → {r : Refusal} → r ≡ refused_for n
-        → (Refused r ≡ chunk_answer f c t p aux rows k (length l)) × (l ≡ chunk_out f c t p aux rows k l)
-    lent_refused n g y i = whole (by_lent Refused (passed_for ruling.value) l written (before (length l)) ruling.sound number_is g y i)
+        → (Err r ≡ chunk_answer f c t p aux rows k (length l)) × (l ≡ chunk_out f c t p aux rows k l)
+    lent_refused n g y i = whole (by_lent Err (passed_for ruling.value) l written (before (length l)) ruling.sound number_is g y i)
 
     module _ (g : refusal (before (length l)) ≡ 0) {s : Checks} {v : JudgedChunk} {m z : List Float} (es : s ≡ checks_of f c) (em : m ≡ replicate 512 +0)
         (ev : (v ≡ judged_chunk_from (check_chunk f s p aux rows m h)) × (z ≡ (check_chunk f s p aux rows m h).value.after.rows)) where
@@ -143,12 +143,12 @@ module _ (f : Format) (c : FuseConfig) (t : Tables) (p aux rows : List Float) (k
       sound_is : v.sound ≡ ruling.sound
       sound_is = ap (λ (x : JudgedChunk). x.sound) ruled
 
-      pub not_sound : v.sound ≡ false → {r : Refusal} → r ≡ refused_for 13 → (Refused r ≡ chunk_answer f c t p aux rows k (length l)) × (l ≡ chunk_out f c t p aux rows k l)
-      not_sound y i = whole (by-computed Refused (passed_for ruling.value) l written (before (length l)) ruling.sound number_is g sound_is y i)
+      pub not_sound : v.sound ≡ false → {r : Refusal} → r ≡ refused_for 13 → (Err r ≡ chunk_answer f c t p aux rows k (length l)) × (l ≡ chunk_out f c t p aux rows k l)
+      not_sound y i = whole (by-computed Err (passed_for ruling.value) l written (before (length l)) ruling.sound number_is g sound_is y i)
 
       pub passes : v.sound ≡ true → {o : List Float} {n : ℕ} → o ≡ over (at z) l (min (h * c.dim) (min n (length l))) → 512 ≤ n
-          → (Passed v.trips v.mask v.peak v.walls ≡ chunk_answer f c t p aux rows k (length l)) × (o ≡ chunk_out f c t p aux rows k l)
+          → (passed_with v.trips v.mask v.peak v.walls ≡ chunk_answer f c t p aux rows k (length l)) × (o ≡ chunk_out f c t p aux rows k l)
       passes y i b =
           let w = accepted_sizes (length l) g in
           let whole-rows = all_put l z (le_trans w.small b) w.out i in
-          whole (entry.accepted Refused (passed_for ruling.value) l written (before (length l)) ruling.sound number_is g sound_is y (rw ruled) (whole-rows ∙ rw ruled-rows))
+          whole (entry.accepted Err (passed_for ruling.value) l written (before (length l)) ruling.sound number_is g sound_is y (rw ruled) (whole-rows ∙ rw ruled-rows))

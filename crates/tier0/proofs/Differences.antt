@@ -1,4 +1,5 @@
 -- ACCEL and JERK move no row: with either armed or not an accepted chunk is judged alike but for the two, and an action, which has no differences, is answered alike.
+use Rattle.tier0.specs.Refusals.{passed_with}
 use Prim.Native.Nat.{ℕ}
 use mathlib.Core.Path.{◌≡◌, refl, sym, ap, ◌∙◌}
 use mathlib.Core.List.{List}
@@ -9,7 +10,6 @@ use Rattle.chunk.specs.declared.Header.{Header}
 use Rattle.conformal.specs.Rule.{Tables}
 use Rattle.envelope.specs.Promises.{armed_by}
 use Rattle.envelope.specs.declared.FuseConfig.{FuseConfig}
-use Rattle.tier0.specs.declared.Tier0Out.TheVariants.{Passed}
 use Rattle.tier0.specs.Rule.{arms, slow_zone, Projected}
 use Rattle.tier0.specs.Of.{checks_of, action_answer, action_out, chunk_ruling, chunk_answer, chunk_out}
 use Rattle.tier0.specs.Calm.{ButDifferences, SameButDifferences}
@@ -34,7 +34,7 @@ module _ (f : Format) (c : FuseConfig) (t : Tables) (bits : ℕ) (but : ButDiffe
   )
 
   module _ (rows : List Float) (k : Header) (l : List Float) (trips dims : ℕ) (speed : Float) (walls : WallMasks) (other moved : ℕ) (peak : Float) (masks : WallMasks)
-      (e : chunk_answer f c t p aux rows k (length l) ≡ Passed trips dims speed walls) (g : chunk_answer f rearmed t p aux rows k (length l) ≡ Passed other moved peak masks) where
+      (e : chunk_answer f c t p aux rows k (length l) ≡ passed_with trips dims speed walls) (g : chunk_answer f rearmed t p aux rows k (length l) ≡ passed_with other moved peak masks) where
     alike : JudgedAlike (chunk_ruling f rearmed p aux rows k.horizon).value (chunk_ruling f c p aux rows k.horizon).value
     alike = chunk_judged f t c bits c.zones c.absent_camera moves_so (zones_as_they_are c.zones) p aux p aux (λ j b. refl) refl refl zones_so rows k.horizon
 

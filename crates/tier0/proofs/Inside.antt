@@ -1,4 +1,5 @@
 -- Rows inside and outside the workspace: when WORKSPACE trips, that each distance from the centre is finite, and what the first move does.
+use Rattle.tier0.specs.Refusals.{passed_with}
 use Prim.Native.Nat.{ℕ, ◌+◌, ◌*◌, ◌≤◌, ◌<◌}
 use mathlib.Core.Path.{◌≡◌, refl, sym, ap, ◌∙◌}
 use mathlib.Core.Bool.{Bool, true, false, ◌&&◌, ◌||◌, and-true}
@@ -35,7 +36,6 @@ use Rattle.envelope.specs.declared.ClampMode.TheVariants.{Project}
 use Rattle.envelope.specs.declared.FuseConfig.{FuseConfig}
 use Rattle.envelope.proofs.Promises as config
 use Rattle.tier0.specs.declared.Checks.{Checks}
-use Rattle.tier0.specs.declared.Tier0Out.TheVariants.{Passed}
 use Rattle.tier0.specs.Rule.{WORKSPACE, arms, box_dims, slow_zone, out_of_workspace, moved_inside, moves_inside, row_masks, check_action}
 use Rattle.tier0.specs.Chunk.{raw_row, start_row, row_before, peak_step, some_of, some_out_of_workspace, check_chunk}
 use Rattle.tier0.specs.Of.{checks_from, checks_of, action_ruling, action_refusal, action_answer, action_out, chunk_ruling, chunk_refusal, chunk_answer, chunk_out}
@@ -174,7 +174,7 @@ margin_unread f c x y radius m is few = ap (checks_from c) ((config.promised).ma
 
 module _ (f : Format) (c : FuseConfig) (t : Tables) (p aux rows : List Float) (k : Header) where
   pub chunk_workspace : (room trips dims : ℕ) (speed : Float) (walls : WallMasks)
-      → chunk_answer f c t p aux rows k room ≡ Passed trips dims speed walls
+      → chunk_answer f c t p aux rows k room ≡ passed_with trips dims speed walls
       → raised WORKSPACE trips ≡ (arms (checks_of f c) WORKSPACE && some (λ (i : ℕ). row_outside f (checks_of f c) (raw_row rows c.dim i)) k.horizon)
   unfolding chunk_answer chunk_ruling checks_of
   chunk_workspace room trips dims speed walls e =
@@ -196,7 +196,7 @@ module _ (f : Format) (c : FuseConfig) (t : Tables) (p aux rows : List Float) (k
       let s = checks_of f c in
       sym (distance_computed f s (raw_row rows c.dim i) x y radius armed is) ∙ all_at (λ (m : ℕ). (out_of_workspace f s (raw_row rows c.dim m)).sound) k.horizon (each_checked room e) i l
 
-  module _ (l : List Float) (trips dims : ℕ) (speed : Float) (walls : WallMasks) (e : chunk_answer f c t p aux rows k (length l) ≡ Passed trips dims speed walls) where
+  module _ (l : List Float) (trips dims : ℕ) (speed : Float) (walls : WallMasks) (e : chunk_answer f c t p aux rows k (length l) ≡ passed_with trips dims speed walls) where
     abbrev s : Checks
     s = checks_of f c
 
@@ -208,7 +208,7 @@ module _ (f : Format) (c : FuseConfig) (t : Tables) (p aux rows : List Float) (k
 
 module _ (f : Format) (c : FuseConfig) (t : Tables) (p aux prev a : List Float) where
   pub action_workspace : (room trips dims : ℕ) (speed : Float) (walls : WallMasks)
-      → action_answer f c t p aux prev a room ≡ Passed trips dims speed walls
+      → action_answer f c t p aux prev a room ≡ passed_with trips dims speed walls
       → raised WORKSPACE trips ≡ (arms (checks_of f c) WORKSPACE && row_outside f (checks_of f c) a)
   unfolding action_answer action_ruling
   action_workspace room trips dims speed walls e =
@@ -228,7 +228,7 @@ module _ (f : Format) (c : FuseConfig) (t : Tables) (p aux prev a : List Float) 
   unfolding checks_of
   action_distances room e armed x y radius is = sym (distance_computed f (checks_of f c) a x y radius armed is) ∙ action_checked room e
 
-module _ (f : Format) (c : FuseConfig) (t : Tables) (p aux prev a l : List Float) (trips dims : ℕ) (speed : Float) (walls : WallMasks) (e : action_answer f c t p aux prev a (length l) ≡ Passed trips dims speed walls) where
+module _ (f : Format) (c : FuseConfig) (t : Tables) (p aux prev a l : List Float) (trips dims : ℕ) (speed : Float) (walls : WallMasks) (e : action_answer f c t p aux prev a (length l) ≡ passed_with trips dims speed walls) where
   abbrev s' : Checks
   s' = checks_of f c
 

@@ -1,4 +1,5 @@
 -- CONTACT and the leash of an accepted call: by the zones that the arm is inside, one by one, since each of their steps is finite.
+use Rattle.tier0.specs.Refusals.{passed_with}
 use Prim.Native.Nat.{ℕ, ◌<◌}
 use mathlib.Core.Path.{◌≡◌, refl, sym, ap, ◌∙◌}
 use mathlib.Core.Bool.{Bool, true, false, ◌&&◌, ◌||◌, false≢true, and-false}
@@ -27,7 +28,6 @@ use Rattle.envelope.specs.declared.Zones.{Zones}
 use Rattle.envelope.specs.declared.FuseConfig.{FuseConfig}
 use Rattle.envelope.proofs.Accepted.{step_max_finite}
 use Rattle.tier0.specs.declared.Checks.{Checks}
-use Rattle.tier0.specs.declared.Tier0Out.TheVariants.{Passed}
 use Rattle.tier0.specs.Rule.{SPEED, CONTACT, arms, Slow, clear, zone_in, slowest, slow_zone, leash, check_action}
 use Rattle.tier0.specs.Chunk.{some_longer, check_chunk}
 use Rattle.tier0.specs.Of.{checks_of, action_ruling, action_refusal, action_answer, chunk_ruling, chunk_refusal, chunk_answer}
@@ -196,7 +196,7 @@ module _ (f : Format) (c : FuseConfig) (t : Tables) (p aux : List Float) where
   -- ---- CONTACT
 
   pub chunk_contact : (rows : List Float) (k : Header) (room trips dims : ℕ) (speed : Float) (walls : WallMasks)
-      → chunk_answer f c t p aux rows k room ≡ Passed trips dims speed walls
+      → chunk_answer f c t p aux rows k room ≡ passed_with trips dims speed walls
       → raised CONTACT trips ≡ some (λ (z : ℕ). inside_at f (checks_of f c) p aux z && some_longer f (before_first f c p aux rows) rows c.dim (zone_found f (checks_of f c) p aux z).step k.horizon) (counted c.zones)
   unfolding chunk_answer chunk_ruling checks_of
   chunk_contact rows k room trips dims speed walls e =
@@ -205,7 +205,7 @@ module _ (f : Format) (c : FuseConfig) (t : Tables) (p aux : List Float) where
       ∙ tested f (checks_of f c) p aux (chunk_taken rows k room (ap accepts e)).zones_sound (λ (x : Float). some_longer f (before_first f c p aux rows) rows c.dim x k.horizon) (some_step_longer f (before_first f c p aux rows) rows c.dim k.horizon)
 
   pub action_contact : (prev a : List Float) (room trips dims : ℕ) (speed : Float) (walls : WallMasks)
-      → action_answer f c t p aux prev a room ≡ Passed trips dims speed walls
+      → action_answer f c t p aux prev a room ≡ passed_with trips dims speed walls
       → raised CONTACT trips ≡ some (λ (z : ℕ). inside_at f (checks_of f c) p aux z && lt (zone_found f (checks_of f c) p aux z).step (dist f a prev c.dim).value) (counted c.zones)
   unfolding action_answer action_ruling checks_of
   action_contact prev a room trips dims speed walls e =

@@ -1,4 +1,5 @@
 -- When each check of an accepted call is raised: exactly when it is armed and what it looks for is found in the rows as they came. A zone is told by its own numbers: by its distance where it is seen, else by the choice.
+use Rattle.tier0.specs.Refusals.{passed_with}
 use Prim.Native.Nat.{ℕ, ◌-◌}
 use mathlib.Core.Path.{◌≡◌, refl, sym, ap, ◌∙◌}
 use mathlib.Core.Bool.{Bool, true, false, ◌&&◌, false≢true, and-false}
@@ -20,7 +21,6 @@ use Rattle.envelope.specs.declared.FuseConfig.{FuseConfig}
 use Rattle.tier0.specs.declared.Checks.{Checks}
 use Rattle.tier0.specs.declared.Difference.{Difference}
 use Rattle.tier0.specs.declared.Difference.TheVariants.{Accel, Jerk}
-use Rattle.tier0.specs.declared.Tier0Out.TheVariants.{Passed}
 use Rattle.tier0.specs.Rule.{SPEED, ACCEL, JERK, REACH, CONTACT, arms, box_dims, Slow, seen, inside_unseen, out_of_reach}
 use Rattle.tier0.specs.Chunk.{raw_row, start_row, some_longer, some_of, exceeds, large_at, further, trip_of, too_large}
 use Rattle.tier0.specs.Promises.{raised, chunk_trips, action_trips, zone_found, inside_at, ZoneTold}
@@ -79,7 +79,7 @@ large_exactly : (f : Format) (s : Checks) (d : Difference) (q rows : List Float)
 unfolding too_large some_of
 large_exactly f s d q rows h = if_armed (arms s (trip_of d)) _
 
-module _ (f : Format) (c : FuseConfig) (t : Tables) (p aux rows : List Float) (k : Header) (room trips dims : ℕ) (speed : Float) (walls : WallMasks) (e : chunk_answer f c t p aux rows k room ≡ Passed trips dims speed walls) where
+module _ (f : Format) (c : FuseConfig) (t : Tables) (p aux rows : List Float) (k : Header) (room trips dims : ℕ) (speed : Float) (walls : WallMasks) (e : chunk_answer f c t p aux rows k room ≡ passed_with trips dims speed walls) where
   chunk_by_rule : trips ≡ chunk_trips f (checks_of f c) p aux rows (replicate 512 +0) k.horizon
   unfolding chunk_answer chunk_ruling
   chunk_by_rule = (walled.from_rule (chunk_refusal f c t p aux rows k room) (chunk_ruling f c p aux rows k.horizon).value trips dims speed walls e).same_trips
@@ -100,7 +100,7 @@ module _ (f : Format) (c : FuseConfig) (t : Tables) (p aux rows : List Float) (k
         no_further_trip = rw chunk_by_rule (chunk_trips_small f s p aux rows (replicate 512 +0) k.horizon);
       }
 
-module _ (f : Format) (c : FuseConfig) (t : Tables) (p aux prev a : List Float) (room trips dims : ℕ) (speed : Float) (walls : WallMasks) (e : action_answer f c t p aux prev a room ≡ Passed trips dims speed walls) where
+module _ (f : Format) (c : FuseConfig) (t : Tables) (p aux prev a : List Float) (room trips dims : ℕ) (speed : Float) (walls : WallMasks) (e : action_answer f c t p aux prev a room ≡ passed_with trips dims speed walls) where
   action_by_rule : trips ≡ action_trips f (checks_of f c) p aux prev a
   unfolding action_answer action_ruling
   action_by_rule = (walled.from_rule (action_refusal f c t p aux prev a room) (action_ruling f c p aux prev a).value trips dims speed walls e).same_trips

@@ -1,4 +1,5 @@
 -- An action: what is known where nothing that is lent is refused, and the whole answer in each case.
+use Rattle.std.specs.Prelude.{Err, Result}
 use Prim.Native.Nat.{ℕ, ◌≤◌, ◌<◌, min}
 use mathlib.Core.Path.{◌≡◌, refl, ap, ◌∙◌}
 use mathlib.Core.Bool.{Bool, true, false, not, ◌&&◌, ◌||◌}
@@ -27,11 +28,10 @@ use Rattle.envelope.specs.declared.Derived.{Derived}
 use Rattle.envelope.specs.declared.FuseConfig.{FuseConfig}
 use Rattle.envelope.proofs.Accepted.{accepted, dim_most}
 use Rattle.tier0.specs.declared.Tier0Out.{Tier0Out}
-use Rattle.tier0.specs.declared.Tier0Out.TheVariants.{Passed, Refused}
 use Rattle.tier0.specs.declared.Checks.{Checks}
 use Rattle.tier0.specs.declared.JudgedAction.{JudgedAction}
 use Rattle.tier0.specs.Rule.{Judgement, seen, check_action}
-use Rattle.tier0.specs.Refusals.{too_short, passed_for}
+use Rattle.tier0.specs.Refusals.{too_short, passed_for, passed_with}
 use Rattle.tier0.specs.Of.{checks_from, checks_of, judged_action_from, lent_to_action, action_ruling, action_refusal, action_answer, action_out}
 
 pub seen_parts : (p aux : List Float) (i j : ℕ) → seen p aux i j ≡ true → (i < length aux) × (j < length aux)
@@ -103,14 +103,14 @@ module _ (f : Format) (c : FuseConfig) (t : Tables) (p aux prev a : List Float) 
     unfolding action_refusal
     number_is = refl
 
-    whole : {r : Tier0Out} {m : List Float} → Answered Refused (passed_for ruling.value) l written number r m
+    whole : {r : Result Tier0Out Refusal} {m : List Float} → Answered Err (passed_for ruling.value) l written number r m
         → (r ≡ action_answer f c t p aux prev a (length l)) × (m ≡ action_out f c t p aux prev a l)
     unfolding action_answer action_out
     whole w = (w.gives, w.leaves)
 
     pub lent_refused : (k : ℕ) → k ≡ refusal (before (length l)) → (k ≡ 0 → ⊥) → {r : Refusal} → r ≡ refused_for k
-        → (Refused r ≡ action_answer f c t p aux prev a (length l)) × (l ≡ action_out f c t p aux prev a l)
-    lent_refused k e h g = whole (by_lent Refused (passed_for ruling.value) l written (before (length l)) ruling.sound number_is e h g)
+        → (Err r ≡ action_answer f c t p aux prev a (length l)) × (l ≡ action_out f c t p aux prev a l)
+    lent_refused k e h g = whole (by_lent Err (passed_for ruling.value) l written (before (length l)) ruling.sound number_is e h g)
 
     module _ (e : refusal (before (length l)) ≡ 0) {s : Checks} {v : JudgedAction} (es : s ≡ checks_of f c) (ev : v ≡ judged_action_from (check_action f s p aux prev a)) where
       ruled : v ≡ judged_action_from ruling
@@ -120,12 +120,12 @@ module _ (f : Format) (c : FuseConfig) (t : Tables) (p aux prev a : List Float) 
       sound_is : v.sound ≡ ruling.sound
       sound_is = ap (λ (x : JudgedAction). x.sound) ruled
 
-      pub not_sound : v.sound ≡ false → {r : Refusal} → r ≡ refused_for 13 → (Refused r ≡ action_answer f c t p aux prev a (length l)) × (l ≡ action_out f c t p aux prev a l)
-      not_sound h g = whole (by-computed Refused (passed_for ruling.value) l written (before (length l)) ruling.sound number_is e sound_is h g)
+      pub not_sound : v.sound ≡ false → {r : Refusal} → r ≡ refused_for 13 → (Err r ≡ action_answer f c t p aux prev a (length l)) × (l ≡ action_out f c t p aux prev a l)
+      not_sound h g = whole (by-computed Err (passed_for ruling.value) l written (before (length l)) ruling.sound number_is e sound_is h g)
 
       pub passes : v.sound ≡ true → {m : List Float} {k : ℕ} → m ≡ over (at v.at) l (min c.dim (min k (length l))) → 8 ≤ k
-          → (Passed v.trips v.mask v.peak v.walls ≡ action_answer f c t p aux prev a (length l)) × (m ≡ action_out f c t p aux prev a l)
+          → (passed_with v.trips v.mask v.peak v.walls ≡ action_answer f c t p aux prev a (length l)) × (m ≡ action_out f c t p aux prev a l)
       passes h g b =
           let w = accepted_sizes (length l) e in
           let whole_row = all_put l v.at (le_trans w.narrow b) w.out g in
-          whole (entry.accepted Refused (passed_for ruling.value) l written (before (length l)) ruling.sound number_is e sound_is h (rw ruled) (whole_row ∙ rw ruled))
+          whole (entry.accepted Err (passed_for ruling.value) l written (before (length l)) ruling.sound number_is e sound_is h (rw ruled) (whole_row ∙ rw ruled))

@@ -1,5 +1,6 @@
 -- What the masks of an accepted answer say, and how its rows go out: moved by the leash. The masks are those of the rule, a bit of clamped_dims is a row that goes out otherwise than it came, and a coordinate that a
 -- wall moved is another number afterwards.
+use Rattle.refusal.specs.declared.Refusal.{Refusal}
 use Prim.Native.Nat.{ℕ, zero, suc, ◌+◌, ◌*◌, ◌≤◌, ◌<◌}
 use mathlib.Core.Path.{◌≡◌, refl, sym, ap, ◌∙◌}
 use mathlib.Core.Bool.{Bool, true, false, not, ◌&&◌, ◌||◌, false≢true}
@@ -13,7 +14,7 @@ use lib.ListN.{drop, length, set, replicate}
 use lib.Seq.{get_or-set_same, get_or-set_other}
 use lib.Ieee.{Float, Format, nan, eq, ne}
 use Rattle.bits.specs.Bits.{bit, bits_where}
-use Rattle.std.specs.Prelude.{if◌then◌else◌}
+use Rattle.std.specs.Prelude.{if◌then◌else◌, Err, Result}
 use Rattle.bits.proofs.Bits.{bit_where, no_bits, bits_none, bits_or}
 use Rattle.refusal.specs.Order.{computed, ◌when◌}
 use Rattle.refusal.specs.Chain.{both_pass}
@@ -41,10 +42,9 @@ use Rattle.envelope.specs.Refusals.{config_judged}
 use Rattle.envelope.specs.declared.FuseConfig.{FuseConfig}
 use Rattle.tier0.specs.declared.Checks.{Checks}
 use Rattle.tier0.specs.declared.Tier0Out.{Tier0Out}
-use Rattle.tier0.specs.declared.Tier0Out.TheVariants.{Passed, Refused}
 use Rattle.tier0.specs.Rule.{WORKSPACE, SPEED, arms, box_dims, Slow, slow_zone, leash, moved_inside, leashed, moves, moved_dims, project, projection, moves_inside, row_masks, Judgement, check_action}
 use Rattle.tier0.specs.Chunk.{raw_row, row_before, put_row, next_row, run_rows, projected_rows, rows_masks, check_chunk}
-use Rattle.tier0.specs.Refusals.{answer_at}
+use Rattle.tier0.specs.Refusals.{answer_at, passed_with}
 use Rattle.tier0.specs.Of.{checks_of, lent_to_action, action_ruling, action_refusal, action_answer, action_out, lent_to_chunk, chunk_ruling, chunk_refusal, chunk_answer, chunk_out}
 use Rattle.tier0.specs.Promises.{trips_in, accepts, zone_now, before_first, zone_here, moved_row, ChunkWalls, ActionWalls}
 use Rattle.tier0.proofs.Refused as action
@@ -54,17 +54,17 @@ use Rattle.tier0.proofs.Promises.{row_at, below_rows}
 
 -- ---- an accepted answer is the rule's
 
-abbrev dims_in : Tier0Out → ℕ
-dims_in (Passed trips dims speed walls) = dims
-dims_in (Refused r) = 0
+abbrev dims_in : Result Tier0Out Refusal → ℕ
+dims_in (Ok o) = o.clamped_dims
+dims_in (Err r) = 0
 
-abbrev speed_in : Tier0Out → Float
-speed_in (Passed trips dims speed walls) = speed
-speed_in (Refused r) = +0
+abbrev speed_in : Result Tier0Out Refusal → Float
+speed_in (Ok o) = o.peak_speed
+speed_in (Err r) = +0
 
-abbrev masks_in : Tier0Out → WallMasks
-masks_in (Passed trips dims speed walls) = walls
-masks_in (Refused r) = unmoved
+abbrev masks_in : Result Tier0Out Refusal → WallMasks
+masks_in (Ok o) = o.walls
+masks_in (Err r) = unmoved
 
 -- its number is 0, and its bits, speed and masks are those that were judged
 pub record FromRule (n : ℕ) (j : Judgement) (trips dims : ℕ) (speed : Float) (walls : WallMasks) : Type 0 where
@@ -74,7 +74,7 @@ pub record FromRule (n : ℕ) (j : Judgement) (trips dims : ℕ) (speed : Float)
   pub same_speed : speed ≡ j.peak
   pub same_walls : walls ≡ j.walls
 
-pub from_rule : (n : ℕ) (j : Judgement) (trips dims : ℕ) (speed : Float) (walls : WallMasks) → answer_at n j ≡ Passed trips dims speed walls → FromRule n j trips dims speed walls
+pub from_rule : (n : ℕ) (j : Judgement) (trips dims : ℕ) (speed : Float) (walls : WallMasks) → answer_at n j ≡ passed_with trips dims speed walls → FromRule n j trips dims speed walls
 from_rule zero j trips dims speed walls e = record { accepted = refl; same_trips = sym (ap trips_in e); same_dims = sym (ap dims_in e); same_speed = sym (ap speed_in e); same_walls = sym (ap masks_in e) }
 from_rule (suc n) j trips dims speed walls e = absurd (false≢true (ap accepts e))
 
@@ -213,7 +213,7 @@ moves_same f s z p isFirst q r a same = rw (pulled_same f (leash (arms s SPEED) 
 
 -- ---- check_chunk
 
-module _ (f : Format) (c : FuseConfig) (t : Tables) (p aux rows : List Float) (k : Header) (l : List Float) (trips dims : ℕ) (speed : Float) (walls : WallMasks) (e : chunk_answer f c t p aux rows k (length l) ≡ Passed trips dims speed walls) where
+module _ (f : Format) (c : FuseConfig) (t : Tables) (p aux rows : List Float) (k : Header) (l : List Float) (trips dims : ℕ) (speed : Float) (walls : WallMasks) (e : chunk_answer f c t p aux rows k (length l) ≡ passed_with trips dims speed walls) where
   abbrev s : Checks
   s = checks_of f c
 
@@ -307,7 +307,7 @@ module _ (f : Format) (c : FuseConfig) (t : Tables) (p aux rows : List Float) (k
 
 -- ---- check_action
 
-module _ (f : Format) (c : FuseConfig) (t : Tables) (p aux prev a l : List Float) (trips dims : ℕ) (speed : Float) (walls : WallMasks) (e : action_answer f c t p aux prev a (length l) ≡ Passed trips dims speed walls) where
+module _ (f : Format) (c : FuseConfig) (t : Tables) (p aux prev a l : List Float) (trips dims : ℕ) (speed : Float) (walls : WallMasks) (e : action_answer f c t p aux prev a (length l) ≡ passed_with trips dims speed walls) where
   abbrev s' : Checks
   s' = checks_of f c
 

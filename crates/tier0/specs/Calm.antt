@@ -1,5 +1,6 @@
 -- A calm chunk is not touched: what is promised of an accepted call that raises no check which can move a row, when each check is raised, and that ACCEL and JERK move none.
 -- `proofs/Calm.calm` is all of it. It is said of every configuration: of a box and a disc, of none to four zones, and under either choice for an absent camera.
+use Rattle.tier0.specs.Refusals.{passed_with}
 use Rattle.std.specs.Prelude.{ℕ, ◌-◌, ◌*◌, ◌<◌, ◌≡◌, Bool, true, false, ◌&&◌, List, [], ◌∷◌, ◌++◌, length, take, drop, Float, if◌then◌else◌}
 use Rattle.std.specs.Float.{Format}
 use Rattle.std.specs.Float.Ieee.{mul, lt, le}
@@ -18,7 +19,6 @@ use Rattle.envelope.specs.declared.Contact.{Contact}
 use Rattle.envelope.specs.declared.Contact.TheVariants.{None, Zone}
 use Rattle.envelope.specs.declared.FuseConfig.{FuseConfig}
 use Rattle.tier0.specs.declared.Checks.{Checks}
-use Rattle.tier0.specs.declared.Tier0Out.TheVariants.{Passed}
 use Rattle.tier0.specs.Rule.{WORKSPACE, SPEED, ACCEL, JERK, REACH, CONTACT, arms, box_dims, seen, inside_unseen, slow_zone, moved_inside, leashed, reached}
 use Rattle.tier0.specs.Chunk.{raw_row}
 use Rattle.tier0.specs.Of.{checks_of, action_answer, action_out, chunk_answer, chunk_out}
@@ -116,11 +116,11 @@ pub record Gated (f : Format) (s : Checks) (p aux : List Float) : Type 0 where
 
 pub record ChunkAgain (f : Format) (c : FuseConfig) (t : Tables) (p aux rows : List Float) (k : Header) (l : List Float) (trips : ℕ) (speed : Float) : Type 0 where
   pub same_rows : take (k.horizon * c.dim) (chunk_out f c t p aux rows k l) ≡ rows
-  pub answers_as_before : chunk_answer f c t p aux (take (k.horizon * c.dim) (chunk_out f c t p aux rows k l)) k (length l) ≡ Passed trips 0 speed unmoved
+  pub answers_as_before : chunk_answer f c t p aux (take (k.horizon * c.dim) (chunk_out f c t p aux rows k l)) k (length l) ≡ passed_with trips 0 speed unmoved
 
 pub record ActionAgain (f : Format) (c : FuseConfig) (t : Tables) (p aux prev a l : List Float) (trips : ℕ) (speed : Float) : Type 0 where
   pub same_row : take c.dim (action_out f c t p aux prev a l) ≡ take c.dim a
-  pub answers_as_before : action_answer f c t p aux prev (take c.dim (action_out f c t p aux prev a l)) (length l) ≡ Passed trips 0 speed unmoved
+  pub answers_as_before : action_answer f c t p aux prev (take c.dim (action_out f c t p aux prev a l)) (length l) ≡ passed_with trips 0 speed unmoved
 
 -- ---- ACCEL and JERK move no row
 
@@ -141,27 +141,27 @@ pub record SameButDifferences (trips dims : ℕ) (speed : Float) (walls : WallMa
 pub record CalmPromised : Type 0 where
   pub chunk_exactly :
       (f : Format) (c : FuseConfig) (t : Tables) (p aux rows : List Float) (k : Header) (room trips dims : ℕ) (speed : Float) (walls : WallMasks)
-      → chunk_answer f c t p aux rows k room ≡ Passed trips dims speed walls → TripsExactly f (checks_of f c) p aux (chunk_found f c p aux rows k.horizon) trips
+      → chunk_answer f c t p aux rows k room ≡ passed_with trips dims speed walls → TripsExactly f (checks_of f c) p aux (chunk_found f c p aux rows k.horizon) trips
   pub action_exactly :
       (f : Format) (c : FuseConfig) (t : Tables) (p aux prev a : List Float) (room trips dims : ℕ) (speed : Float) (walls : WallMasks)
-      → action_answer f c t p aux prev a room ≡ Passed trips dims speed walls → TripsExactly f (checks_of f c) p aux (action_found f c p aux prev a) trips
+      → action_answer f c t p aux prev a room ≡ passed_with trips dims speed walls → TripsExactly f (checks_of f c) p aux (action_found f c p aux prev a) trips
   pub calm_chunk :
       (f : Format) (c : FuseConfig) (t : Tables) (p aux rows : List Float) (k : Header) (l : List Float) (trips dims : ℕ) (speed : Float) (walls : WallMasks)
-      → chunk_answer f c t p aux rows k (length l) ≡ Passed trips dims speed walls → Calm trips → ChunkUntouched f c t p aux rows k l dims walls
+      → chunk_answer f c t p aux rows k (length l) ≡ passed_with trips dims speed walls → Calm trips → ChunkUntouched f c t p aux rows k l dims walls
   pub calm_action :
       (f : Format) (c : FuseConfig) (t : Tables) (p aux prev a l : List Float) (trips dims : ℕ) (speed : Float) (walls : WallMasks)
-      → action_answer f c t p aux prev a (length l) ≡ Passed trips dims speed walls → Calm trips → ActionUntouched f c t p aux prev a l dims walls
+      → action_answer f c t p aux prev a (length l) ≡ passed_with trips dims speed walls → Calm trips → ActionUntouched f c t p aux prev a l dims walls
   pub gated : (f : Format) (s : Checks) (p aux : List Float) → Gated f s p aux
   pub calm_chunk_again :
       (f : Format) (c : FuseConfig) (t : Tables) (p aux rows : List Float) (k : Header) (l : List Float) (trips dims : ℕ) (speed : Float) (walls : WallMasks)
-      → chunk_answer f c t p aux rows k (length l) ≡ Passed trips dims speed walls → Calm trips → ChunkAgain f c t p aux rows k l trips speed
+      → chunk_answer f c t p aux rows k (length l) ≡ passed_with trips dims speed walls → Calm trips → ChunkAgain f c t p aux rows k l trips speed
   pub calm_action_again :
       (f : Format) (c : FuseConfig) (t : Tables) (p aux prev a l : List Float) (trips dims : ℕ) (speed : Float) (walls : WallMasks)
-      → action_answer f c t p aux prev a (length l) ≡ Passed trips dims speed walls → Calm trips → ActionAgain f c t p aux prev a l trips speed
+      → action_answer f c t p aux prev a (length l) ≡ passed_with trips dims speed walls → Calm trips → ActionAgain f c t p aux prev a l trips speed
   -- whichever of the two are armed, an accepted chunk leaves the same output and answers alike but for them
   pub differences_move_nothing :
       (f : Format) (c : FuseConfig) (t : Tables) (bits : ℕ) → ButDifferences c.armed bits → (p aux rows : List Float) (k : Header) (l : List Float) (trips dims : ℕ) (speed : Float) (walls : WallMasks) (other moved : ℕ) (peak : Float) (masks : WallMasks)
-      → chunk_answer f c t p aux rows k (length l) ≡ Passed trips dims speed walls → chunk_answer f (armed_by c bits) t p aux rows k (length l) ≡ Passed other moved peak masks
+      → chunk_answer f c t p aux rows k (length l) ≡ passed_with trips dims speed walls → chunk_answer f (armed_by c bits) t p aux rows k (length l) ≡ passed_with other moved peak masks
       → (chunk_out f (armed_by c bits) t p aux rows k l ≡ chunk_out f c t p aux rows k l) × SameButDifferences trips dims speed walls other moved peak masks
   -- an action has no differences, so it is answered alike, refusals included
   pub no_differences_of_one_row :

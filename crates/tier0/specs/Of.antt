@@ -1,5 +1,6 @@
 -- The rules at the declared structs.
-use Rattle.std.specs.Prelude.{ℕ, ◌*◌, not, ◌&&◌, List, [], ◌∷◌, ◌++◌, eqb, length, replicate, Float}
+use Rattle.refusal.specs.declared.Refusal.{Refusal}
+use Rattle.std.specs.Prelude.{ℕ, ◌*◌, not, ◌&&◌, List, [], ◌∷◌, ◌++◌, eqb, length, replicate, Float, Result}
 use Rattle.std.specs.Float.{Format}
 use Rattle.refusal.specs.Order.{Judged, width, short, not_finite, computed, ◌when◌, refusal}
 use Rattle.fmath.specs.Answer.{some_lent_not_finite}
@@ -120,7 +121,7 @@ module _ (f : Format) (c : FuseConfig) (t : Tables) (p aux prev a : List Float) 
   unfoldable pub action_refusal : ℕ → ℕ
   action_refusal room = refusal (config_judged f c t ++ lent_to_action c p aux prev a room ((computed when not ruling.sound) ∷ []))
 
-  unfoldable pub action_answer : ℕ → Tier0Out
+  unfoldable pub action_answer : ℕ → Result Tier0Out Refusal
   action_answer room = answer_at (action_refusal room) ruling.value
 
   unfoldable pub action_out : List Float → List Float
@@ -148,7 +149,7 @@ module _ (f : Format) (c : FuseConfig) (t : Tables) (p aux rows : List Float) (k
   unfoldable pub chunk_refusal : ℕ → ℕ
   chunk_refusal room = refusal (config_judged f c t ++ (chunk_reasons k (length rows) ++ lent_to_chunk c p aux rows k room ((computed when not ruled.sound) ∷ [])))
 
-  unfoldable pub chunk_answer : ℕ → Tier0Out
+  unfoldable pub chunk_answer : ℕ → Result Tier0Out Refusal
   chunk_answer room = answer_at (chunk_refusal room) ruled.value
 
   unfoldable pub chunk_out : List Float → List Float

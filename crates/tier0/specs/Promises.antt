@@ -1,6 +1,8 @@
 -- What is promised of the answers of `check_chunk` and `check_action`, and what follows from the rules that they cite. `proofs/Zones.promised` is all of it; a chunk that is
 -- not touched has a file of its own, `Calm`. A projected row that passes its check again is not promised.
-use Rattle.std.specs.Prelude.{ℕ, ◌+◌, ◌-◌, ◌*◌, ◌/◌, ◌%◌, ◌≤◌, ◌<◌, min, ◌≡◌, Bool, true, false, not, ◌&&◌, ◌||◌, ◌⊎◌, List, [], ◌∷◌, eqb, length, replicate, Float, if◌then◌else◌}
+use Rattle.tier0.specs.Refusals.{passed_with}
+use Rattle.refusal.specs.declared.Refusal.{Refusal}
+use Rattle.std.specs.Prelude.{ℕ, ◌+◌, ◌-◌, ◌*◌, ◌/◌, ◌%◌, ◌≤◌, ◌<◌, min, ◌≡◌, Bool, true, false, not, ◌&&◌, ◌||◌, ◌⊎◌, List, [], ◌∷◌, eqb, length, replicate, Float, if◌then◌else◌, Err, Result}
 use Rattle.std.specs.Float.{Format}
 use Rattle.std.specs.Float.Ieee.{mul, lt, le, eq}
 use Rattle.bits.specs.Bits.{bit, bits_where}
@@ -31,7 +33,6 @@ use Rattle.envelope.specs.declared.Contact.{Contact}
 use Rattle.envelope.specs.declared.Zones.{Zones}
 use Rattle.envelope.specs.declared.FuseConfig.{FuseConfig}
 use Rattle.tier0.specs.declared.Tier0Out.{Tier0Out}
-use Rattle.tier0.specs.declared.Tier0Out.TheVariants.{Passed, Refused}
 use Rattle.tier0.specs.declared.Checks.{Checks}
 use Rattle.tier0.specs.declared.Difference.TheVariants.{Accel, Jerk}
 use Rattle.tier0.specs.Rule.{WORKSPACE, SPEED, ACCEL, JERK, REACH, CONTACT, weight, arms, box_dims, Slow, clear, seen, inside_unseen, zone_step, zone_in, slowest, slow_zone, out_of_workspace, out_of_reach, leash, moved_inside, reached, moves_inside, row_masks, check_action}
@@ -39,14 +40,14 @@ use Rattle.tier0.specs.Chunk.{raw_row, start_row, row_before, step_to, bends, jo
 use Rattle.tier0.specs.Of.{checks_of, action_answer, action_out, chunk_answer, chunk_out}
 
 -- the trips of an answer: none where it is refused
-abbrev pub trips_in : Tier0Out → ℕ
-trips_in (Passed trips clamped peak walls) = trips
-trips_in (Refused r) = 0
+abbrev pub trips_in : Result Tier0Out Refusal → ℕ
+trips_in (Ok o) = o.trips
+trips_in (Err r) = 0
 
 -- nothing is refused
-abbrev pub accepts : Tier0Out → Bool
-accepts (Passed trips clamped peak walls) = true
-accepts (Refused r) = false
+abbrev pub accepts : Result Tier0Out Refusal → Bool
+accepts (Ok o) = true
+accepts (Err r) = false
 
 -- a bit of the trips is raised
 abbrev pub raised : ℕ → ℕ → Bool
@@ -495,18 +496,18 @@ pub record Promised : Type 0 where
   pub action_may_touch : (f : Format) (c : FuseConfig) (t : Tables) (p aux prev a : List Float) (room : ℕ) → ActionTouched f c t p aux prev a room
   pub chunk_walls :
       (f : Format) (c : FuseConfig) (t : Tables) (p aux rows : List Float) (k : Header) (l : List Float) (trips dims : ℕ) (speed : Float) (walls : WallMasks)
-      → chunk_answer f c t p aux rows k (length l) ≡ Passed trips dims speed walls → ChunkWalls f c t p aux rows k l dims walls
+      → chunk_answer f c t p aux rows k (length l) ≡ passed_with trips dims speed walls → ChunkWalls f c t p aux rows k l dims walls
   pub action_walls :
       (f : Format) (c : FuseConfig) (t : Tables) (p aux prev a l : List Float) (trips dims : ℕ) (speed : Float) (walls : WallMasks)
-      → action_answer f c t p aux prev a (length l) ≡ Passed trips dims speed walls → ActionWalls f c t p aux prev a l dims walls
+      → action_answer f c t p aux prev a (length l) ≡ passed_with trips dims speed walls → ActionWalls f c t p aux prev a l dims walls
   -- WORKSPACE is raised exactly when it is armed and some row, as it came, is past the edge of a disc or has a shared coordinate beyond its walls
   pub chunk_workspace :
       (f : Format) (c : FuseConfig) (t : Tables) (p aux rows : List Float) (k : Header) (room trips dims : ℕ) (speed : Float) (walls : WallMasks)
-      → chunk_answer f c t p aux rows k room ≡ Passed trips dims speed walls
+      → chunk_answer f c t p aux rows k room ≡ passed_with trips dims speed walls
       → raised WORKSPACE trips ≡ (arms (checks_of f c) WORKSPACE && some (λ (i : ℕ). row_outside f (checks_of f c) (raw_row rows c.dim i)) k.horizon)
   pub action_workspace :
       (f : Format) (c : FuseConfig) (t : Tables) (p aux prev a : List Float) (room trips dims : ℕ) (speed : Float) (walls : WallMasks)
-      → action_answer f c t p aux prev a room ≡ Passed trips dims speed walls
+      → action_answer f c t p aux prev a room ≡ passed_with trips dims speed walls
       → raised WORKSPACE trips ≡ (arms (checks_of f c) WORKSPACE && row_outside f (checks_of f c) a)
   -- where it is armed, the distance of every row from the centre of a disc is finite, under either ClampMode and whatever else is outside: a call with another is refused
   pub chunk_distances :
@@ -518,11 +519,11 @@ pub record Promised : Type 0 where
   -- CONTACT is raised exactly when it is armed and some step exceeds the step of some zone that the arm is inside
   pub chunk_contact :
       (f : Format) (c : FuseConfig) (t : Tables) (p aux rows : List Float) (k : Header) (room trips dims : ℕ) (speed : Float) (walls : WallMasks)
-      → chunk_answer f c t p aux rows k room ≡ Passed trips dims speed walls
+      → chunk_answer f c t p aux rows k room ≡ passed_with trips dims speed walls
       → raised CONTACT trips ≡ some (λ (z : ℕ). inside_at f (checks_of f c) p aux z && some_longer f (before_first f c p aux rows) rows c.dim (zone_found f (checks_of f c) p aux z).step k.horizon) (counted c.zones)
   pub action_contact :
       (f : Format) (c : FuseConfig) (t : Tables) (p aux prev a : List Float) (room trips dims : ℕ) (speed : Float) (walls : WallMasks)
-      → action_answer f c t p aux prev a room ≡ Passed trips dims speed walls
+      → action_answer f c t p aux prev a room ≡ passed_with trips dims speed walls
       → raised CONTACT trips ≡ some (λ (z : ℕ). inside_at f (checks_of f c) p aux z && lt (zone_found f (checks_of f c) p aux z).step (dist f a prev c.dim).value) (counted c.zones)
   -- where a leash is armed it is the least of the armed steps, and one of them
   pub chunk_leash : (f : Format) (c : FuseConfig) (t : Tables) (p aux rows : List Float) (k : Header) (room : ℕ) → accepts (chunk_answer f c t p aux rows k room) ≡ true → LeashTold f (checks_of f c) p aux
@@ -530,21 +531,21 @@ pub record Promised : Type 0 where
   -- under Project each row goes out as that leash moves it, from the row that went out before it, the first from what stands before row 0
   pub chunk_moved :
       (f : Format) (c : FuseConfig) (t : Tables) (p aux rows : List Float) (k : Header) (l : List Float) (trips dims : ℕ) (speed : Float) (walls : WallMasks)
-      → chunk_answer f c t p aux rows k (length l) ≡ Passed trips dims speed walls → c.clamp ≡ Project → (i j : ℕ) → i < k.horizon → j < (checks_of f c).dim
+      → chunk_answer f c t p aux rows k (length l) ≡ passed_with trips dims speed walls → c.clamp ≡ Project → (i j : ℕ) → i < k.horizon → j < (checks_of f c).dim
       → at (chunk_out f c t p aux rows k l) (i * (checks_of f c).dim + j) ≡ at (moved_row f (checks_of f c) p aux (eqb i 0) (row_before (before_first f c p aux rows) (chunk_out f c t p aux rows k l) (checks_of f c).dim i) (raw_row rows (checks_of f c).dim i)).value j
   pub action_moved :
       (f : Format) (c : FuseConfig) (t : Tables) (p aux prev a l : List Float) (trips dims : ℕ) (speed : Float) (walls : WallMasks)
-      → action_answer f c t p aux prev a (length l) ≡ Passed trips dims speed walls → c.clamp ≡ Project → (j : ℕ) → j < (checks_of f c).dim
+      → action_answer f c t p aux prev a (length l) ≡ passed_with trips dims speed walls → c.clamp ≡ Project → (j : ℕ) → j < (checks_of f c).dim
       → at (action_out f c t p aux prev a l) j ≡ at (moved_row f (checks_of f c) p aux true prev (padded a (checks_of f c).dim)).value j
   -- one that is not out of the workspace goes out as leash and reach alone move it
   pub chunk_inside_stays :
       (f : Format) (c : FuseConfig) (t : Tables) (p aux rows : List Float) (k : Header) (l : List Float) (trips dims : ℕ) (speed : Float) (walls : WallMasks)
-      → chunk_answer f c t p aux rows k (length l) ≡ Passed trips dims speed walls → c.clamp ≡ Project → (i j : ℕ) → i < k.horizon → j < (checks_of f c).dim
+      → chunk_answer f c t p aux rows k (length l) ≡ passed_with trips dims speed walls → c.clamp ≡ Project → (i j : ℕ) → i < k.horizon → j < (checks_of f c).dim
       → (out_of_workspace f (checks_of f c) (raw_row rows (checks_of f c).dim i)).value ≡ false
       → at (chunk_out f c t p aux rows k l) (i * (checks_of f c).dim + j) ≡ at (leashed_row f (checks_of f c) p aux (eqb i 0) (row_before (before_first f c p aux rows) (chunk_out f c t p aux rows k l) (checks_of f c).dim i) (raw_row rows (checks_of f c).dim i)).value j
   pub action_inside_stays :
       (f : Format) (c : FuseConfig) (t : Tables) (p aux prev a l : List Float) (trips dims : ℕ) (speed : Float) (walls : WallMasks)
-      → action_answer f c t p aux prev a (length l) ≡ Passed trips dims speed walls → c.clamp ≡ Project → (j : ℕ) → j < (checks_of f c).dim
+      → action_answer f c t p aux prev a (length l) ≡ passed_with trips dims speed walls → c.clamp ≡ Project → (j : ℕ) → j < (checks_of f c).dim
       → (out_of_workspace f (checks_of f c) a).value ≡ false
       → at (action_out f c t p aux prev a l) j ≡ at (leashed_row f (checks_of f c) p aux true prev (padded a (checks_of f c).dim)).value j
   -- with more zones the leash is not longer

@@ -5,7 +5,6 @@ ghost use Rattle.std.specs.Prelude.{◌≡◌, true, ◌*◌, ◌≤◌, ◌<◌
 ghost use Rattle.std.specs.Float.{binary64};
 ghost use Rattle.conformal.specs.Of.{tables};
 ghost use Rattle.workspace.specs.Shape.{spans};
-ghost use Rattle.tier0.specs.declared.Tier0Out.TheVariants.{Passed};
 ghost use Rattle.tier0.specs.Rule.{check_action};
 ghost use Rattle.tier0.specs.Chunk.{check_chunk};
 ghost use Rattle.tier0.specs.Of.{checks_from, judged_action_from, judged_chunk_from, action_answer, action_out, chunk_answer, chunk_out};
@@ -29,16 +28,13 @@ mod trips;
 mod walls;
 mod zone;
 
-// The trips, the coordinates that projection moved, the greatest speed and the walls that moved a row, or why there are none.
+// The trips, the coordinates that projection moved, the greatest speed and the walls that moved a row.
 #[derive(Clone, Copy)]
-pub enum Tier0Out {
-    Passed {
-        trips: u32,
-        clamped_dims: u32,
-        peak_speed: f64,
-        walls: WallMasks,
-    },
-    Refused(Refusal),
+pub struct Tier0Out {
+    pub trips: u32,
+    pub clamped_dims: u32,
+    pub peak_speed: f64,
+    pub walls: WallMasks,
 }
 
 // What the checks read of a configuration, and of what is derived from it.
@@ -155,18 +151,6 @@ fn checks_of(c: FuseConfig, d: Derived) -> Checks
     }
 }
 
-// The answer where nothing is refused.
-fn found(trips: u32, clamped_dims: u32, peak_speed: f64, walls: WallMasks) -> Tier0Out
-    ensures { result ≡ Passed trips clamped_dims peak_speed walls }
-{
-    Tier0Out::Passed {
-        trips,
-        clamped_dims,
-        peak_speed,
-        walls,
-    }
-}
-
 // ---- the check of one action
 
 // Trips on the action as it came, its speed, and its projection.
@@ -215,22 +199,27 @@ pub fn check_action(
     prev: &[f64],
     a: &[f64],
     out: &mut [f64],
-) -> Tier0Out
+) -> Result<Tier0Out, Refusal>
     ensures { (result ≡ action_answer binary64 c (tables center.now scale.now) pos.now aux.now prev.now a.now (length out.old)) × (out.new ≡ action_out binary64 c (tables center.now scale.now) pos.now aux.now prev.now a.now out.old) }
 {
     let compiled = envelope::compile(c, center, scale);
     let number = action_refusal(c, compiled.number, pos, aux, prev, a, out.len());
     if number != 0 {
-        return Tier0Out::Refused(Refusal::of(number));
+        return Err(Refusal::of(number));
     }
     let s = checks_of(c, compiled.derived);
     let v = judge_action(s, pos, aux, prev, a);
     if !v.sound {
-        return Tier0Out::Refused(Refusal::of(Refusal::COMPUTED));
+        return Err(Refusal::of(Refusal::COMPUTED));
     }
     let at = v.at;
     fmath::put(&at, c.dim, out);
-    found(v.trips, v.mask, v.peak, v.walls)
+    Ok(Tier0Out {
+        trips: v.trips,
+        clamped_dims: v.mask,
+        peak_speed: v.peak,
+        walls: v.walls,
+    })
 }
 
 // ---- the check of a chunk
@@ -290,21 +279,26 @@ pub fn check_chunk(
     rows: &[f64],
     header: Header,
     out: &mut [f64],
-) -> Tier0Out
+) -> Result<Tier0Out, Refusal>
     ensures { (result ≡ chunk_answer binary64 c (tables center.now scale.now) pos.now aux.now rows.now header (length out.old)) × (out.new ≡ chunk_out binary64 c (tables center.now scale.now) pos.now aux.now rows.now header out.old) }
 {
     let compiled = envelope::compile(c, center, scale);
     let number = chunk_refusal(c, compiled.number, pos, aux, rows, header, out.len());
     if number != 0 {
-        return Tier0Out::Refused(Refusal::of(number));
+        return Err(Refusal::of(number));
     }
     let s = checks_of(c, compiled.derived);
     let h = header.horizon as usize;
     let mut all = [0.0; 512];
     let v = judge_chunk(s, pos, aux, rows, h, &mut all);
     if !v.sound {
-        return Tier0Out::Refused(Refusal::of(Refusal::COMPUTED));
+        return Err(Refusal::of(Refusal::COMPUTED));
     }
     fmath::put(&all, h * c.dim, out);
-    found(v.trips, v.mask, v.peak, v.walls)
+    Ok(Tier0Out {
+        trips: v.trips,
+        clamped_dims: v.mask,
+        peak_speed: v.peak,
+        walls: v.walls,
+    })
 }

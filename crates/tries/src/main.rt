@@ -106,19 +106,15 @@ fn say_refusal(to: &impl Print, r: Refusal) -> bool {
 }
 
 // The line of an answer; whether it was written.
-fn say_answer(to: &impl Print, a: Tier0Out, row: &[f64; 8]) -> bool {
+fn say_answer(to: &impl Print, a: Result<Tier0Out, Refusal>, row: &[f64; 8]) -> bool {
     match a {
-        Tier0Out::Passed {
-            trips,
-            clamped_dims,
-            peak_speed,
-            walls,
-        } => {
+        Ok(found) => {
+            let walls = found.walls;
             say(to, "0 ")
-                & say_count(to, trips as u64)
+                & say_count(to, found.trips as u64)
                 & say(to, " ")
-                & say_count(to, clamped_dims as u64)
-                & say_number(to, peak_speed)
+                & say_count(to, found.clamped_dims as u64)
+                & say_number(to, found.peak_speed)
                 & say_row(to, row)
                 & say(to, " ")
                 & say_count(to, walls.low as u64)
@@ -126,7 +122,7 @@ fn say_answer(to: &impl Print, a: Tier0Out, row: &[f64; 8]) -> bool {
                 & say_count(to, walls.high as u64)
                 & say(to, "\n")
         }
-        Tier0Out::Refused(r) => say_refusal(to, r),
+        Err(r) => say_refusal(to, r),
     }
 }
 

@@ -1,23 +1,17 @@
 -- The answers: the number of the table (R0) and the values, for each case.
-use Rattle.std.specs.Prelude.{ℕ, Bool, not, ◌||◌, List, [], ◌∷◌, eqb, ltb, Float, if◌then◌else◌}
+use Rattle.refusal.specs.declared.Refusal.{Refusal}
+use Rattle.std.specs.Prelude.{ℕ, Bool, not, ◌||◌, List, [], ◌∷◌, eqb, ltb, Float, if◌then◌else◌, Err, Ok, Result}
 use Rattle.std.specs.Float.{Format}
 use Rattle.refusal.specs.Order.{Judged, number_of, ◌when◌, size, not_finite, computed, refusal, refused_for}
-use Rattle.fmath.specs.declared.Number.{Number}
 use Rattle.fmath.specs.Answer.{number_or, some_not_finite}
 use Rattle.checked.specs.Finite.{finite, all_finite}
 use Rattle.checked.specs.Checked.{Checked}
-use Rattle.window.specs.declared.Masked.{Masked}
-use Rattle.window.specs.declared.Masked.TheVariants.{Mask, Refused}
 use Rattle.window.specs.declared.Trail.{Trail}
-use Rattle.window.specs.declared.Count.{Count}
-use Rattle.window.specs.declared.Count.TheVariants as count
-use Rattle.window.specs.declared.Emptiness.{Emptiness}
-use Rattle.window.specs.declared.Emptiness.TheVariants as emptiness
 use Rattle.window.specs.Rule.{mask_for, mask_refusal, net, path}
 
 -- the mask of a length that is not refused
-abbrev pub mask_of : ℕ → Masked
-mask_of n = if eqb (mask_refusal n) 0 then Mask (mask_for n) else Refused (refused_for (mask_refusal n))
+abbrev pub mask_of : ℕ → Result ℕ Refusal
+mask_of n = if eqb (mask_refusal n) 0 then Ok (mask_for n) else Err (refused_for (mask_refusal n))
 
 -- a trail's head or count is out of size
 abbrev pub out_of_size : Trail → Bool
@@ -36,25 +30,25 @@ abbrev pub push_reasons : Trail → List Float → List Judged
 push_reasons t p = size when out_of_size t ∷ not_finite when (unfit t || some_not_finite p) ∷ []
 
 -- what an entry answers that takes a trail and computes a number from it
-abbrev pub computed_from : Trail → Checked Float → Number
+abbrev pub computed_from : Trail → Checked Float → Result Float Refusal
 computed_from t x = number_or (refusal (size when out_of_size t ∷ not_finite when unfit t ∷ computed when not x.sound ∷ [])) x.value
 
 -- what `net` answers
-unfoldable pub net_of : Format → Trail → ℕ → ℕ → Number
+unfoldable pub net_of : Format → Trail → ℕ → ℕ → Result Float Refusal
 net_of f t d w = computed_from t (net f t.buf t.head t.len d w)
 
 -- what `path` answers
-unfoldable pub path_of : Format → Trail → ℕ → ℕ → Number
+unfoldable pub path_of : Format → Trail → ℕ → ℕ → Result Float Refusal
 path_of f t d w = computed_from t (path f t.buf t.head t.len d w)
 
 -- a number after some checks, which give n, and a last one that it is finite
-abbrev pub number_after : ℕ → Float → Number
+abbrev pub number_after : ℕ → Float → Result Float Refusal
 number_after n x = number_or (if eqb n 0 then (if finite x then 0 else number_of computed) else n) x
 
 -- how many samples a trail holds
-unfoldable pub count_of : Trail → Count
-count_of t = if eqb (refusal (trail_reasons t)) 0 then count.Samples t.len else count.Refused (refused_for (refusal (trail_reasons t)))
+unfoldable pub count_of : Trail → Result ℕ Refusal
+count_of t = if eqb (refusal (trail_reasons t)) 0 then Ok t.len else Err (refused_for (refusal (trail_reasons t)))
 
 -- whether a trail holds none
-unfoldable pub emptiness_of : Trail → Emptiness
-emptiness_of t = if eqb (refusal (trail_reasons t)) 0 then emptiness.Empty (eqb t.len 0) else emptiness.Refused (refused_for (refusal (trail_reasons t)))
+unfoldable pub emptiness_of : Trail → Result Bool Refusal
+emptiness_of t = if eqb (refusal (trail_reasons t)) 0 then Ok (eqb t.len 0) else Err (refused_for (refusal (trail_reasons t)))

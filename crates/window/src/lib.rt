@@ -10,20 +10,12 @@ ghost use Rattle.window.specs.Rule.{hits_in, slot_back, sample_back, net, path};
 ghost use Rattle.window.specs.Answer.{mask_of, out_of_size, unfit, trail_reasons, push_reasons, number_after, net_of, path_of, count_of, emptiness_of};
 ghost use Rattle.window.specs.Of.{empty_window, pushed_of, new_trail, recorded_of, push_of, clear_of};
 
-use fmath::Number;
 use refusal::Refusal;
 
 // The last pushes, a bit each, the newest lowest.
 #[derive(Clone, Copy)]
 pub struct Window {
     pub bits: u64,
-}
-
-// A window's mask, or why there is none.
-#[derive(Clone, Copy)]
-pub enum Masked {
-    Mask(u64),
-    Refused(Refusal),
 }
 
 // A ring of the last 32 positions, 8 numbers to a slot: head is the slot that is written next, len the samples held.
@@ -41,28 +33,14 @@ pub struct Recorded {
     pub trail: Trail,
 }
 
-// How many samples a trail holds, or why that is not said.
-#[derive(Clone, Copy)]
-pub enum Count {
-    Samples(usize),
-    Refused(Refusal),
-}
-
-// Whether a trail holds none, or why that is not said.
-#[derive(Clone, Copy)]
-pub enum Emptiness {
-    Empty(bool),
-    Refused(Refusal),
-}
-
 // The mask of a window of n pushes, 2^n - 1; a length outside 1..63 is refused.
-pub fn mask(n: u8) -> Masked
+pub fn mask(n: u8) -> Result<u64, Refusal>
     ensures { result ≡ mask_of n }
 {
     if (n < 1) | (63 < n) {
-        return Masked::Refused(Refusal::of(Refusal::SIZE));
+        return Err(Refusal::of(Refusal::SIZE));
     }
-    Masked::Mask((1u64 << n) - 1)
+    Ok((1u64 << n) - 1)
 }
 
 impl Window {
@@ -172,16 +150,16 @@ fn path_of(buf: &[f64], head: u8, len: u8, d: usize, w: usize) -> f64
 }
 
 // A number after the checks before it: refused by theirs, or by 13 where it is not finite.
-fn number_after(number: u8, x: f64) -> Number
+fn number_after(number: u8, x: f64) -> Result<f64, Refusal>
     ensures { result ≡ number_after number x }
 {
     if number != 0 {
-        return Number::Refused(Refusal::of(number));
+        return Err(Refusal::of(number));
     }
     if fmath::finite(x) {
-        return Number::Value(x);
+        return Ok(x);
     }
-    Number::Refused(Refusal::of(Refusal::COMPUTED))
+    Err(Refusal::of(Refusal::COMPUTED))
 }
 
 impl Trail {
@@ -289,7 +267,7 @@ impl Trail {
     }
 
     // The distance of the newest sample and the one w - 1 before it; 0.0 where w is 0, over 32 or more than the samples held.
-    pub fn net(self, d: usize, w: usize) -> Number
+    pub fn net(self, d: usize, w: usize) -> Result<f64, Refusal>
         ensures { result ≡ net_of binary64 self d w }
     {
         let number = self.trail_refusal();
@@ -297,7 +275,7 @@ impl Trail {
     }
 
     // The length of the way through the last w samples; 0.0 where w is below 2, over 32 or more than the samples held.
-    pub fn path(self, d: usize, w: usize) -> Number
+    pub fn path(self, d: usize, w: usize) -> Result<f64, Refusal>
         ensures { result ≡ path_of binary64 self d w }
     {
         let number = self.trail_refusal();
@@ -327,24 +305,24 @@ impl Trail {
     }
 
     // How many samples are held.
-    pub fn len(self) -> Count
+    pub fn len(self) -> Result<usize, Refusal>
         ensures { result ≡ count_of self }
     {
         let number = self.trail_refusal();
         if number != 0 {
-            return Count::Refused(Refusal::of(number));
+            return Err(Refusal::of(number));
         }
-        Count::Samples(self.len as usize)
+        Ok(self.len as usize)
     }
 
     // Whether none is held.
-    pub fn is_empty(self) -> Emptiness
+    pub fn is_empty(self) -> Result<bool, Refusal>
         ensures { result ≡ emptiness_of self }
     {
         let number = self.trail_refusal();
         if number != 0 {
-            return Emptiness::Refused(Refusal::of(number));
+            return Err(Refusal::of(number));
         }
-        Emptiness::Empty(self.len == 0)
+        Ok(self.len == 0)
     }
 }

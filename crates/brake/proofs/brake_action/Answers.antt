@@ -1,4 +1,5 @@
 -- `brake::brake_action` meets its contract: refused before the row is computed, refused by a computed number, or written.
+use Rattle.std.specs.Prelude.{Ok}
 use mathlib.Core.Path.{◌≡◌, sym, ap, ◌∙◌}
 use mathlib.Core.Bool.{Bool, not, ◌||◌}
 use borrow.Author.Tests.{not-true, not-false}
@@ -6,7 +7,6 @@ use lib.ListN.{length}
 use lib.Ieee.{binary64}
 use Rattle.conformal.specs.Of.{tables}
 use Rattle.envelope.proofs.Accepted.{compiled_number, compiled_derived}
-use Rattle.brake.specs.declared.Sent.TheVariants as sent
 use Rattle.brake.specs.Answer.{masks_sent, brake_sent, brake_answer, brake_output}
 use Rattle.brake.specs.Of.{workspace_from}
 use Rattle.brake.proofs.Sending.{masks_are_sent, sized, row_refused, row_unsound, row_done, brake_judged, brake_is_sent}
@@ -22,7 +22,7 @@ returns-then-number-ne0 c =
     let n = c in
     let g = n.args in
     let t = tables g.center.now g.scale.now in
-    let w = row_refused binary64 g.c t (length g.last.now) g.out.now (either n.all_finite.ensures n.all_finite-2.ensures n.last_unfit.ensures) (brake_sent binary64 g.c g.pos.now g.vel.now g.last.now) (sent.Done (masks_sent binary64 g.c g.pos.now)) (brake_judged binary64 g.c g.pos.now g.vel.now g.last.now t (length g.out.now)) (n.row_refusal-number.ensures _ (compiled_number n.compile-compiled.ensures)) c.if-number-ne0.true c.of.ensures in
+    let w = row_refused binary64 g.c t (length g.last.now) g.out.now (either n.all_finite.ensures n.all_finite-2.ensures n.last_unfit.ensures) (brake_sent binary64 g.c g.pos.now g.vel.now g.last.now) (Ok (masks_sent binary64 g.c g.pos.now)) (brake_judged binary64 g.c g.pos.now g.vel.now g.last.now t (length g.out.now)) (n.row_refusal-number.ensures _ (compiled_number n.compile-compiled.ensures)) c.if-number-ne0.true c.of.ensures in
     (w.gives, w.leaves)
 
 pub brake_row-made-requires : goal.brake_row-made-requires
@@ -49,7 +49,7 @@ returns-then-not-row c =
     let g = n.args in
     let t = tables g.center.now g.scale.now in
     let walls = e.workspace_of-w.ensures ∙ ap (workspace_from g.c.shape) (compiled_derived n.compile-compiled.ensures) in
-    let w = row_unsound binary64 g.c t (length g.last.now) g.out.now (either n.all_finite.ensures n.all_finite-2.ensures n.last_unfit.ensures) (brake_sent binary64 g.c g.pos.now g.vel.now g.last.now) (sent.Done (masks_sent binary64 g.c g.pos.now)) (brake_judged binary64 g.c g.pos.now g.vel.now g.last.now t (length g.out.now)) (sym (n.row_refusal-number.ensures _ (compiled_number n.compile-compiled.ensures)) ∙ e.if-number-ne0.false) (brake_is_sent binary64 g.c g.pos.now g.vel.now g.last.now walls r.brake_row-made.ensures r.sent_row-row.ensures) (not-true _ c.if-not-row.true) c.of-then-not-row.ensures in
+    let w = row_unsound binary64 g.c t (length g.last.now) g.out.now (either n.all_finite.ensures n.all_finite-2.ensures n.last_unfit.ensures) (brake_sent binary64 g.c g.pos.now g.vel.now g.last.now) (Ok (masks_sent binary64 g.c g.pos.now)) (brake_judged binary64 g.c g.pos.now g.vel.now g.last.now t (length g.out.now)) (sym (n.row_refusal-number.ensures _ (compiled_number n.compile-compiled.ensures)) ∙ e.if-number-ne0.false) (brake_is_sent binary64 g.c g.pos.now g.vel.now g.last.now walls r.brake_row-made.ensures r.sent_row-row.ensures) (not-true _ c.if-not-row.true) c.of-then-not-row.ensures in
     (w.gives, w.leaves)
 
 pub returns : goal.returns
@@ -62,5 +62,5 @@ returns c =
     let g = n.args in
     let t = tables g.center.now g.scale.now in
     let walls = e.workspace_of-w.ensures ∙ ap (workspace_from g.c.shape) (compiled_derived n.compile-compiled.ensures) in
-    let w = row_done binary64 g.c t (length g.last.now) g.out.now (either n.all_finite.ensures n.all_finite-2.ensures n.last_unfit.ensures) (brake_sent binary64 g.c g.pos.now g.vel.now g.last.now) (sent.Done (masks_sent binary64 g.c g.pos.now)) (brake_judged binary64 g.c g.pos.now g.vel.now g.last.now t (length g.out.now)) (sym (n.row_refusal-number.ensures _ (compiled_number n.compile-compiled.ensures)) ∙ e.if-number-ne0.false) (brake_is_sent binary64 g.c g.pos.now g.vel.now g.last.now walls r.brake_row-made.ensures r.sent_row-row.ensures) (not-false _ u.if-not-row.false) (search rules) u.put.ensures (masks_are_sent binary64 g.c g.pos.now walls c.sent_masks.ensures) in
+    let w = row_done binary64 g.c t (length g.last.now) g.out.now (either n.all_finite.ensures n.all_finite-2.ensures n.last_unfit.ensures) (brake_sent binary64 g.c g.pos.now g.vel.now g.last.now) (Ok (masks_sent binary64 g.c g.pos.now)) (brake_judged binary64 g.c g.pos.now g.vel.now g.last.now t (length g.out.now)) (sym (n.row_refusal-number.ensures _ (compiled_number n.compile-compiled.ensures)) ∙ e.if-number-ne0.false) (brake_is_sent binary64 g.c g.pos.now g.vel.now g.last.now walls r.brake_row-made.ensures r.sent_row-row.ensures) (not-false _ u.if-not-row.false) (search rules) u.put.ensures (masks_are_sent binary64 g.c g.pos.now walls c.sent_masks.ensures) in
     (w.gives, w.leaves)

@@ -1,15 +1,15 @@
 -- `window::number_after` meets its contract, by its two tests.
+use Rattle.std.specs.Prelude.{Err}
 use Prim.Native.Nat.{ℕ, zero, suc}
 use mathlib.Core.Path.{◌≡◌, refl, sym, ◌∙◌}
 use lib.Dec.{eqb-suc-zero}
 use lib.Ieee.{Float}
 use Rattle.refusal.specs.declared.Refusal.{Refusal}
 use Rattle.refusal.specs.Order.{refused_for}
-use Rattle.fmath.specs.declared.Number.TheVariants.{Refused}
 use Rattle.window.specs.Answer.{number_after}
 use Rattle.window.proofs.number_after.Goals as goal
 
-refused : (n : ℕ) (x : Float) (r : Refusal) → r ≡ refused_for n → (n ≡ 0 → ⊥) → Refused r ≡ number_after n x
+refused : (n : ℕ) (x : Float) (r : Refusal) → r ≡ refused_for n → (n ≡ 0 → ⊥) → Err r ≡ number_after n x
 refused zero x r e f = absurd (f refl)
 refused (suc n) x r e f = rw (e, eqb-suc-zero n)
 

@@ -2,10 +2,10 @@
 use Rattle.card.specs.Desk.{answer_for}
 use Rattle.card.proofs.desk.answer_of.Goals as goal
 
-pub returns-in-Accepted : goal.returns-in-Accepted
+pub returns-in-Ok : goal.returns-in-Ok
 unfolding answer_for
-returns-in-Accepted c = rw (c.in-Accepted.is, c.pattern.ensures, c.pattern-in-Accepted.ensures)
+returns-in-Ok c = rw (c.in-Ok.is, c.pattern.ensures, c.pattern-in-Ok.ensures)
 
-pub returns-in-Refused : goal.returns-in-Refused
+pub returns-in-Err : goal.returns-in-Err
 unfolding answer_for
-returns-in-Refused c = rw (c.in-Refused.is, c.written.ensures)
+returns-in-Err c = rw (c.in-Err.is, c.written.ensures)

@@ -5,22 +5,20 @@ use borrow.Author.Tests.{eq-eqb, ne_eqb}
 use lib.Dec.{eqb}
 use Rattle.refusal.specs.declared.Refusal.{Refusal}
 use Rattle.refusal.specs.Order.{refused_for}
-use Rattle.std.specs.Prelude.{if◌then◌else◌}
+use Rattle.std.specs.Prelude.{if◌then◌else◌, Err, Ok, Result, Bool}
 use Rattle.chunk.specs.declared.ChunkBuf.{ChunkBuf}
-use Rattle.chunk.specs.declared.Holding.{Holding}
-use Rattle.chunk.specs.declared.Holding.TheVariants as holding
 use Rattle.chunk.specs.Of.{held_refusal_of, holding_of}
 use Rattle.chunk.proofs.ChunkBuf.is_filled.Goals as goal
 
 module _ (b : ChunkBuf) (n : ℕ) (is : n ≡ held_refusal_of b) where
-  by_number : holding_of b ≡ (if eqb n 0 then holding.Held b.filled else holding.Refused (refused_for n))
+  by_number : holding_of b ≡ (if eqb n 0 then Ok b.filled else Err (refused_for n))
   unfolding holding_of
-  by_number = ap (λ (k : ℕ). if◌then◌else◌ {A = Holding} (eqb k 0) (holding.Held b.filled) (holding.Refused (refused_for k))) (sym is)
+  by_number = ap (λ (k : ℕ). if◌then◌else◌ {A = (Result Bool Refusal)} (eqb k 0) (Ok b.filled) (Err (refused_for k))) (sym is)
 
-  refused : (r : Refusal) → r ≡ refused_for n → (n ≡ 0 → ⊥) → holding.Refused r ≡ holding_of b
+  refused : (r : Refusal) → r ≡ refused_for n → (n ≡ 0 → ⊥) → Err r ≡ holding_of b
   refused r e some = rw e (sym (by_number ∙ rw (ne_eqb n 0 some)))
 
-  told : n ≡ 0 → holding.Held b.filled ≡ holding_of b
+  told : n ≡ 0 → Ok b.filled ≡ holding_of b
   told z = sym (by_number ∙ rw (eq-eqb n 0 z))
 
 pub returns-then-number-ne0 : goal.returns-then-number-ne0

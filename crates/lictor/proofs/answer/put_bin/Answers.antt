@@ -3,10 +3,10 @@ use mathlib.Core.Path.{refl}
 use Rattle.lictor.specs.Answer.{bin_number, bin_value}
 use Rattle.lictor.proofs.answer.put_bin.Goals as goal
 
-pub returns-in-NoBin : goal.returns-in-NoBin
+pub returns-in-Err : goal.returns-in-Err
 unfolding bin_number bin_value
-returns-in-NoBin c = rw c.in-NoBin.is (record { number = refl; bin = refl })
+returns-in-Err c = rw c.in-Err.is (record { number = refl; bin = refl })
 
-pub returns-in-Bin : goal.returns-in-Bin
+pub returns-in-Ok : goal.returns-in-Ok
 unfolding bin_number bin_value
-returns-in-Bin c = rw c.in-Bin.is (record { number = refl; bin = refl })
+returns-in-Ok c = rw c.in-Ok.is (record { number = refl; bin = refl })

@@ -3,10 +3,10 @@ use mathlib.Core.Path.{refl}
 use Rattle.lictor.specs.Answer.{check_number, check_marks, check_speed}
 use Rattle.lictor.proofs.answer.put_check.Goals as goal
 
-pub returns-in-Passed : goal.returns-in-Passed
+pub returns-in-Ok : goal.returns-in-Ok
 unfolding check_number check_marks check_speed
-returns-in-Passed c = rw c.in-Passed.is (record { number = refl; marks = refl; speed = refl })
+returns-in-Ok c = rw c.in-Ok.is (record { number = refl; marks = refl; speed = refl })
 
-pub returns-in-Refused : goal.returns-in-Refused
+pub returns-in-Err : goal.returns-in-Err
 unfolding check_number check_marks check_speed
-returns-in-Refused c = rw c.in-Refused.is (record { number = refl; marks = refl; speed = refl })
+returns-in-Err c = rw c.in-Err.is (record { number = refl; marks = refl; speed = refl })

@@ -2,10 +2,10 @@
 use Rattle.lictor.specs.Answer.{count_number, count_value}
 use Rattle.lictor.proofs.answer.put_count.Goals as goal
 
-pub returns-in-Refused : goal.returns-in-Refused
+pub returns-in-Err : goal.returns-in-Err
 unfolding count_number count_value
-returns-in-Refused c = let e = c.in-Refused.is in record { number = rw e; len = rw e }
+returns-in-Err c = let e = c.in-Err.is in record { number = rw e; len = rw e }
 
-pub returns-in-Samples : goal.returns-in-Samples
+pub returns-in-Ok : goal.returns-in-Ok
 unfolding count_number count_value
-returns-in-Samples c = let e = c.in-Samples.is in record { number = rw e; len = rw e }
+returns-in-Ok c = let e = c.in-Ok.is in record { number = rw e; len = rw e }

@@ -2,10 +2,10 @@
 use Rattle.lictor.specs.Answer.{emptiness_number, emptiness_value}
 use Rattle.lictor.proofs.answer.put_emptiness.Goals as goal
 
-pub returns-in-Refused : goal.returns-in-Refused
+pub returns-in-Err : goal.returns-in-Err
 unfolding emptiness_number emptiness_value
-returns-in-Refused c = let e = c.in-Refused.is in record { number = rw e; empty = rw e }
+returns-in-Err c = let e = c.in-Err.is in record { number = rw e; empty = rw e }
 
-pub returns-in-Empty : goal.returns-in-Empty
+pub returns-in-Ok : goal.returns-in-Ok
 unfolding emptiness_number emptiness_value
-returns-in-Empty c = let e = c.in-Empty.is in record { number = rw e; empty = rw e }
+returns-in-Ok c = let e = c.in-Ok.is in record { number = rw e; empty = rw e }

@@ -3,10 +3,10 @@ use mathlib.Core.Path.{refl}
 use Rattle.lictor.specs.Answer.{forecast_number, forecast_marks, forecast_distances, forecast_place}
 use Rattle.lictor.proofs.answer.put_forecast.Goals as goal
 
-pub returns-in-Accepted : goal.returns-in-Accepted
+pub returns-in-Ok : goal.returns-in-Ok
 unfolding forecast_number forecast_marks forecast_distances forecast_place
-returns-in-Accepted c = rw c.in-Accepted.is (record { number = refl; marks = refl; distances = refl; place = refl })
+returns-in-Ok c = rw c.in-Ok.is (record { number = refl; marks = refl; distances = refl; place = refl })
 
-pub returns-in-Refused : goal.returns-in-Refused
+pub returns-in-Err : goal.returns-in-Err
 unfolding forecast_number forecast_marks forecast_distances forecast_place
-returns-in-Refused c = rw c.in-Refused.is (record { number = refl; marks = refl; distances = refl; place = refl })
+returns-in-Err c = rw c.in-Err.is (record { number = refl; marks = refl; distances = refl; place = refl })

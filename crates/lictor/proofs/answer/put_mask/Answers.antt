@@ -3,10 +3,10 @@ use mathlib.Core.Path.{refl}
 use Rattle.lictor.specs.Answer.{mask_number, mask_value}
 use Rattle.lictor.proofs.answer.put_mask.Goals as goal
 
-pub returns-in-Mask : goal.returns-in-Mask
+pub returns-in-Ok : goal.returns-in-Ok
 unfolding mask_number mask_value
-returns-in-Mask c = rw c.in-Mask.is (record { number = refl; value = refl })
+returns-in-Ok c = rw c.in-Ok.is (record { number = refl; value = refl })
 
-pub returns-in-Refused : goal.returns-in-Refused
+pub returns-in-Err : goal.returns-in-Err
 unfolding mask_number mask_value
-returns-in-Refused c = rw c.in-Refused.is (record { number = refl; value = refl })
+returns-in-Err c = rw c.in-Err.is (record { number = refl; value = refl })

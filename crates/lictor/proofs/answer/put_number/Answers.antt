@@ -3,10 +3,10 @@ use mathlib.Core.Path.{refl}
 use Rattle.lictor.specs.Answer.{number_of, value_of}
 use Rattle.lictor.proofs.answer.put_number.Goals as goal
 
-pub returns-in-Value : goal.returns-in-Value
+pub returns-in-Ok : goal.returns-in-Ok
 unfolding number_of value_of
-returns-in-Value c = rw c.in-Value.is (record { number = refl; value = refl })
+returns-in-Ok c = rw c.in-Ok.is (record { number = refl; value = refl })
 
-pub returns-in-Refused : goal.returns-in-Refused
+pub returns-in-Err : goal.returns-in-Err
 unfolding number_of value_of
-returns-in-Refused c = rw c.in-Refused.is (record { number = refl; value = refl })
+returns-in-Err c = rw c.in-Err.is (record { number = refl; value = refl })

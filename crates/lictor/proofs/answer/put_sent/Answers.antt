@@ -3,10 +3,10 @@ use mathlib.Core.Path.{refl}
 use Rattle.lictor.specs.Answer.{sent_number, sent_marks}
 use Rattle.lictor.proofs.answer.put_sent.Goals as goal
 
-pub returns-in-Done : goal.returns-in-Done
+pub returns-in-Ok : goal.returns-in-Ok
 unfolding sent_number sent_marks
-returns-in-Done c = rw c.in-Done.is (record { number = refl; marks = refl })
+returns-in-Ok c = rw c.in-Ok.is (record { number = refl; marks = refl })
 
-pub returns-in-Refused : goal.returns-in-Refused
+pub returns-in-Err : goal.returns-in-Err
 unfolding sent_number sent_marks
-returns-in-Refused c = rw c.in-Refused.is (record { number = refl; marks = refl })
+returns-in-Err c = rw c.in-Err.is (record { number = refl; marks = refl })

@@ -8,10 +8,10 @@ use Rattle.lictor.proofs.answer.put_verdict.Goals as goal
 pub returns-then-not-fits : goal.returns-then-not-fits
 returns-then-not-fits c = let e = not-true c.args.fits (ap not c.if-not-fits.true) in record { number = rw e; trips = rw e }
 
-pub returns-in-Refused : goal.returns-in-Refused
+pub returns-in-Err : goal.returns-in-Err
 unfolding verdict_number verdict_value
-returns-in-Refused c = let e = not-false c.args.fits (ap not c.if-not-fits.false) in record { number = rw (e, c.in-Refused.is); trips = rw (e, c.in-Refused.is) }
+returns-in-Err c = let e = not-false c.args.fits (ap not c.if-not-fits.false) in record { number = rw (e, c.in-Err.is); trips = rw (e, c.in-Err.is) }
 
-pub returns-in-Trips : goal.returns-in-Trips
+pub returns-in-Ok : goal.returns-in-Ok
 unfolding verdict_number verdict_value
-returns-in-Trips c = let e = not-false c.args.fits (ap not c.if-not-fits.false) in record { number = rw (e, c.in-Trips.is); trips = rw (e, c.in-Trips.is) }
+returns-in-Ok c = let e = not-false c.args.fits (ap not c.if-not-fits.false) in record { number = rw (e, c.in-Ok.is); trips = rw (e, c.in-Ok.is) }

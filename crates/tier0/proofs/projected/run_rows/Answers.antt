@@ -1,5 +1,4 @@
 -- `tier0::projected::run_rows` meets its contract: each turn projects one row from the projected one before it.
-use Prim.Native.Nat.{◌-◌}
 use mathlib.Core.Path.{refl, ap, ◌∙◌}
 use native.Mathlib.Nat.{le_antisymm}
 use native.Mathlib.Omega.{arith}

@@ -1,5 +1,4 @@
 -- `tier0::zone::slowest` meets its contract: the loop keeps what the zones so far say together.
-use Prim.Native.Nat.{◌-◌}
 use mathlib.Core.Path.{◌≡◌}
 use native.Mathlib.Omega.{arith}
 use lib.Ieee.{binary64}

@@ -5,22 +5,20 @@ use borrow.Author.Tests.{eq-eqb, ne_eqb}
 use lib.Dec.{eqb}
 use Rattle.refusal.specs.declared.Refusal.{Refusal}
 use Rattle.refusal.specs.Order.{refusal, refused_for}
-use Rattle.std.specs.Prelude.{if◌then◌else◌}
+use Rattle.std.specs.Prelude.{if◌then◌else◌, Err, Ok, Result, Bool}
 use Rattle.window.specs.declared.Trail.{Trail}
-use Rattle.window.specs.declared.Emptiness.{Emptiness}
-use Rattle.window.specs.declared.Emptiness.TheVariants as emptiness
 use Rattle.window.specs.Answer.{trail_reasons, emptiness_of}
 use Rattle.window.proofs.Trail.is_empty.Goals as goal
 
 module _ (t : Trail) (n : ℕ) (is : n ≡ refusal (trail_reasons t)) where
-  by_number : emptiness_of t ≡ (if eqb n 0 then emptiness.Empty (eqb t.len 0) else emptiness.Refused (refused_for n))
+  by_number : emptiness_of t ≡ (if eqb n 0 then Ok (eqb t.len 0) else Err (refused_for n))
   unfolding emptiness_of
-  by_number = ap (λ (k : ℕ). if◌then◌else◌ {A = Emptiness} (eqb k 0) (emptiness.Empty (eqb t.len 0)) (emptiness.Refused (refused_for k))) (sym is)
+  by_number = ap (λ (k : ℕ). if◌then◌else◌ {A = (Result Bool Refusal)} (eqb k 0) (Ok (eqb t.len 0)) (Err (refused_for k))) (sym is)
 
-  refused : (r : Refusal) → r ≡ refused_for n → (n ≡ 0 → ⊥) → emptiness.Refused r ≡ emptiness_of t
+  refused : (r : Refusal) → r ≡ refused_for n → (n ≡ 0 → ⊥) → Err r ≡ emptiness_of t
   refused r e some = rw e (sym (by_number ∙ rw (ne_eqb n 0 some)))
 
-  told : n ≡ 0 → emptiness.Empty (eqb t.len 0) ≡ emptiness_of t
+  told : n ≡ 0 → Ok (eqb t.len 0) ≡ emptiness_of t
   told z = sym (by_number ∙ rw (eq-eqb n 0 z))
 
 pub returns-then-number-ne0 : goal.returns-then-number-ne0

@@ -5,22 +5,20 @@ use borrow.Author.Tests.{eq-eqb, ne_eqb}
 use lib.Dec.{eqb}
 use Rattle.refusal.specs.declared.Refusal.{Refusal}
 use Rattle.refusal.specs.Order.{refusal, refused_for}
-use Rattle.std.specs.Prelude.{if◌then◌else◌}
+use Rattle.std.specs.Prelude.{if◌then◌else◌, Err, Ok, Result}
 use Rattle.window.specs.declared.Trail.{Trail}
-use Rattle.window.specs.declared.Count.{Count}
-use Rattle.window.specs.declared.Count.TheVariants as count
 use Rattle.window.specs.Answer.{trail_reasons, count_of}
 use Rattle.window.proofs.Trail.len.Goals as goal
 
 module _ (t : Trail) (n : ℕ) (is : n ≡ refusal (trail_reasons t)) where
-  by_number : count_of t ≡ (if eqb n 0 then count.Samples t.len else count.Refused (refused_for n))
+  by_number : count_of t ≡ (if eqb n 0 then Ok t.len else Err (refused_for n))
   unfolding count_of
-  by_number = ap (λ (k : ℕ). if◌then◌else◌ {A = Count} (eqb k 0) (count.Samples t.len) (count.Refused (refused_for k))) (sym is)
+  by_number = ap (λ (k : ℕ). if◌then◌else◌ {A = (Result ℕ Refusal)} (eqb k 0) (Ok t.len) (Err (refused_for k))) (sym is)
 
-  refused : (r : Refusal) → r ≡ refused_for n → (n ≡ 0 → ⊥) → count.Refused r ≡ count_of t
+  refused : (r : Refusal) → r ≡ refused_for n → (n ≡ 0 → ⊥) → Err r ≡ count_of t
   refused r e some = rw e (sym (by_number ∙ rw (ne_eqb n 0 some)))
 
-  told : n ≡ 0 → count.Samples t.len ≡ count_of t
+  told : n ≡ 0 → Ok t.len ≡ count_of t
   told z = sym (by_number ∙ rw (eq-eqb n 0 z))
 
 pub returns-then-number-ne0 : goal.returns-then-number-ne0

@@ -1,8 +1,9 @@
 -- `Trail::path` meets its contract: the trail is judged first, and the test of the last number is a test of all.
+use Rattle.std.specs.Prelude.{Result}
+use Rattle.refusal.specs.declared.Refusal.{Refusal}
 use Prim.Native.Nat.{ℕ}
 use mathlib.Core.Path.{◌≡◌, ap, ◌∙◌}
 use lib.Ieee.{Float, binary64}
-use Rattle.fmath.specs.declared.Number.{Number}
 use Rattle.refusal.specs.Order.{refusal}
 use Rattle.window.specs.declared.Trail.{Trail}
 use Rattle.window.specs.Answer.{out_of_size, unfit, trail_reasons, number_after, path_of}
@@ -11,7 +12,7 @@ use Rattle.window.proofs.TrailJudged.{computed_last}
 use Rattle.window.proofs.TrailTold.{path_tells}
 use Rattle.window.proofs.Trail.path.Goals as goal
 
-answered : (t : Trail) (d w n : ℕ) (x : Float) (r : Number) → n ≡ refusal (trail_reasons t) → x ≡ (path binary64 t.buf t.head t.len d w).value → r ≡ number_after n x → r ≡ path_of binary64 t d w
+answered : (t : Trail) (d w n : ℕ) (x : Float) (r : Result Float Refusal) → n ≡ refusal (trail_reasons t) → x ≡ (path binary64 t.buf t.head t.len d w).value → r ≡ number_after n x → r ≡ path_of binary64 t d w
 unfolding path_of
 answered t d w n x r en ex er =
     er ∙ ap (number_after n) ex ∙ computed_last (out_of_size t) (unfit t) (path binary64 t.buf t.head t.len d w) n en (path_tells binary64 t.buf t.head t.len d w)
