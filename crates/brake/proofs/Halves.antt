@@ -1,6 +1,6 @@
 -- Two halves of a run, as the entry answers them: each call comes to its leg's forecast (`Towards`), and of legs `rollout` has said what two halves make. What the first leaves is where
 -- the second starts, and is finite.
-use Rattle.std.specs.Prelude.{Err, Result}
+use Rattle.std.specs.Prelude.{Err, Result, Ok}
 use Prim.Native.Nat.{ℕ, zero, suc, ◌+◌, ◌*◌, ◌≤◌, ◌<◌, min}
 use mathlib.Core.Path.{◌≡◌, refl, sym, ap, ◌∙◌, subst}
 use mathlib.Core.Bool.{Bool, true, false, not, ◌||◌}

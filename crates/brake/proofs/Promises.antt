@@ -1,6 +1,6 @@
 -- Demand 3 of the entry, and "a feasible forecast stays inside": the entry's answer and lent entries are what the second-order forecast comes to (`Foreseen`), and of a
 -- forecast `rollout` has said where it reaches, what its entries are and what the least of them is.
-use Rattle.std.specs.Prelude.{Err, Result}
+use Rattle.std.specs.Prelude.{Err, Result, Ok}
 use Rattle.refusal.specs.declared.Refusal.{Refusal}
 use Prim.Native.Nat.{ℕ, zero, suc, ◌+◌, ◌-◌, ◌*◌, ◌≤◌, ◌<◌}
 use mathlib.Core.Path.{◌≡◌, refl, sym, ap, ◌∙◌, subst}

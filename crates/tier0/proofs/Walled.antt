@@ -14,7 +14,7 @@ use lib.ListN.{drop, length, set, replicate}
 use lib.Seq.{get_or-set_same, get_or-set_other}
 use lib.Ieee.{Float, Format, nan, eq, ne}
 use Rattle.bits.specs.Bits.{bit, bits_where}
-use Rattle.std.specs.Prelude.{if◌then◌else◌, Err, Result}
+use Rattle.std.specs.Prelude.{if◌then◌else◌, Err, Result, Ok}
 use Rattle.bits.proofs.Bits.{bit_where, no_bits, bits_none, bits_or}
 use Rattle.refusal.specs.Order.{computed, ◌when◌}
 use Rattle.refusal.specs.Chain.{both_pass}

@@ -2,7 +2,7 @@
 -- not touched has a file of its own, `Calm`. A projected row that passes its check again is not promised.
 use Rattle.tier0.specs.Refusals.{passed_with}
 use Rattle.refusal.specs.declared.Refusal.{Refusal}
-use Rattle.std.specs.Prelude.{ℕ, ◌+◌, ◌-◌, ◌*◌, ◌/◌, ◌%◌, ◌≤◌, ◌<◌, min, ◌≡◌, Bool, true, false, not, ◌&&◌, ◌||◌, ◌⊎◌, List, [], ◌∷◌, eqb, length, replicate, Float, if◌then◌else◌, Err, Result}
+use Rattle.std.specs.Prelude.{ℕ, ◌+◌, ◌-◌, ◌*◌, ◌/◌, ◌%◌, ◌≤◌, ◌<◌, min, ◌≡◌, Bool, true, false, not, ◌&&◌, ◌||◌, ◌⊎◌, List, [], ◌∷◌, eqb, length, replicate, Float, if◌then◌else◌, Err, Result, Ok}
 use Rattle.std.specs.Float.{Format}
 use Rattle.std.specs.Float.Ieee.{mul, lt, le, eq}
 use Rattle.bits.specs.Bits.{bit, bits_where}

@@ -21,4 +21,4 @@ pub slice_bounds-put-end : goal.slice_bounds-put-end
 slice_bounds-put-end c = let ok = c.judge_action-v.type_inv in search rules
 
 pub returns : goal.returns
-returns c = let g = c.args in let w = passes binary64 g.c (tables g.center.now g.scale.now) g.pos.now g.aux.now g.prev.now g.a.now g.out.now (sym (c.action_refusal-number.ensures _ (compiled_number c.compile-compiled.ensures)) ∙ c.if-number-ne0.false) (checks_are binary64 g.c c.checks_of-s.ensures (compiled_derived c.compile-compiled.ensures)) c.judge_action-v.ensures (not-false _ c.if-not-v.false) c.put.ensures (let ok = c.judge_action-v.type_inv in search rules) in (c.found.ensures ∙ w.0, w.1)
+returns c = let g = c.args in let w = passes binary64 g.c (tables g.center.now g.scale.now) g.pos.now g.aux.now g.prev.now g.a.now g.out.now (sym (c.action_refusal-number.ensures _ (compiled_number c.compile-compiled.ensures)) ∙ c.if-number-ne0.false) (checks_are binary64 g.c c.checks_of-s.ensures (compiled_derived c.compile-compiled.ensures)) c.judge_action-v.ensures (not-false _ c.if-not-v.false) c.put.ensures (let ok = c.judge_action-v.type_inv in search rules) in (w.0, w.1)

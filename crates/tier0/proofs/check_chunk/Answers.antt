@@ -25,4 +25,4 @@ overflow_mul-h c = let g = c.args in let w = accepted_sizes binary64 g.c (tables
 
 pub returns : goal.returns
 unfolding of_bits
-returns c = let g = c.args in let w = passes binary64 g.c (tables g.center.now g.scale.now) g.pos.now g.aux.now g.rows.now g.header g.out.now (sym (c.chunk_refusal-number.ensures _ (compiled_number c.compile-compiled.ensures)) ∙ c.if-number-ne0.false) (checks_are binary64 g.c c.checks_of-s.ensures (compiled_derived c.compile-compiled.ensures)) refl c.judge_chunk-v.ensures (not-false _ c.if-not-v.false) c.put.ensures (let ok = c.judge_chunk-v.type_inv in search rules) in (c.found.ensures ∙ w.0, w.1)
+returns c = let g = c.args in let w = passes binary64 g.c (tables g.center.now g.scale.now) g.pos.now g.aux.now g.rows.now g.header g.out.now (sym (c.chunk_refusal-number.ensures _ (compiled_number c.compile-compiled.ensures)) ∙ c.if-number-ne0.false) (checks_are binary64 g.c c.checks_of-s.ensures (compiled_derived c.compile-compiled.ensures)) refl c.judge_chunk-v.ensures (not-false _ c.if-not-v.false) c.put.ensures (let ok = c.judge_chunk-v.type_inv in search rules) in (w.0, w.1)
