@@ -41,9 +41,6 @@ none (suc a) b e = absurd (false≢true (rw (ne_eqb (suc a) 0 (λ z. omega arith
 pub returns-then-a-b : goal.returns-then-a-b
 returns-then-a-b c = none c.args.a c.args.b c.if-a-b.true
 
-pub loop-n-init : goal.loop-n-init
-loop-n-init c = refl
-
 pub returns-then-a-n : goal.returns-then-a-n
 returns-then-a-n c = let l = c.loop-n in let g = c.args in sym (l.invariant ∙ met g.a g.b order l.n-index c.loop-n-test.true c.if-a-n.true)
 
