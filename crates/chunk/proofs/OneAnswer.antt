@@ -1,4 +1,4 @@
--- One answer for each input, of the functions that are proved by a walk, and of `row_mut`. `clauses` is the contract as the prover takes it from the source: what it says of one
+-- One answer for each input, of the functions that take or give a view, and of `row_mut`. `clauses` is the contract as the prover takes it from the source: what it says of one
 -- answer and what it says of another, for the same arguments, together say that the two are the same. A view is the same where its header is and the rows that it shows.
 use mathlib.Core.Path.{◌≡◌, sym, ◌∙◌}
 use mathlib.Core.List.{List}

@@ -240,11 +240,7 @@ pub fn set_row(data: &mut [f64], horizon: u16, dim: u16, i: usize, row: &[f64])
         return;
     }
     let n = fmath::fewer(d, row.len());
-    let mut c = 0;
-    while c < n {
-        data[start + c] = row[c];
-        c += 1;
-    }
+    data[start..start + n].copy_from_slice(&row[..n]);
 }
 
 // The rows that a buffer holds: the first horizon x dim of its numbers; none where no chunk is held or they are not there.

@@ -125,12 +125,10 @@ fn counted_terms(gate: GateSpec) -> Counted
     let n = gate.n_terms as usize;
     let mut named = true;
     let mut without_stall = true;
-    let mut i = 0usize;
-    while i < 8 {
+    for i in 0..8 {
         let stall = bit(gate.terms[i], Feat::STALL);
         named = named & ((n <= i) | (gate.terms[i] < 4096));
         without_stall = without_stall & ((n <= i) | !stall);
-        i += 1;
     }
     Counted {
         named,
@@ -266,13 +264,11 @@ fn standards(
     let row = last_bin(bin) * 12;
     let mut z = [0.0; 12];
     let mut sound = true;
-    let mut j = 0usize;
-    while j < 12 {
+    for j in 0..12 {
         let live = bit(mask, j) & bit(valid, j);
         let one = standard(live, x[j], center[row + j], scale[row + j]);
         z[j] = one.value;
         sound = sound & one.sound;
-        j += 1;
     }
     AllZ { z, sound }
 }
@@ -328,14 +324,12 @@ fn term(bits: u32, mask: u32, valid: u32, z: &[f64; 12]) -> Joined
     let mut some = false;
     let mut every = true;
     let mut least = 1.0 / 0.0;
-    let mut j = 0usize;
-    while j < 12 {
+    for j in 0..12 {
         let named = bit(bits, j);
         let live = bit(mask, j) & bit(valid, j);
         some = some | named;
         every = every & (!named | live);
         least = lesser_where(named, least, z[j]);
-        j += 1;
     }
     Joined {
         live: some & every,
@@ -349,11 +343,9 @@ fn greatest(gate: GateSpec, mask: u32, valid: u32, z: &[f64; 12]) -> f64
 {
     let n = gate.n_terms as usize;
     let mut s = -(1.0 / 0.0);
-    let mut i = 0usize;
-    while i < 8 {
+    for i in 0..8 {
         let t = term(gate.terms[i], mask, valid, z);
         s = greater_where((i < n) & t.live, s, t.least);
-        i += 1;
     }
     s
 }
@@ -364,12 +356,10 @@ fn fired_bits(mask: u32, valid: u32, tau: f64, z: &[f64; 12]) -> u32
 {
     let mut bits = 0u32;
     let mut w = 1u32;
-    let mut j = 0usize;
-    while j < 12 {
+    for j in 0..12 {
         let live = bit(mask, j) & bit(valid, j);
         bits += bits::weight(live & (z[j] > tau), w);
         w *= 2;
-        j += 1;
     }
     bits
 }

@@ -50,10 +50,8 @@ pub fn all_finite(v: &[f64], n: usize) -> bool
         return false;
     }
     let mut ok = true;
-    let mut i = 0;
-    while i < n {
+    for i in 0..n {
         ok = ok & finite(v[i]);
-        i += 1;
     }
     ok
 }
@@ -78,11 +76,9 @@ pub fn all_above_zero(v: &[f64], n: usize) -> bool
     }
     let mut above = true;
     let mut real = true;
-    let mut i = 0;
-    while i < n {
+    for i in 0..n {
         above = above & (0.0 < v[i]);
         real = real & finite(v[i]);
-        i += 1;
     }
     above & real
 }
@@ -100,10 +96,8 @@ pub fn put(from: &[f64], n: usize, out: &mut [f64])
 {
     let there = fewer(from.len(), out.len());
     let count = fewer(n, there);
-    let mut i = 0;
-    while i < count {
+    for i in 0..count {
         out[i] = from[i];
-        i += 1;
     }
 }
 
@@ -166,10 +160,8 @@ pub fn magnitude(v: &[f64], n: usize) -> f64
         return 0.0 / 0.0;
     }
     let mut s = 0.0;
-    let mut c = 0;
-    while c < n {
+    for c in 0..n {
         s += v[c] * v[c];
-        c += 1;
     }
     root::sqrt(s)
 }
@@ -185,11 +177,9 @@ pub fn distance(a: &[f64], b: &[f64], n: usize) -> f64
         return 0.0 / 0.0;
     }
     let mut s = 0.0;
-    let mut j = 0;
-    while j < n {
+    for j in 0..n {
         let d = a[j] - b[j];
         s += d * d;
-        j += 1;
     }
     root::sqrt(s)
 }

@@ -19,12 +19,10 @@ fn moved_toward(s: f64, q: &[f64], n: usize, a: [f64; 8]) -> Row
 {
     let mut r = a;
     let mut sound = true;
-    let mut i = 0;
-    while i < n {
+    for i in 0..n {
         let x = q[i] + (a[i] - q[i]) * s;
         r[i] = x;
         sound = sound & fmath::finite(x);
-        i += 1;
     }
     Row { at: r, sound }
 }

@@ -89,13 +89,10 @@ impl Refusal {
             Refusal::COMPUTED,
             Refusal::LEFTOVER,
         ];
-        let mut i = 0usize;
-        while i < 16 {
-            let n = order[i];
+        for n in order {
             if (a == n) | (b == n) {
                 return n;
             }
-            i += 1;
         }
         0
     }

@@ -1,4 +1,4 @@
--- One answer for each input, of `Window::push`, which is proved by a walk. `clauses` is the contract as the prover takes it from the source: what it says of two states that
+-- One answer for each input, of `Window::push`. `clauses` is the contract as the prover takes it from the source: what it says of two states that
 -- the lent window is left in, for the same arguments, together says that they are the same.
 use mathlib.Core.Path.{◌≡◌, sym, ◌∙◌}
 use seplogic.Ra.Ura.{Ura}

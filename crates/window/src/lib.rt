@@ -92,11 +92,7 @@ fn stored(buf: [f64; 256], at: usize, p: &[f64], n: usize) -> [f64; 256]
     ensures { result ≡ paste buf at p.now n }
 {
     let mut all = buf;
-    let mut c = 0;
-    while c < n {
-        all[at + c] = p[c];
-        c += 1;
-    }
+    all[at..at + n].copy_from_slice(&p[..n]);
     all
 }
 
@@ -141,10 +137,8 @@ fn path_of(buf: &[f64], head: u8, len: u8, d: usize, w: usize) -> f64
     }
     let n = w - 1;
     let mut acc = 0.0;
-    let mut j = 0;
-    while j < n {
+    for j in 0..n {
         acc += between(buf, head, n - j, n - j - 1, d);
-        j += 1;
     }
     acc
 }

@@ -97,10 +97,8 @@ fn some_beyond(first: usize, b: Bounds, a: &[f64], n: usize) -> bool
 {
     let m = fmath::fewer(n, fmath::fewer(a.len(), 8));
     let mut out = false;
-    let mut j = fmath::fewer(first, m);
-    while j < m {
+    for j in fmath::fewer(first, m)..m {
         out = out | ((a[j] < b.lo[j]) | (b.hi[j] < a[j]));
-        j += 1;
     }
     out
 }
@@ -139,10 +137,8 @@ fn walled(first: usize, b: Bounds, a: [f64; 8], n: usize) -> [f64; 8]
 {
     let m = fmath::fewer(n, 8);
     let mut r = a;
-    let mut j = fmath::fewer(first, m);
-    while j < m {
+    for j in fmath::fewer(first, m)..m {
         r[j] = fmath::clamp(r[j], b.lo[j], b.hi[j]).value;
-        j += 1;
     }
     r
 }
@@ -185,13 +181,11 @@ pub fn wall_masks(shape: Shape, b: Bounds, a: &[f64], n: usize) -> WallMasks
     let mut low = 0u32;
     let mut high = 0u32;
     let mut power = 1u32;
-    let mut j = 0;
-    while j < m {
+    for j in 0..m {
         let c = fmath::clamp(a[j], b.lo[j], b.hi[j]);
         low = low + bits::weight((first <= j) & (c.side < 0), power);
         high = high + bits::weight((first <= j) & (0 < c.side), power);
         power = power * 2;
-        j += 1;
     }
     WallMasks { low, high }
 }
@@ -269,12 +263,10 @@ pub fn slack(w: Workspace, p: [f64; 8], n: usize) -> Reckoned
     let edge = edge_slack(w, p);
     let mut least = edge.value;
     let mut sound = edge.sound;
-    let mut j = first_boxed(shape);
-    while j < n {
+    for j in first_boxed(shape)..n {
         let g = gap(w.lo[j], w.hi[j], p[j]);
         least = fmath::min(least, g.value);
         sound = sound & g.sound;
-        j += 1;
     }
     Reckoned {
         value: least,
@@ -314,8 +306,7 @@ fn around_all(w: Workspace, p: [f64; 8]) -> Around
     let mut near = [0.0; 8];
     let mut even = 0.0;
     let mut odd = 0.0;
-    let mut i = 0;
-    while i < 4 {
+    for i in 0..4 {
         let j = 2 * i;
         let k = j + 1;
         let one = beside(w.lo[j], w.hi[j], p[j]);
@@ -324,7 +315,6 @@ fn around_all(w: Workspace, p: [f64; 8]) -> Around
         near[k] = other.near;
         even = even + one.sum;
         odd = odd + other.sum;
-        i += 1;
     }
     Around {
         near,
@@ -337,10 +327,8 @@ fn least_of(near: [f64; 8], n: usize) -> f64
     ensures { result ≡ least (at near) n }
 {
     let mut least = 1.0 / 0.0;
-    let mut j = 0;
-    while j < n {
+    for j in 0..n {
         least = fmath::min(least, near[j]);
-        j += 1;
     }
     least
 }
@@ -415,12 +403,10 @@ pub fn slack_r(w: Workspace, r: f64, p: [f64; 8], n: usize) -> Reckoned
     let edge = edge_slack_r(w, r, p);
     let mut least = edge.value;
     let mut sound = edge.sound;
-    let mut j = first_boxed(shape);
-    while j < n {
+    for j in first_boxed(shape)..n {
         let g = gap_r(r, w.lo[j], w.hi[j], p[j]);
         least = fmath::min(least, g.value);
         sound = sound & g.sound;
-        j += 1;
     }
     Reckoned {
         value: least,

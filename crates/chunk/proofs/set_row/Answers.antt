@@ -1,11 +1,14 @@
--- `chunk::set_row` meets its contract, by its ways out: nothing is written where there is no such row; else the loop has copied the first c numbers.
-use mathlib.Core.Path.{◌≡◌, refl, ◌∙◌}
+-- `chunk::set_row` meets its contract, by its ways out: nothing is written where there is no such row; else the row's numbers are copied.
+use Prim.Native.Nat.{◌+◌, ◌-◌}
+use mathlib.Core.List.{List, ◌++◌}
+use mathlib.Core.Path.{◌≡◌, ap, ◌∙◌}
 use native.Mathlib.Nat.{pos_of_ne-zero}
 use native.Mathlib.Omega.{arith}
 use borrow.Author.Rules.{rules}
-use lib.ListN.{length-set}
-use lib.Seq.{paste-zero}
-use Rattle.checked.proofs.Copy.{copy_more}
+use lib.Ieee.{Float}
+use lib.ListN.{length, take, drop, length-take}
+use lib.Seq.{take_all}
+use Rattle.std.proofs.lemmas.Slice.{put_mid-paste}
 use Rattle.chunk.proofs.Rows.{start_small, kept_without_rows, kept_past, written_row}
 use Rattle.chunk.proofs.set_row.Goals as goal
 
@@ -23,46 +26,12 @@ returns-then-data-start c =
     let a = c.args in
     kept_past a.«data».now a.horizon a.dim a.i a.row.now _ c.if-horizon-eq0.false c.row_start-start.ensures c.if-data-start.true
 
-pub loop-c-init : goal.loop-c-init
-loop-c-init c =
-    let a = c.args in
-    (search rules, refl, paste-zero a.«data».now c.row_start-start.result a.row.now)
-
-pub offset_bounds-row-c : goal.offset_bounds-row-c
-offset_bounds-row-c c = omega arith
-
-pub bounds-row-c : goal.bounds-row-c
-bounds-row-c c = omega arith
-
-pub overflow_add-data : goal.overflow_add-data
-overflow_add-data c = omega arith
-
-pub offset_bounds-data-start : goal.offset_bounds-data-start
-offset_bounds-data-start c = omega arith
-
-pub bounds-data-start : goal.bounds-data-start
-bounds-data-start c = omega arith
-
-pub overflow_add-c : goal.overflow_add-c
-overflow_add-c c = omega arith
-
-pub loop-c-smaller : goal.loop-c-smaller
-loop-c-smaller c = omega arith
-
-pub loop-c-preserved : goal.loop-c-preserved
-loop-c-preserved c =
-    let a = c.args in (
-      omega arith,
-      simp length-set c.loop-c.invariant.1,
-      copy_more a.«data».now _ a.row.now c.row_start-start.result c.loop-c.c (omega arith) (omega arith) c.loop-c.invariant.2,
-    )
-
-pub shape_of-data : goal.shape_of-data
-shape_of-data c = c.loop-c.invariant.1
-
 pub returns : goal.returns
 returns c =
     let a = c.args in
-    let all : c.loop-c.c ≡ c.fewer-n.result = omega arith in
-    rw all at c.loop-c.invariant.2
+    let n = c.fewer-n.result in
+    let k : n ≡ c.row_start-start.result + n - c.row_start-start.result = omega arith in
+    let long : n ≡ length (take n a.row.now) = omega (arith, c.fewer-n.ensures, length-take n a.row.now) in
+    put_mid-paste c.row_start-start.result _ a.«data».now _ (take n a.row.now) n c.copy_from_slice.ensures.after k long
+    ∙ ap (λ (r : List Float). take c.row_start-start.result a.«data».now ++ r ++ drop (c.row_start-start.result + n) a.«data».now) (take_all n (take n a.row.now) (omega arith))
     ∙ written_row a.«data».now a.horizon a.dim a.i a.row.now _ _ c.if-horizon-eq0.false c.row_start-start.ensures c.if-data-start.false c.fewer-n.ensures

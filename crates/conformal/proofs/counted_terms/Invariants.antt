@@ -1,5 +1,5 @@
 -- `conformal::counted_terms` meets its contract: the loop keeps both answers so far over all eight terms.
-use Prim.Native.Nat.{ℕ, ◌≤◌, ◌-◌}
+use Prim.Native.Nat.{ℕ}
 use mathlib.Core.Path.{◌≡◌}
 use mathlib.Core.Bool.{Bool, ◌||◌}
 use lib.Dec.{leb}
@@ -14,7 +14,4 @@ abbrev pub SoFar : (ℕ → Bool) → GateSpec → ℕ → ℕ → Bool
 SoFar p gate n i = all (λ (k : ℕ). leb n k || p (term_at gate k)) i
 
 abbrev pub invariant-loop-i : goal.invariant-loop-i
-invariant-loop-i l = (l.i ≤ 8) × ((l.named ≡ SoFar named l.gate l.n l.i) × (l.without_stall ≡ SoFar without_stall_of l.gate l.n l.i))
-
-abbrev pub decreases-loop-i : goal.decreases-loop-i
-decreases-loop-i l = 8 - l.i
+invariant-loop-i l = (l.named ≡ SoFar named l.gate l.n l.i) × (l.without_stall ≡ SoFar without_stall_of l.gate l.n l.i)

@@ -3,7 +3,6 @@ use Prim.Native.Nat.{ℕ}
 use mathlib.Core.Path.{◌≡◌, refl, ◌∙◌}
 use mathlib.Core.Bool.{Bool}
 use native.Mathlib.Omega.{arith}
-use borrow.Author.Rules.{rules}
 use Rattle.bits.specs.Bits.{bits_where}
 use Rattle.conformal.specs.Rule.{live, fires, fired_bits}
 use Rattle.bits.proofs.Bits.{Turned, turn}
@@ -11,19 +10,7 @@ use Rattle.conformal.proofs.fired_bits.Goals as goal
 
 pub loop-j-init : goal.loop-j-init
 unfolding bits_where
-loop-j-init c = (search rules, (refl, refl))
-
-pub bit-requires : goal.bit-requires
-bit-requires c = omega arith
-
-pub bit-requires-in-loop-j : goal.bit-requires-in-loop-j
-bit-requires-in-loop-j c = omega arith
-
-pub offset_bounds-z-j : goal.offset_bounds-z-j
-offset_bounds-z-j c = omega arith
-
-pub bounds-z-j : goal.bounds-z-j
-bounds-z-j c = omega arith
+loop-j-init c = (refl, refl)
 
 abbrev fired-so-far : goal.After-weight-bits → ℕ → Bool
 fired-so-far c = let a = c.args in fires (live a.mask a.valid) a.tau a.z.now
@@ -31,7 +18,7 @@ fired-so-far c = let a = c.args in fires (live a.mask a.valid) a.tau a.z.now
 turned : (c : goal.After-weight-bits) → let l = c.loop-j in Turned (fired-so-far c) l.j l.bits l.w c.weight-bits.result
 turned c =
     let l = c.loop-j in
-    turn (fired-so-far c) l.j l.bits l.w _ (omega arith) l.invariant.1.1 l.invariant.1.0 refl (c.weight-bits.ensures.0 ∙ rw (c.bit.ensures, c.bit-in-loop-j.ensures))
+    turn (fired-so-far c) l.j l.bits l.w _ (omega arith) l.invariant.1 l.invariant.0 refl (c.weight-bits.ensures.0 ∙ rw (c.bit.ensures, c.bit-in-loop-j.ensures))
 
 pub overflow_add-bits : goal.overflow_add-bits
 overflow_add-bits c = let t = turned c in omega arith
@@ -39,15 +26,9 @@ overflow_add-bits c = let t = turned c in omega arith
 pub overflow_mul-w : goal.overflow_mul-w
 overflow_mul-w c = let t = turned c in omega arith
 
-pub overflow_add-j : goal.overflow_add-j
-overflow_add-j c = omega arith
-
-pub loop-j-smaller : goal.loop-j-smaller
-loop-j-smaller c = omega arith
-
 pub loop-j-preserved : goal.loop-j-preserved
-loop-j-preserved c = let t = turned c in (omega arith, (t.next, t.so_far))
+loop-j-preserved c = let t = turned c in (t.next, t.so_far)
 
 pub returns : goal.returns
 unfolding fired_bits
-returns c = let e : c.loop-j.j ≡ 12 = omega arith in rw e at c.loop-j.invariant.1.1
+returns c = let e : c.loop-j.j ≡ 12 = omega arith in rw e at c.loop-j.invariant.1

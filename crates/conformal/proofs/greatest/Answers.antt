@@ -3,7 +3,6 @@ use Prim.Native.Nat.{ℕ}
 use mathlib.Core.Path.{◌≡◌, refl, ap}
 use mathlib.Core.Bool.{true, ◌&&◌}
 use native.Mathlib.Omega.{arith}
-use borrow.Author.Rules.{rules}
 use lib.Dec.{ltb}
 use lib.Ieee.{inf, of_bits, div, neg}
 use Rattle.checked.specs.Least.{greater}
@@ -14,31 +13,17 @@ use Rattle.conformal.proofs.greatest.Goals as goal
 
 pub loop-i-init : goal.loop-i-init
 unfolding join_where of_bits div neg
-loop-i-init c = (search rules, refl)
-
-pub offset_bounds-gate-i : goal.offset_bounds-gate-i
-offset_bounds-gate-i c = omega arith
-
-pub bounds-gate-i : goal.bounds-gate-i
-bounds-gate-i c = omega arith
-
-pub overflow_add-i : goal.overflow_add-i
-overflow_add-i c = omega arith
-
-pub loop-i-smaller : goal.loop-i-smaller
-loop-i-smaller c = omega arith
+loop-i-init c = refl
 
 pub loop-i-preserved : goal.loop-i-preserved
 loop-i-preserved c = let l = c.loop-i in
     let a = c.args in
     let t = c.term-t in
-    let Live-now = live a.mask a.valid in (
-      omega arith,
-      join_more greater (inf true) (counts a.gate Live-now) (λ (k : ℕ). least_of a.z.now (term_at a.gate k)) l.i
-          (ltb l.i a.gate.n_terms && t.result.live) l.s t.result.least _
-          l.invariant.1 (rw t.ensures) (ap (λ (j : Joined). j.least) t.ensures) c.greater_where-s.ensures,
-    )
+    let Live-now = live a.mask a.valid in
+    join_more greater (inf true) (counts a.gate Live-now) (λ (k : ℕ). least_of a.z.now (term_at a.gate k)) l.i
+    (ltb l.i a.gate.n_terms && t.result.live) l.s t.result.least _
+    l.invariant (rw t.ensures) (ap (λ (j : Joined). j.least) t.ensures) c.greater_where-s.ensures
 
 pub returns : goal.returns
 unfolding aggregate
-returns c = let e : c.loop-i.i ≡ 8 = omega arith in rw e at c.loop-i.invariant.1
+returns c = let e : c.loop-i.i ≡ 8 = omega arith in rw e at c.loop-i.invariant

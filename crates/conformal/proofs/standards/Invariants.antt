@@ -1,5 +1,5 @@
 -- `conformal::standards` meets its contract: the loop keeps the table and the soundness of the features passed.
-use Prim.Native.Nat.{ℕ, ◌≤◌, ◌-◌}
+use Prim.Native.Nat.{ℕ}
 use mathlib.Core.Bool.{Bool}
 use mathlib.Core.List.{List}
 use mathlib.Core.Path.{◌≡◌}
@@ -13,13 +13,9 @@ use Rattle.conformal.proofs.standards.Given as goal
 
 -- the first j features are standardised
 pub record Scored (center scale : List Float) (bin mask valid : ℕ) (x : List Float) (z : List Float) (sound : Bool) (j : ℕ) : Type 0 where
-  pub along : j ≤ 12
   pub wide : length z ≡ 12
   pub so_far : take j z ≡ table (λ (k : ℕ). (standard_at binary64 (tables center scale) bin (live mask valid) x k).value) j
   pub told : sound ≡ all (λ (k : ℕ). (standard_at binary64 (tables center scale) bin (live mask valid) x k).sound) j
 
 abbrev pub invariant-loop-j : goal.invariant-loop-j
 invariant-loop-j l = Scored l.center l.scale l.bin l.mask l.valid l.x l.z l.sound l.j
-
-abbrev pub decreases-loop-j : goal.decreases-loop-j
-decreases-loop-j l = 12 - l.j

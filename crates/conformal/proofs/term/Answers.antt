@@ -2,7 +2,6 @@
 use mathlib.Core.Path.{◌≡◌, refl}
 use mathlib.Core.Bool.{false}
 use native.Mathlib.Omega.{arith}
-use borrow.Author.Rules.{rules}
 use lib.Ieee.{inf, of_bits, div}
 use Rattle.checked.specs.Each.{all, some, at}
 use Rattle.checked.specs.Least.{lesser}
@@ -14,35 +13,13 @@ use Rattle.conformal.proofs.term.Goals as goal
 
 pub loop-j-init : goal.loop-j-init
 unfolding all Rattle.checked.specs.Each.some join_where of_bits div
-loop-j-init c = record { along = search rules; some-so-far = refl; every-so-far = refl; least-so-far = refl }
-
-pub bit-named-requires : goal.bit-named-requires
-bit-named-requires c = omega arith
-
-pub bit-requires : goal.bit-requires
-bit-requires c = omega arith
-
-pub bit-requires-in-loop-j : goal.bit-requires-in-loop-j
-bit-requires-in-loop-j c = omega arith
-
-pub offset_bounds-z-j : goal.offset_bounds-z-j
-offset_bounds-z-j c = omega arith
-
-pub bounds-z-j : goal.bounds-z-j
-bounds-z-j c = omega arith
-
-pub overflow_add-j : goal.overflow_add-j
-overflow_add-j c = omega arith
-
-pub loop-j-smaller : goal.loop-j-smaller
-loop-j-smaller c = omega arith
+loop-j-init c = record { some-so-far = refl; every-so-far = refl; least-so-far = refl }
 
 pub loop-j-preserved : goal.loop-j-preserved
 loop-j-preserved c =
     let p = c in
     let l = p.loop-j.invariant in
     let a = p.args in record {
-      along = omega arith;
       some-so-far = some_more _ _ _ _ l.some-so-far p.bit-named.ensures;
       every-so-far = all_more _ _ _ _ l.every-so-far (rw (p.bit-named.ensures, c.bit.ensures, c.bit-in-loop-j.ensures));
       least-so-far = join_more lesser (inf false) (bit a.bits) (at a.z.now) _ _ _ _ _ l.least-so-far p.bit-named.ensures refl c.lesser_where-least.ensures;

@@ -2,7 +2,6 @@
 use Prim.Native.Nat.{ℕ}
 use mathlib.Core.Path.{◌≡◌, refl, sym, ◌∙◌}
 use native.Mathlib.Omega.{arith}
-use borrow.Author.Rules.{rules}
 use lib.Ieee.{lt, of_bits}
 use Rattle.checked.specs.Each.{all, at}
 use Rattle.checked.specs.Finite.{+0, finite, above_zero, all_above_zero}
@@ -15,32 +14,14 @@ returns-then-v-n c = let s = c.args in sym (all_missing above_zero s.v.now s.n r
 
 pub loop-i-init : goal.loop-i-init
 unfolding all
-loop-i-init c = (search rules, (refl, refl))
-
-pub offset_bounds-v-i : goal.offset_bounds-v-i
-offset_bounds-v-i c = omega arith
-
-pub bounds-v-i : goal.bounds-v-i
-bounds-v-i c = omega arith
-
-pub offset_bounds-v-i-in-loop-i : goal.offset_bounds-v-i-in-loop-i
-offset_bounds-v-i-in-loop-i c = omega arith
-
-pub bounds-v-i-in-loop-i : goal.bounds-v-i-in-loop-i
-bounds-v-i-in-loop-i c = omega arith
-
-pub overflow_add-i : goal.overflow_add-i
-overflow_add-i c = omega arith
-
-pub loop-i-smaller : goal.loop-i-smaller
-loop-i-smaller c = omega arith
+loop-i-init c = (refl, refl)
 
 pub loop-i-preserved : goal.loop-i-preserved
 unfolding of_bits
-loop-i-preserved c = let l = c.loop-i.invariant in (omega arith, (all_more _ _ _ _ l.1.0 refl, all_more _ _ _ _ l.1.1 c.finite-real.ensures))
+loop-i-preserved c = let l = c.loop-i.invariant in (all_more _ _ _ _ l.0 refl, all_more _ _ _ _ l.1 c.finite-real.ensures)
 
 pub returns : goal.returns
 unfolding all_above_zero above_zero
 returns c = let l = c.loop-i in
     let e : l.i ≡ c.args.n = omega arith in
-    (rw e at l.invariant.1.0) &&≡ (rw e at l.invariant.1.1) ∙ all_both (λ (k : ℕ). lt +0 (at c.args.v.now k)) (λ (k : ℕ). finite (at c.args.v.now k)) c.args.n
+    (rw e at l.invariant.0) &&≡ (rw e at l.invariant.1) ∙ all_both (λ (k : ℕ). lt +0 (at c.args.v.now k)) (λ (k : ℕ). finite (at c.args.v.now k)) c.args.n

@@ -1,12 +1,9 @@
 -- `fmath::all_finite` meets its contract: a number that is not there is not finite, and the loop keeps the answer so far.
-use Prim.Native.Nat.{ℕ, ◌≤◌, ◌-◌}
+use Prim.Native.Nat.{ℕ}
 use mathlib.Core.Path.{◌≡◌}
 use Rattle.checked.specs.Each.{all, at}
 use Rattle.checked.specs.Finite.{finite}
 use Rattle.fmath.proofs.all_finite.Given as goal
 
 abbrev pub invariant-loop-i : goal.invariant-loop-i
-invariant-loop-i l = (l.i ≤ l.n) × (l.ok ≡ all (λ (k : ℕ). finite (at l.v k)) l.i)
-
-abbrev pub decreases-loop-i : goal.decreases-loop-i
-decreases-loop-i l = l.n - l.i
+invariant-loop-i l = l.ok ≡ all (λ (k : ℕ). finite (at l.v k)) l.i

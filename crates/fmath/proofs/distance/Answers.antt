@@ -1,8 +1,6 @@
 -- `fmath::distance` meets its contract: the loop keeps the sum so far, and a coordinate that is not there makes a NaN.
 use mathlib.Core.Path.{refl, sym}
 use native.Mathlib.Nat.{le_antisymm}
-use native.Mathlib.Omega.{arith}
-use borrow.Author.Rules.{rules}
 use lib.Ieee.{binary64, of_bits, div}
 use Rattle.checked.specs.Finite.{+0}
 use Rattle.checked.specs.Checked.{sum_from}
@@ -21,17 +19,17 @@ returns-then-b-n c = let s = c.args in sym (dist_missing_right binary64 s.a.now 
 
 pub loop-j-init : goal.loop-j-init
 unfolding sum_from of_bits
-loop-j-init c = (search rules, refl)
+loop-j-init c = refl
 
 pub loop-j-preserved : goal.loop-j-preserved
 unfolding squared_gap
 loop-j-preserved c =
     let l = c.loop-j in
     let s = c.args in
-    (omega arith, sum_more binary64 +0 (squared_gap binary64 s.a.now s.b.now) l.j _ _ l.invariant.1 refl)
+    sum_more binary64 +0 (squared_gap binary64 s.a.now s.b.now) l.j _ _ l.invariant refl
 
 pub returns : goal.returns
 returns c =
     let l = c.loop-j in
     let s = c.args in
-    dist_done binary64 s.a.now s.b.now s.n l.j _ _ l.invariant.1 (le_antisymm l.invariant.0 c.loop-j-test.false) c.sqrt.ensures
+    dist_done binary64 s.a.now s.b.now s.n l.j _ _ l.invariant (le_antisymm l.auto.j-end c.loop-j-test.false) c.sqrt.ensures

@@ -1,5 +1,4 @@
 -- `fmath::distance` meets its contract: the loop keeps the sum so far, and a coordinate that is not there makes a NaN.
-use Prim.Native.Nat.{◌≤◌, ◌-◌}
 use mathlib.Core.Path.{◌≡◌}
 use lib.Ieee.{binary64}
 use Rattle.checked.specs.Finite.{+0}
@@ -8,7 +7,4 @@ use Rattle.fmath.specs.Norm.{squared_gap}
 use Rattle.fmath.proofs.distance.Given as goal
 
 abbrev pub invariant-loop-j : goal.invariant-loop-j
-invariant-loop-j l = (l.j ≤ l.n) × (l.s ≡ (sum_from binary64 +0 (squared_gap binary64 l.a l.b) l.j).value)
-
-abbrev pub decreases-loop-j : goal.decreases-loop-j
-decreases-loop-j l = l.n - l.j
+invariant-loop-j l = l.s ≡ (sum_from binary64 +0 (squared_gap binary64 l.a l.b) l.j).value

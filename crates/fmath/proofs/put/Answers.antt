@@ -3,7 +3,6 @@ use Prim.Native.Nat.{min}
 use mathlib.Core.Path.{refl, ap, ◌∙◌}
 use native.Mathlib.Nat.{le_antisymm}
 use native.Mathlib.Omega.{arith}
-use borrow.Author.Rules.{rules}
 use lib.ListN.{length-set}
 use Rattle.checked.specs.Each.{at, over}
 use Rattle.checked.proofs.Each.{over_more}
@@ -12,7 +11,6 @@ use Rattle.fmath.proofs.put.Goals as goal
 pub loop-i-init : goal.loop-i-init
 unfolding over
 loop-i-init c = let e = c.fewer-count.ensures in let d = c.fewer-there.ensures in record {
-  along = search rules;
   enough = omega arith;
   room = omega arith;
   same = refl;
@@ -21,7 +19,6 @@ loop-i-init c = let e = c.fewer-count.ensures in let d = c.fewer-there.ensures i
 
 pub loop-i-preserved : goal.loop-i-preserved
 loop-i-preserved c = let l = c in let v = l.loop-i.invariant in record {
-  along = omega arith;
   enough = v.enough;
   room = v.room;
   same = length-set l.loop-i.out l.loop-i.i _ ∙ v.same;
@@ -36,4 +33,4 @@ returns c =
     let l = c.loop-i in
     let first = c.fewer-there.ensures in
     let g = c.args in
-    l.invariant.so_far ∙ ap (over (at g.from.now) g.out.now) (le_antisymm l.invariant.along c.loop-i-test.false ∙ c.fewer-count.ensures ∙ ap (min g.n) first)
+    l.invariant.so_far ∙ ap (over (at g.from.now) g.out.now) (le_antisymm l.auto.i-end c.loop-i-test.false ∙ c.fewer-count.ensures ∙ ap (min g.n) first)

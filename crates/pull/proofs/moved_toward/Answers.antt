@@ -2,8 +2,6 @@
 use mathlib.Core.Path.{refl, ap, ◌∙◌}
 use mathlib.Core.Bool.{Bool, ◌&&◌}
 use native.Mathlib.Nat.{le_antisymm}
-use native.Mathlib.Omega.{arith}
-use borrow.Author.Rules.{rules}
 use lib.Ieee.{binary64, Float, Format, sub, mul}
 use Rattle.checked.specs.Each.{at}
 use Rattle.checked.specs.Finite.{finite}
@@ -23,11 +21,15 @@ toward-tells f s q x =
 
 pub loop-i-init : goal.loop-i-init
 unfolding each
-loop-i-init c = (search rules, (refl, refl))
+loop-i-init c = (refl, refl)
 
 pub loop-i-preserved : goal.loop-i-preserved
 unfolding toward
-loop-i-preserved c = let l = c in let g = l.args in let e = towards binary64 g.s g.q.now g.a in (omega arith, (each_value e g.a l.loop-i.i _ _ l.loop-i.invariant.1.0 refl, each_sound e g.a l.loop-i.i _ _ _ l.loop-i.invariant.1.1 c.finite-sound.ensures refl (toward-tells binary64 g.s (at g.q.now l.loop-i.i) (at g.a l.loop-i.i))))
+loop-i-preserved c =
+    let l = c.loop-i in
+    let g = c.args in
+    let e = towards binary64 g.s g.q.now g.a in
+    (each_value e g.a l.i _ _ l.invariant.0 refl, each_sound e g.a l.i _ _ _ l.invariant.1 c.finite-sound.ensures refl (toward-tells binary64 g.s (at g.q.now l.i) (at g.a l.i)))
 
 pub returns : goal.returns
-returns c = let l = c in let e = le_antisymm l.loop-i.invariant.0 c.loop-i-test.false in a_row _ (rw e at l.loop-i.invariant.1.0) (rw e at l.loop-i.invariant.1.1)
+returns c = let l = c.loop-i in let e = le_antisymm l.auto.i-end c.loop-i-test.false in a_row _ (rw e at l.invariant.0) (rw e at l.invariant.1)

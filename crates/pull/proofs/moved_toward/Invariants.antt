@@ -1,5 +1,4 @@
 -- `pull::moved_toward` meets its contract: one coordinate a turn, with one test of it.
-use Prim.Native.Nat.{◌≤◌, ◌-◌}
 use mathlib.Core.Path.{◌≡◌}
 use lib.Ieee.{binary64}
 use Rattle.checked.specs.Checked.{each}
@@ -7,7 +6,4 @@ use Rattle.pull.specs.Rule.{towards}
 use Rattle.pull.proofs.moved_toward.Given as goal
 
 abbrev pub invariant-loop-i : goal.invariant-loop-i
-invariant-loop-i l = (l.i ≤ l.n) × ((l.r ≡ (each (towards binary64 l.s l.q l.a) l.a l.i).value) × (l.sound ≡ (each (towards binary64 l.s l.q l.a) l.a l.i).sound))
-
-abbrev pub decreases-loop-i : goal.decreases-loop-i
-decreases-loop-i l = l.n - l.i
+invariant-loop-i l = (l.r ≡ (each (towards binary64 l.s l.q l.a) l.a l.i).value) × (l.sound ≡ (each (towards binary64 l.s l.q l.a) l.a l.i).sound)

@@ -19,37 +19,22 @@ overflow_sub-n c = let r = path_range c.args.w c.args.len c.if-w-len.false in om
 
 pub loop-j-init : goal.loop-j-init
 unfolding sum_from of_bits
-loop-j-init c = (omega arith, refl)
-
-pub overflow_sub-n-in-loop-j : goal.overflow_sub-n-in-loop-j
-overflow_sub-n-in-loop-j c = omega arith
-
-pub overflow_sub-n-in-loop-j-2 : goal.overflow_sub-n-in-loop-j-2
-overflow_sub-n-in-loop-j-2 c = omega arith
-
-pub overflow_sub-n-in-loop-j-3 : goal.overflow_sub-n-in-loop-j-3
-overflow_sub-n-in-loop-j-3 c = omega arith
+loop-j-init c = refl
 
 pub between-acc-requires : goal.between-acc-requires
 between-acc-requires c =
     let r = path_range c.args.w c.args.len c.if-w-len.false in
     omega arith
 
-pub overflow_add-j : goal.overflow_add-j
-overflow_add-j c = omega arith
-
-pub loop-j-smaller : goal.loop-j-smaller
-loop-j-smaller c = omega arith
-
 pub loop-j-preserved : goal.loop-j-preserved
 unfolding step
 loop-j-preserved c =
     let a = c.args in
-    (omega arith, sum_more binary64 +0 (step binary64 a.buf.now a.head a.d (a.w - 1)) c.loop-j.j _ _ c.loop-j.invariant.1 c.between-acc.ensures)
+    sum_more binary64 +0 (step binary64 a.buf.now a.head a.d (a.w - 1)) c.loop-j.j _ _ c.loop-j.invariant c.between-acc.ensures
 
 pub returns : goal.returns
 unfolding path
 returns c =
     let a = c.args in
     let all : c.loop-j.j ≡ a.w - 1 = omega arith in
-    rw c.if-w-len.false (c.loop-j.invariant.1 ∙ ap (λ (k : ℕ). (sum_from binary64 +0 (step binary64 a.buf.now a.head a.d (a.w - 1)) k).value) all)
+    rw c.if-w-len.false (c.loop-j.invariant ∙ ap (λ (k : ℕ). (sum_from binary64 +0 (step binary64 a.buf.now a.head a.d (a.w - 1)) k).value) all)

@@ -1,47 +1,18 @@
--- `window::stored` meets its contract: the loop has copied the first c numbers.
-use mathlib.Core.Path.{◌≡◌, refl}
+-- `window::stored` meets its contract: the numbers are copied over a part of the ring.
+use Prim.Native.Nat.{◌+◌, ◌-◌}
+use mathlib.Core.Path.{◌≡◌, ap, ◌∙◌}
+use mathlib.Core.List.{List, ◌++◌}
 use native.Mathlib.Omega.{arith}
-use borrow.Author.Rules.{rules}
-use lib.ListN.{length, length-set}
-use lib.Seq.{paste-zero}
-use Rattle.checked.proofs.Copy.{copy_more}
+use lib.Ieee.{Float}
+use lib.ListN.{length, take, drop, length-take}
+use lib.Seq.{take_all}
+use Rattle.std.proofs.lemmas.Slice.{put_mid-paste}
 use Rattle.window.proofs.stored.Goals as goal
-
-pub loop-c-init : goal.loop-c-init
-loop-c-init c = (search rules, refl, paste-zero c.args.buf c.args.at c.args.p.now)
-
-pub offset_bounds-p-c : goal.offset_bounds-p-c
-offset_bounds-p-c c = omega arith
-
-pub bounds-p-c : goal.bounds-p-c
-bounds-p-c c = omega arith
-
-pub overflow_add-all : goal.overflow_add-all
-overflow_add-all c = omega arith
-
-pub offset_bounds-all-at : goal.offset_bounds-all-at
-offset_bounds-all-at c = omega arith
-
-pub bounds-all-at : goal.bounds-all-at
-bounds-all-at c = omega arith
-
-pub overflow_add-c : goal.overflow_add-c
-overflow_add-c c = omega arith
-
-pub loop-c-smaller : goal.loop-c-smaller
-loop-c-smaller c = omega arith
-
-pub loop-c-preserved : goal.loop-c-preserved
-loop-c-preserved c =
-    let s = c.args in
-    let long : length s.buf ≡ 256 = search rules in (
-      omega arith,
-      simp length-set c.loop-c.invariant.1,
-      copy_more s.buf _ s.p.now s.at c.loop-c.c (omega arith) (omega arith) c.loop-c.invariant.2,
-    )
 
 pub returns : goal.returns
 returns c =
     let s = c.args in
-    let all : c.loop-c.c ≡ s.n = omega arith in
-    rw all at c.loop-c.invariant.2
+    let k : s.n ≡ s.at + s.n - s.at = omega arith in
+    let long : s.n ≡ length (take s.n s.p.now) = omega (arith, length-take s.n s.p.now) in
+    put_mid-paste s.at _ s.buf _ (take s.n s.p.now) s.n c.copy_from_slice.ensures.after k long
+    ∙ ap (λ (r : List Float). take s.at s.buf ++ r ++ drop (s.at + s.n) s.buf) (take_all s.n (take s.n s.p.now) (omega arith))

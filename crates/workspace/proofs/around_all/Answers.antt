@@ -15,7 +15,6 @@ use Rattle.workspace.proofs.around_all.Goals as goal
 pub loop-i-init : goal.loop-i-init
 loop-i-init c =
     record {
-      along = omega arith;
       wide = search rules;
       so_far = (λ j b. absurd (omega arith));
       told = λ t j b. absurd (omega arith);
@@ -30,7 +29,6 @@ loop-i-preserved c =
     let m = 2 * l.i in
     let near = near_more (λ (j : ℕ). (gap binary64 (walls_of s.w) s.p j).value) l.near m one.result.near other.result.near (omega (arith, l.invariant.wide)) l.invariant.so_far one.ensures.0 other.ensures.0 in
     let told = sums_tell binary64 (walls_of s.w) s.p m l.even l.odd one.result.sum other.result.sum l.invariant.told one.ensures.1 other.ensures.1 in record {
-      along = omega arith;
       wide = length-set (set l.near m one.result.near) (m + 1) other.result.near ∙ length-set l.near m one.result.near ∙ l.invariant.wide;
       so_far = (λ j b. near j (omega arith));
       told = λ t j b. told t j (omega arith);

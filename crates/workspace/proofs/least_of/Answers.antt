@@ -9,16 +9,16 @@ use Rattle.workspace.proofs.least_of.Goals as goal
 
 pub loop-j-init : goal.loop-j-init
 unfolding least of_bits div
-loop-j-init c = (omega arith, refl)
+loop-j-init c = refl
 
 pub loop-j-preserved : goal.loop-j-preserved
 loop-j-preserved c =
     let l = c.loop-j in
     let s = c.args in
-    (omega arith, c.min-least.ensures ∙ least_more (at s.near) l.j l.least _ l.invariant.1 refl)
+    c.min-least.ensures ∙ least_more (at s.near) l.j l.least _ l.invariant refl
 
 pub returns : goal.returns
 returns c =
     let l = c.loop-j in
     let e : l.j ≡ c.args.n = omega arith in
-    rw e at l.invariant.1
+    rw e at l.invariant

@@ -1,5 +1,5 @@
 -- `workspace::slack_r` meets its contract: a point with fewer coordinates has no slack, and the loop keeps the least so far, the disc's first.
-use Prim.Native.Nat.{ℕ, ◌-◌, ◌≤◌}
+use Prim.Native.Nat.{ℕ, ◌≤◌}
 use mathlib.Core.Path.{◌≡◌}
 use mathlib.Core.Bool.{Bool}
 use mathlib.Core.List.{List}
@@ -19,6 +19,3 @@ pub record Measuring (r : Float) (w : Workspace) (p : List Float) (n : ℕ) (lea
 
 abbrev pub invariant-loop-j : goal.invariant-loop-j
 invariant-loop-j l = Measuring l.r l.w l.p l.n l.least l.sound l.j
-
-abbrev pub decreases-loop-j : goal.decreases-loop-j
-decreases-loop-j l = l.n - l.j

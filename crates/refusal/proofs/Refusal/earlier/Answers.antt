@@ -1,4 +1,4 @@
--- `Refusal::earlier` meets its contract: the loop walks the order, and neither number was met so far.
+-- `Refusal::earlier` meets its contract: the loop goes through the order, and neither number was met so far.
 use Prim.Native.Nat.{ℕ, zero, suc, ◌<◌}
 use mathlib.Core.Path.{◌≡◌, refl, sym, ap, ◌∙◌}
 use mathlib.Core.Bool.{true, false, ◌&&◌, ◌||◌, false≢true}
@@ -41,17 +41,11 @@ none (suc a) b e = absurd (false≢true (rw (ne_eqb (suc a) 0 (λ z. omega arith
 pub returns-then-a-b : goal.returns-then-a-b
 returns-then-a-b c = none c.args.a c.args.b c.if-a-b.true
 
-pub loop-i-init : goal.loop-i-init
-loop-i-init c = (omega arith, refl)
-
 pub returns-then-a-n : goal.returns-then-a-n
-returns-then-a-n c = let l = c.loop-i in let g = c.args in sym (l.invariant.1 ∙ met g.a g.b order l.i c.loop-i-test.true c.if-a-n.true)
+returns-then-a-n c = let l = c.loop-n in let g = c.args in sym (l.invariant ∙ met g.a g.b order l.n-index c.loop-n-test.true c.if-a-n.true)
 
-pub loop-i-preserved : goal.loop-i-preserved
-loop-i-preserved c =
-    let l = c.loop-i in
-    let g = c.args in
-    (omega arith, rw add-one (l.invariant.1 ∙ passed g.a g.b order l.i c.loop-i-test.true c.if-a-n.false))
+pub loop-n-preserved : goal.loop-n-preserved
+loop-n-preserved c = let l = c.loop-n in let g = c.args in rw add-one (l.invariant ∙ passed g.a g.b order l.n-index c.loop-n-test.true c.if-a-n.false)
 
 pub returns : goal.returns
-returns c = let l = c.loop-i in sym (l.invariant.1 ∙ ap (λ (i : ℕ). first_of (named c.args.a or named c.args.b) (drop i order)) (le_antisymm l.invariant.0 c.loop-i-test.false))
+returns c = let l = c.loop-n in sym (l.invariant ∙ ap (λ (i : ℕ). first_of (named c.args.a or named c.args.b) (drop i order)) (le_antisymm l.auto.n-index-end c.loop-n-test.false))
