@@ -41,7 +41,7 @@ use Rattle.tier0.specs.declared.Checks.{Checks}
 use Rattle.tier0.specs.declared.Tier0Out.TheVariants.{Passed}
 use Rattle.tier0.specs.Rule.{SPEED, REACH, arms, box_dims, Slow, clear, slow_zone, out_of_workspace, out_of_reach, leash, moved_inside, leashed, reached, moves, project, projection, moves_inside, row_masks, Projected, check_action}
 use Rattle.tier0.specs.Chunk.{raw_row, start_row, row_before, step_to, some_longer, peak_step, some_out_of_workspace, some_of, next_row, run_rows, projected_rows, check_chunk}
-use Rattle.tier0.specs.Promises.{accepts, raised, chunk_trips, action_trips, UnarmedAction, UnarmedChunk}
+use Rattle.tier0.specs.Promises.{accepts, chunk_trips, action_trips, UnarmedAction, UnarmedChunk}
 use Rattle.tier0.specs.Refusals.{too_short}
 use Rattle.tier0.specs.Of.{checks_of, action_ruling, action_refusal, action_answer, action_out, chunk_ruling, chunk_refusal, chunk_answer, chunk_out}
 use Rattle.tier0.specs.Calm.{Calm, ChunkUntouched, ActionUntouched, Gated, ChunkAgain, ActionAgain, CalmPromised}

@@ -1,5 +1,5 @@
 -- `tier0::projected::moved_dims` meets its contract: bit by bit, each below the next power of two.
-use Prim.Native.Nat.{ℕ, ◌-◌}
+use Prim.Native.Nat.{ℕ}
 use mathlib.Core.Path.{refl}
 use native.Mathlib.Nat.{le_antisymm}
 use native.Mathlib.Omega.{arith}

@@ -1,5 +1,4 @@
 -- `tier0::projected::put_row` meets its contract: the loop puts one number a turn and keeps the length.
-use Prim.Native.Nat.{◌-◌}
 use mathlib.Core.Path.{refl, ap, ◌∙◌}
 use native.Mathlib.Nat.{le_antisymm}
 use native.Mathlib.Omega.{arith}

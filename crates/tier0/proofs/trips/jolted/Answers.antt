@@ -1,5 +1,4 @@
 -- `tier0::trips::jolted` meets its contract: one coordinate a turn, with one test of it.
-use Prim.Native.Nat.{◌-◌}
 use mathlib.Core.Path.{refl}
 use native.Mathlib.Nat.{le_antisymm}
 use native.Mathlib.Omega.{arith}

@@ -1,5 +1,4 @@
 -- `tier0::trips::step_rows` meets its contract: each turn adds one step to what is kept of all.
-use Prim.Native.Nat.{◌-◌}
 use native.Mathlib.Nat.{le_antisymm}
 use native.Mathlib.Omega.{arith}
 use lib.Ieee.{binary64, of_bits}

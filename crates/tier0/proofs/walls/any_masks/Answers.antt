@@ -1,5 +1,4 @@
 -- `tier0::walls::any_masks` meets its contract: the loop joins the masks of one row a turn.
-use Prim.Native.Nat.{◌-◌}
 use native.Mathlib.Nat.{le_antisymm}
 use native.Mathlib.Omega.{arith}
 use Rattle.chunk.proofs.Rows.{row_fits}

@@ -1,5 +1,4 @@
 -- `tier0::zone::slowest` meets its contract: the loop keeps what the zones so far say together.
-use Prim.Native.Nat.{◌-◌}
 use mathlib.Core.Path.{◌≡◌}
 use native.Mathlib.Omega.{arith}
 use lib.Ieee.{binary64}
@@ -14,12 +13,6 @@ offset_bounds-list-k c = omega arith
 
 pub bounds-list-k : goal.bounds-list-k
 bounds-list-k c = omega arith
-
-pub overflow_add-k : goal.overflow_add-k
-overflow_add-k c = omega arith
-
-pub loop-k-smaller : goal.loop-k-smaller
-loop-k-smaller c = omega arith
 
 pub loop-k-preserved : goal.loop-k-preserved
 loop-k-preserved c =
