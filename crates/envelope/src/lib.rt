@@ -211,10 +211,8 @@ fn low_walls(shape: Shape, lo: &[f64; 8], margin: f64, n: usize) -> [f64; 8]
 {
     let first = workspace::first_boxed(shape);
     let mut walls = [0.0; 8];
-    let mut i = 0usize;
-    while i < 8 {
+    for i in 0..8 {
         walls[i] = keep((first <= i) & (i < n), lo[i] + margin);
-        i += 1;
     }
     walls
 }
@@ -225,10 +223,8 @@ fn high_walls(shape: Shape, hi: &[f64; 8], margin: f64, n: usize) -> [f64; 8]
 {
     let first = workspace::first_boxed(shape);
     let mut walls = [0.0; 8];
-    let mut i = 0usize;
-    while i < 8 {
+    for i in 0..8 {
         walls[i] = keep((first <= i) & (i < n), hi[i] - margin);
-        i += 1;
     }
     walls
 }
@@ -238,10 +234,8 @@ fn inverses(scale: &[f64; 8], n: usize) -> [f64; 8]
     ensures { result ≡ inverses binary64 scale.now n }
 {
     let mut inv = [0.0; 8];
-    let mut i = 0usize;
-    while i < 8 {
+    for i in 0..8 {
         inv[i] = keep(i < n, 1.0 / scale[i]);
-        i += 1;
     }
     inv
 }
@@ -259,10 +253,8 @@ fn isotropic(scale: &[f64; 8], n: usize) -> f64
 {
     let count = at_most_8(n);
     let mut least = 1.0 / 0.0;
-    let mut i = 0usize;
-    while i < count {
+    for i in 0..count {
         least = fmath::min(least, scale[i]);
-        i += 1;
     }
     least
 }
@@ -370,12 +362,10 @@ fn zones_ok(zones: Zones) -> bool
     let list = zones.list;
     let n = counted(zones);
     let mut ok = true;
-    let mut k = 0usize;
-    while k < n {
+    for k in 0..n {
         let slot = list[k];
         let contact = slot.contact;
         ok = ok & zone_ok(contact);
-        k += 1;
     }
     ok
 }
@@ -398,10 +388,8 @@ fn walls_finite(shape: Shape, walls: [f64; 8], n: usize) -> bool
     }
     let first = workspace::first_boxed(shape);
     let mut ok = true;
-    let mut i = 0usize;
-    while i < n {
+    for i in 0..n {
         ok = ok & (!(first <= i) | fmath::finite(walls[i]));
-        i += 1;
     }
     ok
 }
@@ -434,10 +422,8 @@ fn ordered<'a>(lo: &'a [f64; 8], hi: &'a [f64; 8]) -> bool
     ensures { result ≡ ordered lo.now hi.now }
 {
     let mut ok = true;
-    let mut i = 0usize;
-    while i < 8 {
+    for i in 0..8 {
         ok = ok & !(hi[i] < lo[i]);
-        i += 1;
     }
     ok
 }
@@ -559,12 +545,10 @@ fn pair_is_own(zones: Zones, k: usize) -> bool
     let slot = list[k];
     let contact = slot.contact;
     let mut ok = true;
-    let mut m = 0usize;
-    while m < k {
+    for m in 0..k {
         let before = list[m];
         let other = before.contact;
         ok = ok & !same_pair(other, contact);
-        m += 1;
     }
     ok
 }
@@ -576,14 +560,12 @@ fn zones_fit(zones: Zones, aux_count: usize) -> bool
     let list = zones.list;
     let n = counted(zones);
     let mut ok = true;
-    let mut k = 0usize;
-    while k < n {
+    for k in 0..n {
         let slot = list[k];
         let contact = slot.contact;
         let right = channels_ok(contact, aux_count);
         let own = pair_is_own(zones, k);
         ok = ok & (right & own);
-        k += 1;
     }
     ok
 }

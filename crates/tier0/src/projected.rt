@@ -88,11 +88,9 @@ fn moved_dims(a: &[f64; 8], b: &[f64; 8], n: usize) -> u32
 {
     let mut m = 0u32;
     let mut w = 1u32;
-    let mut i = 0usize;
-    while i < n {
+    for i in 0..n {
         m = m + bits::weight(a[i] != b[i], w);
         w = w * 2;
-        i += 1;
     }
     m
 }
@@ -142,10 +140,8 @@ fn put_row(r: [f64; 8], k: usize, n: usize, out: &mut [f64])
     requires { (n ≤ 8) × (k + n ≤ length out.old) }
     ensures { out.new ≡ put_row r out.old k n }
 {
-    let mut i = 0usize;
-    while i < n {
+    for i in 0..n {
         out[k + i] = r[i];
-        i += 1;
     }
 }
 
@@ -188,8 +184,7 @@ fn run_rows(
     let mut q = q0;
     let mut mask = 0u32;
     let mut sound = true;
-    let mut i = 0usize;
-    while i < h {
+    for i in 0..h {
         let a = raw_row(rows, n, i);
         let r = next_row(s, z, pos, inside, i == 0, q, a);
         let at = r.at;
@@ -197,7 +192,6 @@ fn run_rows(
         put_row(at, i * n, n, out);
         q = at;
         sound = sound & r.sound;
-        i += 1;
     }
     MovedRows { mask, sound }
 }

@@ -80,8 +80,7 @@ pub(crate) fn step_rows(s: Checks, slow: f64, q: [f64; 8], rows: &[f64], h: usiz
     let mut out = false;
     let mut told = true;
     let mut sound = true;
-    let mut i = 0usize;
-    while i < h {
+    for i in 0..h {
         let a = raw_row(rows, s.dim, i);
         let b = row_before(q, rows, s.dim, i);
         let n = fmath::distance(&a, &b, s.dim);
@@ -92,7 +91,6 @@ pub(crate) fn step_rows(s: Checks, slow: f64, q: [f64; 8], rows: &[f64], h: usiz
         out = out | beyond.holds;
         told = told & beyond.sound;
         sound = sound & fmath::finite(n);
-        i += 1;
     }
     Stride {
         peak,
@@ -113,12 +111,10 @@ fn bent(next: &[f64; 8], here: &[f64; 8], before: &[f64; 8], n: usize) -> Row
 {
     let mut r = [0.0; 8];
     let mut sound = true;
-    let mut i = 0usize;
-    while i < n {
+    for i in 0..n {
         let x = (next[i] - 2.0 * here[i]) + before[i];
         r[i] = x;
         sound = sound & fmath::finite(x);
-        i += 1;
     }
     Row { at: r, sound }
 }
@@ -130,12 +126,10 @@ fn jolted(second: &[f64; 8], next: &[f64; 8], here: &[f64; 8], before: &[f64; 8]
 {
     let mut r = [0.0; 8];
     let mut sound = true;
-    let mut i = 0usize;
-    while i < n {
+    for i in 0..n {
         let x = ((second[i] - 3.0 * next[i]) + 3.0 * here[i]) - before[i];
         r[i] = x;
         sound = sound & fmath::finite(x);
-        i += 1;
     }
     Row { at: r, sound }
 }
@@ -218,12 +212,10 @@ fn large_rows(s: Checks, d: Difference, q: [f64; 8], rows: &[f64], h: usize) -> 
     let n = further(d);
     let mut holds = false;
     let mut sound = true;
-    let mut i = 0usize;
-    while i + n < h {
+    for i in 0..h.saturating_sub(n) {
         let t = large_at(s, d, q, rows, i);
         holds = holds | t.holds;
         sound = sound & t.sound;
-        i += 1;
     }
     Test { holds, sound }
 }

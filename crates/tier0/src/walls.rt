@@ -47,13 +47,11 @@ fn any_masks(s: Checks, rows: &[f64], h: usize) -> WallMasks
     let n = box_dims(s);
     let mut low = 0u32;
     let mut high = 0u32;
-    let mut i = 0usize;
-    while i < h {
+    for i in 0..h {
         let a = raw_row(rows, s.dim, i);
         let m = workspace::wall_masks(shape, walls, &a, n);
         low = low | m.low;
         high = high | m.high;
-        i += 1;
     }
     WallMasks { low, high }
 }

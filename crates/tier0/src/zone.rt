@@ -133,14 +133,12 @@ fn slowest(dt: f64, absent_camera: AbsentCamera, zones: Zones, pos: &[f64], aux:
     let list = zones.list;
     let n = envelope::counted(zones);
     let mut found = no_zone();
-    let mut k = 0usize;
-    while k < n {
+    for k in 0..n {
         let slot = list[k];
         let contact = slot.contact;
         let z = zone_in(dt, absent_camera, contact, pos, aux);
         let next = slower(found, z);
         found = next;
-        k += 1;
     }
     found
 }

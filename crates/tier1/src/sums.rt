@@ -35,12 +35,10 @@ fn row_gaps(m: Manifest, from: f64, a: &[f64], b: &[f64]) -> f64
 {
     let d = m.dim;
     let mut s = from;
-    let mut c = 0;
-    while c < d {
+    for c in 0..d {
         let x = (a[c] - m.center[c]) * m.inverse[c];
         let y = (b[c] - m.center[c]) * m.inverse[c];
         s += (x - y) * (x - y);
-        c += 1;
     }
     s
 }
@@ -51,10 +49,8 @@ pub(crate) fn squared_gaps(m: Manifest, a: &[f64], k: usize, b: &[f64], n: usize
     ensures { result ≡ (sum_rows binary64 (gaps binary64 m a.now k b.now) m.dim n).value }
 {
     let mut s = 0.0;
-    let mut i = 0;
-    while i < n {
+    for i in 0..n {
         s = row_gaps(m, s, row(a, m.dim, k + i), row(b, m.dim, i));
-        i += 1;
     }
     s
 }
@@ -73,15 +69,13 @@ fn row_jolts(
 {
     let d = m.dim;
     let mut s = from;
-    let mut c = 0;
-    while c < d {
+    for c in 0..d {
         let x = (third[c] - m.center[c]) * m.inverse[c];
         let y = (second[c] - m.center[c]) * m.inverse[c];
         let z = (next[c] - m.center[c]) * m.inverse[c];
         let w = (here[c] - m.center[c]) * m.inverse[c];
         let v = ((x - 3.0 * y) + 3.0 * z) - w;
         s += v * v;
-        c += 1;
     }
     s
 }
@@ -93,8 +87,7 @@ pub(crate) fn squared_jolts(m: Manifest, b: &[f64], n: usize) -> f64
 {
     let d = m.dim;
     let mut s = 0.0;
-    let mut i = 0;
-    while i < n {
+    for i in 0..n {
         s = row_jolts(
             m,
             s,
@@ -103,7 +96,6 @@ pub(crate) fn squared_jolts(m: Manifest, b: &[f64], n: usize) -> f64
             row(b, d, i + 1),
             row(b, d, i),
         );
-        i += 1;
     }
     s
 }
@@ -115,11 +107,9 @@ pub(crate) fn step_lengths(m: Manifest, b: &[f64], n: usize) -> f64
 {
     let d = m.dim;
     let mut s = 0.0;
-    let mut i = 0;
-    while i < n {
+    for i in 0..n {
         let q = row_gaps(m, 0.0, row(b, d, 1 + i), row(b, d, i));
         s += root::sqrt(q);
-        i += 1;
     }
     s
 }
@@ -151,12 +141,10 @@ pub(crate) fn peak(d: usize, q: [f64; 8], b: &[f64], h: usize) -> Reckoned
     let n = fmath::distance(b, &q, d);
     let mut most = fmath::max(0.0, n);
     let mut sound = fmath::finite(n);
-    let mut i = 0;
-    while i + 1 < h {
+    for i in 0..h - 1 {
         let x = fmath::distance(row(b, d, i + 1), row(b, d, i), d);
         most = fmath::max(most, x);
         sound = sound & fmath::finite(x);
-        i += 1;
     }
     Reckoned { value: most, sound }
 }

@@ -83,13 +83,11 @@ fn gathered(
     let mut f = [0.0; 12];
     let mut valid = 0u32;
     let mut w = 1u32;
-    let mut j = 0usize;
-    while j < Feat::COUNT {
+    for j in 0..Feat::COUNT {
         let on = valid_at(held_valid, len, ext.len(), j, w);
         f[j] = feature_at(on, &held, ineff, ext, j);
         valid += bits::weight(on, w);
         w *= 2;
-        j += 1;
     }
     AllFeatures { f, valid, sound }
 }

@@ -18,12 +18,6 @@ offset_bounds-scale-i c = omega arith
 pub bounds-scale-i : goal.bounds-scale-i
 bounds-scale-i c = omega arith
 
-pub overflow_add-i : goal.overflow_add-i
-overflow_add-i c = omega arith
-
-pub loop-i-smaller : goal.loop-i-smaller
-loop-i-smaller c = omega arith
-
 pub loop-i-preserved : goal.loop-i-preserved
 unfolding Rattle.checked.specs.Least.least
 loop-i-preserved c = let l = c.loop-i in (omega arith, (l.invariant.1.0, rw (add-one, ← l.invariant.1.1) c.min-least.ensures))

@@ -27,12 +27,6 @@ offset_bounds-walls-i c = omega arith
 pub bounds-walls-i : goal.bounds-walls-i
 bounds-walls-i c = omega arith
 
-pub overflow_add-i : goal.overflow_add-i
-overflow_add-i c = omega arith
-
-pub loop-i-smaller : goal.loop-i-smaller
-loop-i-smaller c = omega arith
-
 pub loop-i-preserved : goal.loop-i-preserved
 loop-i-preserved c = let l = c.loop-i in (omega arith, (simp length-set l.invariant.1.0, table_more _ _ _ _ (omega arith) l.invariant.1.1 c.keep.ensures))
 

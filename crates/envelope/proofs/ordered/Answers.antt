@@ -23,12 +23,6 @@ offset_bounds-lo-i c = omega arith
 pub bounds-lo-i : goal.bounds-lo-i
 bounds-lo-i c = omega arith
 
-pub overflow_add-i : goal.overflow_add-i
-overflow_add-i c = omega arith
-
-pub loop-i-smaller : goal.loop-i-smaller
-loop-i-smaller c = omega arith
-
 pub loop-i-preserved : goal.loop-i-preserved
 loop-i-preserved c = (omega arith, all_more _ _ _ _ c.loop-i.invariant.1 refl)
 

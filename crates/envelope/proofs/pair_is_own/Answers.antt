@@ -22,12 +22,6 @@ offset_bounds-list-m c = omega arith
 pub bounds-list-m : goal.bounds-list-m
 bounds-list-m c = omega arith
 
-pub overflow_add-m : goal.overflow_add-m
-overflow_add-m c = omega arith
-
-pub loop-m-smaller : goal.loop-m-smaller
-loop-m-smaller c = omega arith
-
 pub loop-m-preserved : goal.loop-m-preserved
 loop-m-preserved c = (omega arith, all_more _ _ _ _ c.loop-m.invariant.1 (rw c.same_pair.ensures))
 

@@ -1,5 +1,5 @@
 -- `envelope::pair_is_own` meets its contract: the loop keeps the answer so far.
-use Prim.Native.Nat.{ℕ, ◌≤◌, ◌-◌}
+use Prim.Native.Nat.{ℕ, ◌≤◌}
 use mathlib.Core.Path.{◌≡◌}
 use mathlib.Core.Bool.{not}
 use lib.ListN.{get_or}
@@ -10,6 +10,3 @@ use Rattle.envelope.proofs.pair_is_own.Given as goal
 
 abbrev pub invariant-loop-m : goal.invariant-loop-m
 invariant-loop-m l = (l.m ≤ l.k) × (l.ok ≡ all (λ (i : ℕ). not (same_pair (get_or l.list i (record { contact = None })).contact l.contact)) l.m)
-
-abbrev pub decreases-loop-m : goal.decreases-loop-m
-decreases-loop-m l = l.k - l.m

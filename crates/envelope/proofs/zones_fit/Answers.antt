@@ -19,12 +19,6 @@ bounds-list-k c = omega arith
 pub pair_is_own-own-requires : goal.pair_is_own-own-requires
 pair_is_own-own-requires c = omega arith
 
-pub overflow_add-k : goal.overflow_add-k
-overflow_add-k c = omega arith
-
-pub loop-k-smaller : goal.loop-k-smaller
-loop-k-smaller c = omega arith
-
 pub loop-k-preserved : goal.loop-k-preserved
 loop-k-preserved c =
     let l = c.loop-k in

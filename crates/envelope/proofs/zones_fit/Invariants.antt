@@ -1,5 +1,5 @@
 -- `envelope::zones_fit` meets its contract: the loop keeps the answer so far.
-use Prim.Native.Nat.{ℕ, ◌≤◌, ◌-◌}
+use Prim.Native.Nat.{ℕ, ◌≤◌}
 use mathlib.Core.Path.{◌≡◌}
 use mathlib.Core.Bool.{◌&&◌}
 use Rattle.checked.specs.Each.{all}
@@ -9,6 +9,3 @@ use Rattle.envelope.proofs.zones_fit.Given as goal
 
 abbrev pub invariant-loop-k : goal.invariant-loop-k
 invariant-loop-k l = (l.k ≤ l.n) × ((l.n ≤ 4) × (l.ok ≡ all (λ (m : ℕ). channels_ok (zone_at l.zones m) l.aux_count && pair_is_own l.zones m) l.k))
-
-abbrev pub decreases-loop-k : goal.decreases-loop-k
-decreases-loop-k l = l.n - l.k

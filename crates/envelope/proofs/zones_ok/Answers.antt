@@ -16,12 +16,6 @@ offset_bounds-list-k c = omega arith
 pub bounds-list-k : goal.bounds-list-k
 bounds-list-k c = omega arith
 
-pub overflow_add-k : goal.overflow_add-k
-overflow_add-k c = omega arith
-
-pub loop-k-smaller : goal.loop-k-smaller
-loop-k-smaller c = omega arith
-
 pub loop-k-preserved : goal.loop-k-preserved
 loop-k-preserved c = (omega arith, (c.loop-k.invariant.1.0, all_more _ _ _ _ c.loop-k.invariant.1.1 c.zone_ok-ok.ensures))
 

@@ -1,5 +1,5 @@
 -- `envelope::zones_ok` meets its contract: the loop keeps the answer so far.
-use Prim.Native.Nat.{ℕ, ◌≤◌, ◌-◌}
+use Prim.Native.Nat.{ℕ, ◌≤◌}
 use mathlib.Core.Path.{◌≡◌}
 use lib.ListN.{get_or}
 use Rattle.checked.specs.Each.{all}
@@ -9,6 +9,3 @@ use Rattle.envelope.proofs.zones_ok.Given as goal
 
 abbrev pub invariant-loop-k : goal.invariant-loop-k
 invariant-loop-k l = (l.k ≤ l.n) × ((l.n ≤ 4) × (l.ok ≡ all (λ (m : ℕ). zone_ok (get_or l.list m (record { contact = None })).contact) l.k))
-
-abbrev pub decreases-loop-k : goal.decreases-loop-k
-decreases-loop-k l = l.n - l.k

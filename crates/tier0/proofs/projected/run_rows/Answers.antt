@@ -29,9 +29,6 @@ overflow_mul-i c = let w = c in let h = size_small c.loop-i.i w.args.s.dim (omeg
 pub put_row-requires : goal.put_row-requires
 put_row-requires c = let w = c in (w.requires.0, rw c.loop-i.invariant.1.0 (row_fits _ _ _ _ c.loop-i-test.true w.requires.3))
 
-pub overflow_add-i : goal.overflow_add-i
-overflow_add-i c = omega (arith, c.loop-i-test.true, c.requires.1)
-
 pub loop-i-preserved : goal.loop-i-preserved
 loop-i-preserved c = let l = c in (omega (arith, c.loop-i-test.true), (ap length c.put_row.ensures ∙ length_put _ _ _ _ ∙ l.loop-i.invariant.1.0, row_turn binary64 _ _ _ _ _ _ _ _ _ _ _ _ _ _ _ l.loop-i.invariant.1.1 c.raw_row-a.ensures c.next_row-r.ensures c.moved_dims-mask.ensures c.put_row.ensures))
 

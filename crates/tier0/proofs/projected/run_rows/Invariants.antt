@@ -1,5 +1,5 @@
 -- `tier0::projected::run_rows` meets its contract: each turn projects one row from the projected one before it.
-use Prim.Native.Nat.{◌≤◌, ◌-◌}
+use Prim.Native.Nat.{◌≤◌}
 use mathlib.Core.Path.{◌≡◌}
 use lib.ListN.{length}
 use lib.Ieee.{binary64}
@@ -10,6 +10,3 @@ use Rattle.tier0.proofs.projected.run_rows.Given as goal
 
 abbrev pub invariant-loop-i : goal.invariant-loop-i
 invariant-loop-i l = (l.i ≤ l.h) × ((length l.out ≡ length l.initial.out) × Kept (run_rows binary64 l.s (slow_of l.z) l.pos l.rows l.initial.q l.initial.out l.i) l.q l.out l.mask l.sound)
-
-abbrev pub decreases-loop-i : goal.decreases-loop-i
-decreases-loop-i l = l.h - l.i

@@ -6,15 +6,12 @@ use lib.Ieee.{binary64}
 use Rattle.checked.specs.Each.{all, some}
 use Rattle.chunk.proofs.Rows.{row_fits}
 use Rattle.tier0.specs.Chunk.{some_of, large_at, further}
-use Rattle.tier0.proofs.Rows.{reads_few, some_turn, some_found}
+use Rattle.tier0.proofs.Rows.{some_turn, some_found}
 use Rattle.tier0.proofs.trips.large_rows.Goals as goal
 
 pub loop-i-init : goal.loop-i-init
 unfolding some_of some all
 loop-i-init c = (omega arith, (refl, refl))
-
-pub overflow_add-i : goal.overflow_add-i
-overflow_add-i c = let k = reads_few c.args.d in let e = c.further-n.ensures in let w = c.requires in omega (arith, e, k, w.1, c.loop-i.invariant.0)
 
 pub large_at-t-requires : goal.large_at-t-requires
 large_at-t-requires c = let w = c.requires in rw (← c.further-n.ensures) (w.0, omega (arith, c.loop-i-test.true, w.1), row_fits _ _ _ _ (omega (arith, c.loop-i-test.true)) w.2)

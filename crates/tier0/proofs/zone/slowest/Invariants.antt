@@ -1,5 +1,5 @@
 -- `tier0::zone::slowest` meets its contract: the loop keeps what the zones so far say together.
-use Prim.Native.Nat.{ℕ, ◌≤◌, ◌-◌}
+use Prim.Native.Nat.{ℕ, ◌≤◌}
 use mathlib.Core.Path.{◌≡◌}
 use lib.ListN.{get_or}
 use lib.Ieee.{binary64}
@@ -10,6 +10,3 @@ use Rattle.tier0.proofs.zone.slowest.Given as goal
 
 abbrev pub invariant-loop-k : goal.invariant-loop-k
 invariant-loop-k l = (l.k ≤ l.n) × ((l.n ≤ 4) × (l.found ≡ zone_from (slowest binary64 l.dt l.absent_camera (λ (m : ℕ). (get_or l.list m (record { contact = None })).contact) l.pos l.aux l.k)))
-
-abbrev pub decreases-loop-k : goal.decreases-loop-k
-decreases-loop-k l = l.n - l.k

@@ -1,5 +1,5 @@
 -- `tier1::sums::peak` meets its contract: the loop takes one step more a turn.
-use Prim.Native.Nat.{◌+◌, ◌-◌}
+use Prim.Native.Nat.{◌+◌}
 use mathlib.Core.Path.{◌≡◌}
 use native.Mathlib.Omega.{arith}
 use lib.Ieee.{binary64, of_bits}

@@ -1,5 +1,4 @@
 -- `tier1::sums::row_gaps` meets its contract: the loop adds one coordinate a turn.
-use Prim.Native.Nat.{◌-◌}
 use mathlib.Core.Path.{refl}
 use native.Mathlib.Nat.{le_antisymm}
 use native.Mathlib.Omega.{arith}

@@ -1,5 +1,5 @@
 -- `tier1::sums::squared_gaps` meets its contract: the loop adds one row a turn.
-use Prim.Native.Nat.{◌+◌, ◌-◌}
+use Prim.Native.Nat.{◌+◌}
 use mathlib.Core.Path.{refl}
 use native.Mathlib.Nat.{le_antisymm}
 use native.Mathlib.Omega.{arith}

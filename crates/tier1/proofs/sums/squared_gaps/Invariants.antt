@@ -1,5 +1,5 @@
 -- `tier1::sums::squared_gaps` meets its contract: the loop adds one row a turn.
-use Prim.Native.Nat.{◌≤◌, ◌-◌}
+use Prim.Native.Nat.{◌≤◌}
 use mathlib.Core.Path.{◌≡◌}
 use lib.Ieee.{binary64}
 use Rattle.tier1.specs.Rule.{sum_rows, gaps}
@@ -7,6 +7,3 @@ use Rattle.tier1.proofs.sums.squared_gaps.Given as goal
 
 abbrev pub invariant-loop-i : goal.invariant-loop-i
 invariant-loop-i l = (l.i ≤ l.n) × (l.s ≡ (sum_rows binary64 (gaps binary64 l.m l.a l.k l.b) l.m.dim l.i).value)
-
-abbrev pub decreases-loop-i : goal.decreases-loop-i
-decreases-loop-i l = l.n - l.i

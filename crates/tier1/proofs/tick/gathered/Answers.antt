@@ -1,5 +1,4 @@
 -- `tier1::tick::gathered` meets its contract: the loop takes one feature more a turn.
-use Prim.Native.Nat.{◌-◌}
 use mathlib.Core.Path.{◌≡◌, refl, ◌∙◌}
 use native.Mathlib.Omega.{arith}
 use borrow.Author.Rules.{rules}

@@ -1,5 +1,5 @@
 -- `tier1::tick::gathered` meets its contract: the loop takes one feature more a turn.
-use Prim.Native.Nat.{ℕ, ◌^◌, ◌≤◌, ◌-◌}
+use Prim.Native.Nat.{ℕ, ◌^◌, ◌≤◌}
 use mathlib.Core.List.{List}
 use mathlib.Core.Path.{◌≡◌}
 use lib.Ieee.{Float}
@@ -20,6 +20,3 @@ pub record Gathered (held-valid len : ℕ) (ineff : Float) (ext held : List Floa
 
 abbrev pub invariant-loop-j : goal.invariant-loop-j
 invariant-loop-j l = Gathered l.held_valid l.len l.ineff l.ext l.held l.f l.valid l.w l.j
-
-abbrev pub decreases-loop-j : goal.decreases-loop-j
-decreases-loop-j l = 12 - l.j
