@@ -124,10 +124,8 @@ fn command(arm: Arm, g: f64, a: &[f64], s: Plant, n: usize) -> [f64; 8]
     let kind = arm.kind;
     let p = s.p;
     let mut r = s.v;
-    let mut j = 0;
-    while j < n {
+    for j in 0..n {
         r[j] = commanded(kind, arm.dt, g, a[j], p[j]);
-        j += 1;
     }
     r
 }
@@ -139,12 +137,10 @@ fn step(dt: f64, v: [f64; 8], p: [f64; 8], n: usize) -> Row
 {
     let mut r = p;
     let mut sound = true;
-    let mut j = 0;
-    while j < n {
+    for j in 0..n {
         let x = p[j] + v[j] * dt;
         r[j] = x;
         sound = sound & fmath::finite(x);
-        j += 1;
     }
     Row { at: r, sound }
 }
@@ -216,12 +212,10 @@ fn follow(
 {
     let left = course::rows_left(c.commit, c.from).0 as usize;
     let mut r = run;
-    let mut i = 0;
-    while i < left {
+    for i in 0..left {
         let a = chunk::action(rows, c.horizon, c.dim, c.from + i);
         let next = row(arm, w, c, g, react, a, r, slack);
         r = next;
-        i += 1;
     }
     r
 }
