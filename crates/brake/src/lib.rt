@@ -283,11 +283,11 @@ fn law_of(kind: BrakeKind) -> Law
     ensures { rolled.gains_of result ≡ gains_in kind }
 {
     match kind {
-        BrakeKind::PdSecondOrder { k_p, k_v, dt } => Law { k_p, k_v, dt },
-        BrakeKind::FirstOrderDecay { k_p, k_v, dt } => Law { k_p, k_v, dt },
-        BrakeKind::BoundedAccel { k_p, k_v, dt } => Law { k_p, k_v, dt },
-        BrakeKind::JerkLimited { k_p, k_v, dt } => Law { k_p, k_v, dt },
-        BrakeKind::ZeroVelocityHold { k_p, k_v, dt } => Law { k_p, k_v, dt },
+        BrakeKind::PdSecondOrder { k_p, k_v, dt }
+        | BrakeKind::FirstOrderDecay { k_p, k_v, dt }
+        | BrakeKind::BoundedAccel { k_p, k_v, dt }
+        | BrakeKind::JerkLimited { k_p, k_v, dt }
+        | BrakeKind::ZeroVelocityHold { k_p, k_v, dt } => Law { k_p, k_v, dt },
     }
 }
 
@@ -411,12 +411,10 @@ fn slowed(k: f64, vel: &[f64], n: usize) -> Row
 {
     let mut at = [0.0; 8];
     let mut sound = true;
-    let mut j = 0;
-    while j < n {
+    for j in 0..n {
         let x = scaled(k, vel, j);
         at[j] = x;
         sound = sound & fmath::finite(x);
-        j += 1;
     }
     Row { at, sound }
 }
@@ -473,11 +471,7 @@ fn hold_row(kind: ActionKind, w: Workspace, pos: &[f64], n: usize) -> Row
 {
     let still = [0.0; 8];
     match kind {
-        ActionKind::JointVelocity => Row {
-            at: still,
-            sound: true,
-        },
-        ActionKind::EeDelta => Row {
+        ActionKind::JointVelocity | ActionKind::EeDelta => Row {
             at: still,
             sound: true,
         },
@@ -490,8 +484,7 @@ fn is_position(kind: ActionKind) -> bool
     ensures { result ≡ is_position kind }
 {
     match kind {
-        ActionKind::JointVelocity => false,
-        ActionKind::EeDelta => false,
+        ActionKind::JointVelocity | ActionKind::EeDelta => false,
         _ => true,
     }
 }
@@ -523,10 +516,8 @@ fn sent_row(
         return row;
     }
     let mut at = row.at;
-    let mut j = fmath::fewer(pos_dim, n);
-    while j < n {
+    for j in fmath::fewer(pos_dim, n)..n {
         at[j] = last[j];
-        j += 1;
     }
     let sound = row.sound;
     Row { at, sound }
@@ -539,8 +530,7 @@ fn sent_masks(c: FuseConfig, w: Workspace, pos: &[f64]) -> WallMasks
     let kind = c.kind;
     let axes = fmath::fewer(c.dim, c.pos_dim);
     match kind {
-        ActionKind::JointVelocity => workspace::unmoved(),
-        ActionKind::EeDelta => workspace::unmoved(),
+        ActionKind::JointVelocity | ActionKind::EeDelta => workspace::unmoved(),
         _ => workspace::setpoint_masks(w, pos, axes),
     }
 }

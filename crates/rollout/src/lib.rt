@@ -52,12 +52,10 @@ fn substep(g: Law, a: &[f64], n: usize, s: Plant) -> Plant
     ensures { state_of result ≡ (substep binary64 (gains_of g) a.now n (state_of s)).value }
 {
     let mut r = s;
-    let mut j = 0;
-    while j < n {
+    for j in 0..n {
         let m = axis(g, a[j], r.p[j], r.v[j]);
         r.p[j] = m.p;
         r.v[j] = m.v;
-        j += 1;
     }
     r
 }
@@ -99,11 +97,9 @@ fn joined(moved: Plant, still: Plant, n: usize) -> Plant
     ensures { result ≡ joined_of moved still n }
 {
     let mut r = still;
-    let mut j = 0;
-    while j < n {
+    for j in 0..n {
         r.p[j] = moved.p[j];
         r.v[j] = moved.v[j];
-        j += 1;
     }
     r
 }
@@ -136,11 +132,8 @@ fn stepwise(
     ensures { (result.done ≤ run.done + count) × ((t : Forecast) (stand : ℕ → State) (l : List Float) (k : ℕ) → AlongLeg binary64 (leg_of binary64 g w n a.now) t stand k count run → CameAlong t stand l k run slack.old → CameAlong t stand l (k + count) result slack.new) }
 {
     let mut r = run;
-    let mut k = 0;
-    while k < count {
-        let next = advance(g, w, n, a, r, slack);
-        r = next;
-        k += 1;
+    for _ in 0..count {
+        r = advance(g, w, n, a, r, slack);
     }
     r
 }
@@ -167,8 +160,7 @@ fn abreast(
     let mut moved = run.plant;
     let mut margin = run.margin;
     let mut at = run.done;
-    let mut s = 0;
-    while s < count {
+    for _substep in 0..count {
         let next = substep(g, &aim, 8, moved);
         let there = next.p;
         let room = workspace::slack_abreast(w, there, n);
@@ -179,7 +171,6 @@ fn abreast(
         margin = fmath::min(margin, room.value);
         moved = next;
         at += 1;
-        s += 1;
     }
     ended(moved, still, n, margin, at, true)
 }
@@ -236,12 +227,10 @@ fn follow(g: Law, w: Workspace, c: Course, rows: &[f64], run: Run, slack: &mut [
     let left = course::rows_left(c.commit, c.from).0 as usize;
     let per = c.per.0 as usize;
     let mut r = run;
-    let mut i = 0;
-    while i < left {
+    for i in 0..left {
         let a = chunk::action(rows, c.horizon, c.dim, c.from + i);
         let next = hold(g, w, c.live, a, per, r, slack);
         r = next;
-        i += 1;
     }
     r
 }

@@ -12,10 +12,8 @@ pub fn agrees(kept: &[f64], got: &[f64]) -> bool
         return false;
     }
     let mut ok = true;
-    let mut j = 0;
-    while j < got.len() {
-        ok = ok & (kept[j] == got[j]);
-        j += 1;
+    for (j, number) in got.iter().enumerate() {
+        ok = ok & (kept[j] == *number);
     }
     ok
 }

@@ -5,25 +5,9 @@
 // bounds is proved; their text is seen in the runs (tools/test-desk).
 #![tactic(auto)]
 
-ghost use Rattle.std.specs.Prelude.{◌≡◌, length};
-
 use brake::BrakeOut;
 use refusal::Refusal;
 use std::io;
-
-// Room for one record.
-fn record_buffer() -> [u8; 96]
-    ensures { 96 ≡ length result }
-{
-    [0; 96]
-}
-
-// Room for as many slacks as a forecast can have.
-fn slack_buffer() -> [f64; 4096]
-    ensures { 4096 ≡ length result }
-{
-    [0.0; 4096]
-}
 
 fn put(to: &impl Print, text: &str) -> bool {
     to.print(text).is_ok()
@@ -43,14 +27,7 @@ fn put_slack(to: &impl Print, x: f64) -> bool {
 // The first slacks, until a write fails.
 fn put_slacks(to: &impl Print, slacks: &[f64], count: u64) -> bool {
     let n = fmath::fewer(count as usize, slacks.len());
-    let mut i = 0usize;
-    while i < n {
-        if !put_slack(to, slacks[i]) {
-            return false;
-        }
-        i += 1;
-    }
-    true
+    slacks[..n].iter().all(|x| put_slack(to, *x))
 }
 
 // The line of record n; whether all of it was written.
@@ -62,9 +39,9 @@ fn put_line(to: &impl Print, n: u64, number: u64, count: u64, slacks: &[f64]) ->
         & put(to, "\n")
 }
 
-// The line of a whole record.
+// The line of a whole record. There is room for as many slacks as a forecast can have.
 fn put_card(to: &impl Print, n: u64, record: &[u8]) -> bool {
-    let mut space = slack_buffer();
+    let mut space = [0.0; 4096];
     let slacks: &mut [f64] = &mut space;
     let card = card::decode(record);
     let outcome: Result<BrakeOut, Refusal> = card::run(card, slacks);
@@ -85,7 +62,7 @@ fn complain(to: &impl Eprint, text: &str) -> bool {
 
 // Reads record n and puts its line. Whether there may be another.
 fn turn<R: io::Read>(from: &mut R, to: &(impl Print + Eprint), n: u64) -> bool {
-    let mut space = record_buffer();
+    let mut space = [0u8; 96];
     let record: &mut [u8] = &mut space;
     let filled = input::fill(from, record);
     if filled.failed {
@@ -109,9 +86,7 @@ fn turn<R: io::Read>(from: &mut R, to: &(impl Print + Eprint), n: u64) -> bool {
 // Record after record. Their numbers have 64 bits, so the run ends there.
 fn main(rt: HostRuntime) {
     let mut stdin = rt.stdin();
-    let mut n: u64 = 0;
-    while n < 0xffff_ffff_ffff_ffff {
-        n += 1;
+    for n in 1..=u64::MAX {
         if !turn(&mut stdin, &rt, n) {
             return;
         }

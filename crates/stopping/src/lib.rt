@@ -40,11 +40,11 @@ fn ratio(brake: BrakeKind) -> Reckoned
     ensures { result ≡ reckoned_from (ratio binary64 brake) }
 {
     match brake {
-        BrakeKind::PdSecondOrder { k_p, k_v, dt } => quotient(k_p, k_v),
-        BrakeKind::FirstOrderDecay { k_p, k_v, dt } => quotient(k_p, k_v),
-        BrakeKind::BoundedAccel { k_p, k_v, dt } => quotient(k_p, k_v),
-        BrakeKind::JerkLimited { k_p, k_v, dt } => quotient(k_p, k_v),
-        BrakeKind::ZeroVelocityHold { k_p, k_v, dt } => quotient(k_p, k_v),
+        BrakeKind::PdSecondOrder { k_p, k_v, .. }
+        | BrakeKind::FirstOrderDecay { k_p, k_v, .. }
+        | BrakeKind::BoundedAccel { k_p, k_v, .. }
+        | BrakeKind::JerkLimited { k_p, k_v, .. }
+        | BrakeKind::ZeroVelocityHold { k_p, k_v, .. } => quotient(k_p, k_v),
     }
 }
 
@@ -80,14 +80,13 @@ fn d_stop(brake: BrakeKind, a: f64, j: f64, s: f64) -> Reckoned
     ensures { result ≡ reckoned_from (d_stop binary64 brake a j s) }
 {
     match brake {
-        BrakeKind::PdSecondOrder { k_p, k_v, dt } => Reckoned {
+        BrakeKind::PdSecondOrder { .. } => Reckoned {
             value: 0.0,
             sound: true,
         },
-        BrakeKind::FirstOrderDecay { k_p, k_v, dt } => quotient(s, k_v),
-        BrakeKind::BoundedAccel { k_p, k_v, dt } => ramp(a, s),
-        BrakeKind::JerkLimited { k_p, k_v, dt } => sum(ramp(a, s), ease(a, j, s)),
-        BrakeKind::ZeroVelocityHold { k_p, k_v, dt } => ramp(a, s),
+        BrakeKind::FirstOrderDecay { k_v, .. } => quotient(s, k_v),
+        BrakeKind::BoundedAccel { .. } | BrakeKind::ZeroVelocityHold { .. } => ramp(a, s),
+        BrakeKind::JerkLimited { .. } => sum(ramp(a, s), ease(a, j, s)),
     }
 }
 
@@ -110,9 +109,7 @@ fn commanded(kind: ActionKind, dt: f64, g: f64, a: f64, p: f64) -> f64
     match kind {
         ActionKind::JointVelocity => a,
         ActionKind::EeDelta => a / dt,
-        ActionKind::EePosition => g * (a - p),
-        ActionKind::JointPosition => g * (a - p),
-        ActionKind::Other => g * (a - p),
+        ActionKind::EePosition | ActionKind::JointPosition | ActionKind::Other => g * (a - p),
     }
 }
 
@@ -124,10 +121,8 @@ fn command(arm: Arm, g: f64, a: &[f64], s: Plant, n: usize) -> [f64; 8]
     let kind = arm.kind;
     let p = s.p;
     let mut r = s.v;
-    let mut j = 0;
-    while j < n {
+    for j in 0..n {
         r[j] = commanded(kind, arm.dt, g, a[j], p[j]);
-        j += 1;
     }
     r
 }
@@ -139,12 +134,10 @@ fn step(dt: f64, v: [f64; 8], p: [f64; 8], n: usize) -> Row
 {
     let mut r = p;
     let mut sound = true;
-    let mut j = 0;
-    while j < n {
+    for j in 0..n {
         let x = p[j] + v[j] * dt;
         r[j] = x;
         sound = sound & fmath::finite(x);
-        j += 1;
     }
     Row { at: r, sound }
 }
@@ -216,12 +209,10 @@ fn follow(
 {
     let left = course::rows_left(c.commit, c.from).0 as usize;
     let mut r = run;
-    let mut i = 0;
-    while i < left {
+    for i in 0..left {
         let a = chunk::action(rows, c.horizon, c.dim, c.from + i);
         let next = row(arm, w, c, g, react, a, r, slack);
         r = next;
-        i += 1;
     }
     r
 }

@@ -1,5 +1,6 @@
 -- `brake::hold_row` meets its contract: by the kind of action.
 use mathlib.Core.Path.{sym, ap, ◌∙◌}
+use mathlib.Core.Logic.{inl, inr}
 use lib.Ieee.{binary64, of_bits}
 use Rattle.checked.specs.Of.{row_from}
 use Rattle.workspace.specs.Of.{walls_of}
@@ -9,11 +10,7 @@ use Rattle.brake.proofs.hold_row.Goals as goal
 
 pub returns-in-JointVelocity : goal.returns-in-JointVelocity
 unfolding hold_row of_bits
-returns-in-JointVelocity c = rw c.in-JointVelocity.is
-
-pub returns-in-EeDelta : goal.returns-in-EeDelta
-unfolding hold_row of_bits
-returns-in-EeDelta c = rw c.in-EeDelta.is
+returns-in-JointVelocity c = elim c.in-JointVelocity.is [ inl e ↦ rw e | inr e ↦ rw e ]
 
 pub returns-in_default : goal.returns-in_default
 returns-in_default c = let s = c.args in c.setpoint.ensures ∙ sym (ap row_from (position_holds (walls_of s.w) s.pos.now s.n binary64 s.kind (position_of c.args.kind c.in_default.not-JointVelocity c.in_default.not-EeDelta)))

@@ -1,6 +1,5 @@
 -- `brake::sent_masks` meets its contract: by the kind of action.
 use mathlib.Core.Path.{ap, ◌∙◌}
-use mathlib.Core.Logic.{inl, inr}
 use Rattle.workspace.specs.Of.{walls_of}
 use Rattle.workspace.specs.Rule.{setpoint_masks}
 use Rattle.brake.specs.Rule.{live}
@@ -8,10 +7,7 @@ use Rattle.brake.proofs.Sending.{velocity_unmoved, position_masks, position_of}
 use Rattle.brake.proofs.sent_masks.Goals as goal
 
 pub returns-in-JointVelocity : goal.returns-in-JointVelocity
-returns-in-JointVelocity c = let s = c.args in velocity_unmoved (walls_of s.w) s.pos.now (live s.c) s.c.kind (inl c.in-JointVelocity.is) c.unmoved.ensures
-
-pub returns-in-EeDelta : goal.returns-in-EeDelta
-returns-in-EeDelta c = let s = c.args in velocity_unmoved (walls_of s.w) s.pos.now (live s.c) s.c.kind (inr c.in-EeDelta.is) c.unmoved-in-EeDelta.ensures
+returns-in-JointVelocity c = let s = c.args in velocity_unmoved (walls_of s.w) s.pos.now (live s.c) s.c.kind c.in-JointVelocity.is c.unmoved.ensures
 
 pub returns-in_default : goal.returns-in_default
 returns-in_default c =

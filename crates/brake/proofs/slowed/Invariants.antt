@@ -1,5 +1,5 @@
 -- `brake::slowed` meets its contract, coordinate by coordinate.
-use Prim.Native.Nat.{◌-◌, ◌≤◌}
+use Prim.Native.Nat.{◌≤◌}
 use mathlib.Core.Path.{◌≡◌}
 use lib.ListN.{replicate}
 use lib.Ieee.{binary64}
@@ -10,6 +10,3 @@ use Rattle.brake.proofs.slowed.Given as goal
 
 abbrev pub invariant-loop-j : goal.invariant-loop-j
 invariant-loop-j l = (l.j ≤ l.n) × (l.at ≡ (each (scaled_at binary64 l.k l.vel) (replicate 8 +0) l.j).value) × (l.sound ≡ (each (scaled_at binary64 l.k l.vel) (replicate 8 +0) l.j).sound)
-
-abbrev pub decreases-loop-j : goal.decreases-loop-j
-decreases-loop-j l = l.n - l.j

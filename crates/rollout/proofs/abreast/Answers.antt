@@ -28,8 +28,8 @@ taken_in n a hn ha e j hj = ap (λ (l : List Float). at l j) (all_padded a hn ha
 pub returns-then-not-run : goal.returns-then-not-run
 returns-then-not-run c = (omega arith, λ t stand l k go h. along_rest t stand l k _ _ (not-true _ c.if-not-run.true) h c.args.count)
 
-pub loop-s-init : goal.loop-s-init
-loop-s-init c =
+pub loop-substep-init : goal.loop-substep-init
+loop-substep-init c =
     let s = c.args in record {
       turns = omega arith;
       same = refl;
@@ -45,73 +45,73 @@ pub substep-next-requires : goal.substep-next-requires
 substep-next-requires c = (omega arith, search rules)
 
 pub shape_of-slack-then-not-room : goal.shape_of-slack-then-not-room
-shape_of-slack-then-not-room c = c.loop-s.invariant.same
+shape_of-slack-then-not-room c = c.loop-substep.invariant.same
 
 pub returns-then-not-room : goal.returns-then-not-room
 returns-then-not-room c =
     let s = c in
-    let i = c.loop-s in
+    let i = c.loop-substep in
     let sound : s.args.run.sound ≡ true = not-false _ c.if-not-run.false in
-    let turns = c.loop-s-test.true in
+    let turns = c.loop-substep-test.true in
     rw c.ended.ensures (
       omega (arith, i.invariant.written, turns),
       λ t stand l k legged r.
           let h = subst (λ (q : Run). CameAlong t stand l k q s.args.slack.now) (going s.args.run sound) r in
           let go : AlongLeg binary64 (leg_of binary64 s.args.g s.args.w s.args.n s.args.a.now) t stand k s.args.count (first s.args.run.plant s.args.run.margin s.args.run.done) = λ _. legged sound in
-          along_at t stand l (k + s.args.count) _ _ (k + i.s + 1 + (s.args.count - i.s - 1)) (omega (arith, turns))
-          (along_rest t stand l (k + i.s + 1) _ _ refl
-          (wide_fails binary64 t stand l (k + i.s) i.moved s.args.run.plant s.args.n i.margin i.at i.slack s.args.g s.args.w s.args.a.now c.padded-aim.result
+          along_at t stand l (k + s.args.count) _ _ (k + i._substep + 1 + (s.args.count - i._substep - 1)) (omega (arith, turns))
+          (along_rest t stand l (k + i._substep + 1) _ _ refl
+          (wide_fails binary64 t stand l (k + i._substep) i.moved s.args.run.plant s.args.n i.margin i.at i.slack s.args.g s.args.w s.args.a.now c.padded-aim.result
           (i.invariant.comes t stand l k go h)
-          (legged_next binary64 _ t stand l k s.args.count i.s (first s.args.run.plant s.args.run.margin s.args.run.done) (running i.moved s.args.run.plant s.args.n i.margin i.at) s.args.slack.now i.slack h go (i.invariant.comes t stand l k go h) (omega arith))
+          (legged_next binary64 _ t stand l k s.args.count i._substep (first s.args.run.plant s.args.run.margin s.args.run.done) (running i.moved s.args.run.plant s.args.n i.margin i.at) s.args.slack.now i.slack h go (i.invariant.comes t stand l k go h) (omega arith))
           s.requires.0 s.requires.3 i.invariant.places i.invariant.rates (search rules) (search rules) (taken_in s.args.n s.args.a.now s.requires.0 s.requires.1 c.padded-aim.ensures) c.substep-next.result c.substep-next.ensures c.slack_abreast-room.result c.slack_abreast-room.ensures (not-true _ c.if-not-room.true))
-          (s.args.count - i.s - 1)),
+          (s.args.count - i._substep - 1)),
     )
 
 pub offset_bounds-slack-at : goal.offset_bounds-slack-at
 offset_bounds-slack-at c =
-    let i = c.loop-s in
-    let e : i.at < length c.args.slack.now = omega (arith, i.invariant.written, c.loop-s-test.true, c.requires.2) in
+    let i = c.loop-substep in
+    let e : i.at < length c.args.slack.now = omega (arith, i.invariant.written, c.loop-substep-test.true, c.requires.2) in
     search (rules, e, c.well_formed.1.1.1.1.1.1.0)
 
 pub bounds-slack-at : goal.bounds-slack-at
-bounds-slack-at c = let i = c.loop-s in omega (arith, i.invariant.same, i.invariant.written, c.loop-s-test.true, c.requires.2)
+bounds-slack-at c = let i = c.loop-substep in omega (arith, i.invariant.same, i.invariant.written, c.loop-substep-test.true, c.requires.2)
 
 pub overflow_add-at : goal.overflow_add-at
 overflow_add-at c =
-    let i = c.loop-s in
-    let e : i.at < length c.args.slack.now = omega (arith, i.invariant.written, c.loop-s-test.true, c.requires.2) in
+    let i = c.loop-substep in
+    let e : i.at < length c.args.slack.now = omega (arith, i.invariant.written, c.loop-substep-test.true, c.requires.2) in
     search (rules, e, c.well_formed.1.1.1.1.1.1.0)
 
-pub loop-s-preserved : goal.loop-s-preserved
-loop-s-preserved c =
+pub loop-substep-preserved : goal.loop-substep-preserved
+loop-substep-preserved c =
     let s = c in
-    let kept = as_long binary64 (gains_of s.args.g) c.padded-aim.result 8 c.loop-s.moved c.substep-next.result c.substep-next.ensures in
-    let i = c.loop-s in record {
+    let kept = as_long binary64 (gains_of s.args.g) c.padded-aim.result 8 c.loop-substep.moved c.substep-next.result c.substep-next.ensures in
+    let i = c.loop-substep in record {
       turns = omega arith;
       same = length-set i.slack i.at c.slack_abreast-room.result.value ∙ i.invariant.same;
       written = omega (arith, i.invariant.written);
       places = kept.0 ∙ i.invariant.places;
       rates = kept.1 ∙ i.invariant.rates;
       comes = λ t stand l k go h.
-          along_sum t stand l k _ _ i.s 1
-          (wide_advances binary64 t stand l (k + i.s) i.moved s.args.run.plant s.args.n i.margin i.at i.slack s.args.g s.args.w s.args.a.now c.padded-aim.result
+          along_sum t stand l k _ _ i._substep 1
+          (wide_advances binary64 t stand l (k + i._substep) i.moved s.args.run.plant s.args.n i.margin i.at i.slack s.args.g s.args.w s.args.a.now c.padded-aim.result
           (i.invariant.comes t stand l k go h)
-          (legged_next binary64 _ t stand l k s.args.count i.s (first s.args.run.plant s.args.run.margin s.args.run.done) (running i.moved s.args.run.plant s.args.n i.margin i.at) s.args.slack.now i.slack h go (i.invariant.comes t stand l k go h) (omega arith))
+          (legged_next binary64 _ t stand l k s.args.count i._substep (first s.args.run.plant s.args.run.margin s.args.run.done) (running i.moved s.args.run.plant s.args.n i.margin i.at) s.args.slack.now i.slack h go (i.invariant.comes t stand l k go h) (omega arith))
           s.requires.0 s.requires.3 i.invariant.places i.invariant.rates (search rules) (search rules) (taken_in s.args.n s.args.a.now s.requires.0 s.requires.1 c.padded-aim.ensures) c.substep-next.result c.substep-next.ensures c.slack_abreast-room.result c.slack_abreast-room.ensures (not-false _ c.if-not-room.false) _ c.min-margin.ensures);
     }
 
 pub shape_of-slack : goal.shape_of-slack
-shape_of-slack c = c.loop-s.invariant.same
+shape_of-slack c = c.loop-substep.invariant.same
 
 pub returns : goal.returns
 returns c =
     let s = c in
-    let i = c.loop-s in
+    let i = c.loop-substep in
     let sound : s.args.run.sound ≡ true = not-false _ c.if-not-run.false in
-    let e : i.s ≡ s.args.count = omega arith in
+    let e : i._substep ≡ s.args.count = omega arith in
     rw c.ended-2.ensures (
       omega (arith, i.invariant.written, e),
       λ t stand l k legged r.
-          along_at t stand l (k + s.args.count) _ _ (k + i.s) (ap (λ (m : ℕ). k + m) e)
+          along_at t stand l (k + s.args.count) _ _ (k + i._substep) (ap (λ (m : ℕ). k + m) e)
           (i.invariant.comes t stand l k (λ _. legged sound) (subst (λ (q : Run). CameAlong t stand l k q s.args.slack.now) (going s.args.run sound) r)),
     )

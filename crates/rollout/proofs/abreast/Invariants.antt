@@ -1,5 +1,5 @@
 -- `rollout::abreast` meets its contract: the loop comes along one entry a turn, with the first n axes as n axes alone would move (`Wide`).
-use Prim.Native.Nat.{ℕ, ◌+◌, ◌-◌, ◌≤◌}
+use Prim.Native.Nat.{ℕ, ◌+◌, ◌≤◌}
 use mathlib.Core.Path.{◌≡◌}
 use mathlib.Core.Bool.{true}
 use mathlib.Core.List.{List}
@@ -7,7 +7,6 @@ use lib.ListN.{length}
 use lib.Ieee.{Float, binary64}
 use Rattle.workspace.specs.declared.Workspace.{Workspace}
 use Rattle.rollout.specs.declared.Law.{Law}
-use Rattle.checked.specs.Each.{at}
 use Rattle.course.specs.declared.Plant.{Plant}
 use Rattle.course.specs.declared.Run.{Run}
 use Rattle.course.specs.Plant.{State}
@@ -30,8 +29,5 @@ pub record Coming (g : Law) (w : Workspace) (n : ℕ) (a : List Float) (count : 
   pub rates : length moved.v ≡ 8
   pub comes : ((t : Forecast) (stand : ℕ → State) (l : List Float) (k : ℕ) → AlongLeg binary64 (leg_of binary64 g w n a) t stand k count (first still margin₀ at₀) → CameAlong t stand l k (first still margin₀ at₀) slack₀ → CameAlong t stand l (k + s) (running moved still n margin at) slack)
 
-abbrev pub invariant-loop-s : goal.invariant-loop-s
-invariant-loop-s l = Coming l.g l.w l.n l.a l.count l.initial.slack l.still l.initial.margin l.initial.at l.slack l.moved l.margin l.at l.s
-
-abbrev pub decreases-loop-s : goal.decreases-loop-s
-decreases-loop-s l = l.count - l.s
+abbrev pub invariant-loop-substep : goal.invariant-loop-substep
+invariant-loop-substep l = Coming l.g l.w l.n l.a l.count l.initial.slack l.still l.initial.margin l.initial.at l.slack l.moved l.margin l.at l._substep

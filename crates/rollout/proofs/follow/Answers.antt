@@ -1,5 +1,5 @@
 -- `rollout::follow` meets its contract: the loop holds one row a turn, and row i is what its substeps go towards (`Rows`).
-use Prim.Native.Nat.{ℕ, ◌+◌, ◌-◌, ◌*◌, ◌<◌}
+use Prim.Native.Nat.{ℕ, ◌+◌, ◌*◌, ◌<◌}
 use mathlib.Core.Path.{◌≡◌, refl, sym, ap, ◌∙◌}
 use native.Mathlib.Nat.{zero-mul}
 use native.Mathlib.Omega.{arith}
@@ -39,12 +39,6 @@ hold-next-requires c =
     let long : length c.action-a.result.now ≡ s.args.c.dim =
     ap length c.action-a.ensures ∙ row_long s.args.rows.now s.args.c.horizon s.args.c.dim (s.args.c.from + i.i) q.rowed q.there in
     (q.axes, omega (arith, long, q.within), omega (arith, i.invariant.written, i.invariant.rows_left, i.invariant.same, row_within_lem i.i (left_of s.args.c).0 s.args.c.per.0 (omega (arith, i.invariant.rows_left)), s.requires.1), s.requires.2)
-
-pub overflow_add-i : goal.overflow_add-i
-overflow_add-i c = omega arith
-
-pub loop-i-smaller : goal.loop-i-smaller
-loop-i-smaller c = omega arith
 
 still : (c : goal.After-slice_known-in-loop-i-1) → c.loop-i.i < (left_of c.args.c).0
 still c = omega (arith, c.loop-i-test.true, c.loop-i.invariant.rows_left)

@@ -1,5 +1,5 @@
 -- `rollout::follow` meets its contract: the loop holds one row a turn, and row i is what its substeps go towards (`Rows`).
-use Prim.Native.Nat.{ℕ, ◌+◌, ◌-◌, ◌*◌, ◌≤◌}
+use Prim.Native.Nat.{ℕ, ◌+◌, ◌*◌, ◌≤◌}
 use mathlib.Core.Path.{◌≡◌}
 use mathlib.Core.List.{List}
 use lib.ListN.{length}
@@ -24,6 +24,3 @@ pub record Following (g : Law) (w : Workspace) (c : Course) (rows slack₀ : Lis
 
 abbrev pub invariant-loop-i : goal.invariant-loop-i
 invariant-loop-i l = Following l.g l.w l.c l.rows l.initial.slack l.left l.per l.initial.r l.slack l.r l.i
-
-abbrev pub decreases-loop-i : goal.decreases-loop-i
-decreases-loop-i l = l.left - l.i

@@ -1,5 +1,5 @@
 -- `rollout::joined` meets its contract: the loop takes one axis a turn.
-use Prim.Native.Nat.{ℕ, ◌-◌, ◌≤◌}
+use Prim.Native.Nat.{ℕ, ◌≤◌}
 use mathlib.Core.Path.{◌≡◌}
 use lib.ListN.{length}
 use Rattle.course.specs.declared.Plant.{Plant}
@@ -15,6 +15,3 @@ pub record Joining (n : ℕ) (moved r₀ r : Plant) (j : ℕ) : Type 0 where
 
 abbrev pub invariant-loop-j : goal.invariant-loop-j
 invariant-loop-j l = Joining l.n l.moved l.initial.r l.r l.j
-
-abbrev pub decreases-loop-j : goal.decreases-loop-j
-decreases-loop-j l = l.n - l.j

@@ -2,7 +2,6 @@
 -- not sound (`Setpoint`).
 use Prim.Native.Nat.{ℕ, ◌+◌, ◌*◌}
 use mathlib.Core.Path.{◌≡◌, refl, sym, ap, ◌∙◌}
-use mathlib.Core.Bool.{true}
 use native.Mathlib.Nat.{add-mul, zero-add}
 use native.Mathlib.Omega.{arith}
 use borrow.Author.Rules.{rules}
@@ -11,7 +10,7 @@ use lib.ListN.{length}
 use lib.Ieee.{binary64, of_bits, div}
 use Rattle.checked.specs.declared.Row.{Row}
 use Rattle.rollout.specs.Rule.{row_substeps, total, after, forecast}
-use Rattle.rollout.specs.Of.{task_of, Along, leg_to, AlongLeg, roomy}
+use Rattle.rollout.specs.Of.{task_of, Along, leg_to, AlongLeg}
 use Rattle.course.specs.declared.Course.{Course}
 use Rattle.course.specs.Of.{left_of}
 use Rattle.course.proofs.Along.{along_start, along_at}

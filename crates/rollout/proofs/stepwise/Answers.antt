@@ -1,5 +1,5 @@
 -- `rollout::stepwise` meets its contract: the loop comes along one entry a turn.
-use Prim.Native.Nat.{ℕ, ◌+◌, ◌-◌}
+use Prim.Native.Nat.{ℕ, ◌+◌}
 use mathlib.Core.Path.{◌≡◌, refl, ap, ◌∙◌}
 use native.Mathlib.Omega.{arith}
 use lib.Ieee.{binary64}
@@ -7,8 +7,8 @@ use Rattle.rollout.proofs.Along.{legged_next}
 use Rattle.course.proofs.Along.{along_zero, along_sum, along_at}
 use Rattle.rollout.proofs.stepwise.Goals as goal
 
-pub loop-k-init : goal.loop-k-init
-loop-k-init c =
+pub loop-init : goal.loop-init
+loop-init c =
     record {
       turns = omega arith;
       same = refl;
@@ -16,36 +16,30 @@ loop-k-init c =
       comes = λ t stand l k go h. along_zero t stand l k _ _ h;
     }
 
-pub advance-next-requires : goal.advance-next-requires
-advance-next-requires c = let s = c in (s.requires.0, s.requires.1, omega (arith, s.requires.2))
+pub advance-r-requires : goal.advance-r-requires
+advance-r-requires c = let s = c in (s.requires.0, s.requires.1, omega (arith, s.requires.2))
 
-pub overflow_add-k : goal.overflow_add-k
-overflow_add-k c = omega arith
-
-pub loop-k-smaller : goal.loop-k-smaller
-loop-k-smaller c = omega arith
-
-pub loop-k-preserved : goal.loop-k-preserved
-loop-k-preserved c =
+pub loop-preserved : goal.loop-preserved
+loop-preserved c =
     let s = c in
-    let i = c.loop-k in
-    let call = c.advance-next in record {
+    let i = c.loop in
+    let call = c.advance-r in record {
       turns = omega arith;
       same = call.auto.slack ∙ i.invariant.same;
       written = omega (arith, call.ensures.0, i.invariant.written);
       comes = λ t stand l k go h.
-          along_sum t stand l k _ _ i.k 1
-          (call.ensures.1 t stand l (k + i.k)
-          (legged_next binary64 _ t stand l k s.args.count i.k s.args.run i.r s.args.slack.now i.slack h go (i.invariant.comes t stand l k go h) (omega arith))
+          along_sum t stand l k _ _ i.counter 1
+          (call.ensures.1 t stand l (k + i.counter)
+          (legged_next binary64 _ t stand l k s.args.count i.counter s.args.run i.r s.args.slack.now i.slack h go (i.invariant.comes t stand l k go h) (omega arith))
           (i.invariant.comes t stand l k go h));
     }
 
 pub shape_of-slack : goal.shape_of-slack
-shape_of-slack c = c.loop-k.invariant.same
+shape_of-slack c = c.loop.invariant.same
 
 pub returns : goal.returns
 returns c =
     let s = c in
-    let i = c.loop-k in
-    let e : i.k ≡ s.args.count = omega arith in
-    (omega (arith, i.invariant.written), λ t stand l k go h. along_at t stand l (k + s.args.count) _ _ (k + i.k) (ap (λ (m : ℕ). k + m) e) (i.invariant.comes t stand l k go h))
+    let i = c.loop in
+    let e : i.counter ≡ s.args.count = omega arith in
+    (omega (arith, i.invariant.written), λ t stand l k go h. along_at t stand l (k + s.args.count) _ _ (k + i.counter) (ap (λ (m : ℕ). k + m) e) (i.invariant.comes t stand l k go h))

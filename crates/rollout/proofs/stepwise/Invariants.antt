@@ -1,5 +1,5 @@
 -- `rollout::stepwise` meets its contract: the loop comes along one entry a turn.
-use Prim.Native.Nat.{ℕ, ◌+◌, ◌-◌, ◌≤◌}
+use Prim.Native.Nat.{ℕ, ◌+◌, ◌≤◌}
 use mathlib.Core.Path.{◌≡◌}
 use mathlib.Core.List.{List}
 use lib.ListN.{length}
@@ -20,8 +20,5 @@ pub record Coming (g : Law) (w : Workspace) (n : ℕ) (a : List Float) (count : 
   pub written : r.done ≤ r₀.done + s
   pub comes : ((t : Forecast) (stand : ℕ → State) (l : List Float) (k : ℕ) → AlongLeg binary64 (leg_of binary64 g w n a) t stand k count r₀ → CameAlong t stand l k r₀ slack₀ → CameAlong t stand l (k + s) r slack)
 
-abbrev pub invariant-loop-k : goal.invariant-loop-k
-invariant-loop-k l = Coming l.g l.w l.n l.a l.count l.initial.slack l.initial.r l.slack l.r l.k
-
-abbrev pub decreases-loop-k : goal.decreases-loop-k
-decreases-loop-k l = l.count - l.k
+abbrev pub invariant-loop : goal.invariant-loop
+invariant-loop l = Coming l.g l.w l.n l.a l.count l.initial.slack l.initial.r l.slack l.r l.counter

@@ -1,5 +1,4 @@
 -- `rollout::substep` meets its contract: the loop takes one axis a turn.
-use Prim.Native.Nat.{◌-◌}
 use mathlib.Core.Path.{◌≡◌, refl, ap, ◌∙◌}
 use native.Mathlib.Omega.{arith}
 use borrow.Author.Rules.{rules}

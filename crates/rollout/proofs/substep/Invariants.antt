@@ -1,5 +1,5 @@
 -- `rollout::substep` meets its contract: the loop takes one axis a turn.
-use Prim.Native.Nat.{ℕ, ◌-◌, ◌≤◌}
+use Prim.Native.Nat.{ℕ, ◌≤◌}
 use mathlib.Core.List.{List}
 use mathlib.Core.Path.{◌≡◌}
 use lib.ListN.{length}
@@ -20,6 +20,3 @@ pub record Stepping (g : Law) (a : List Float) (n : ℕ) (r₀ r : Plant) (j : �
 
 abbrev pub invariant-loop-j : goal.invariant-loop-j
 invariant-loop-j l = Stepping l.g l.a l.n l.initial.r l.r l.j
-
-abbrev pub decreases-loop-j : goal.decreases-loop-j
-decreases-loop-j l = l.n - l.j

@@ -1,5 +1,5 @@
 -- `stopping::command` meets its contract, axis by axis.
-use Prim.Native.Nat.{ℕ, ◌-◌, ◌≤◌}
+use Prim.Native.Nat.{ℕ, ◌≤◌}
 use mathlib.Core.Path.{◌≡◌}
 use lib.Ieee.{binary64}
 use Rattle.checked.specs.Each.{at}
@@ -9,6 +9,3 @@ use Rattle.stopping.proofs.command.Given as goal
 
 abbrev pub invariant-loop-j : goal.invariant-loop-j
 invariant-loop-j l = (l.j ≤ l.n) × (l.r ≡ (each (λ (i : ℕ). commanded binary64 l.arm.kind l.arm.dt l.g (at l.a i) (at l.p i)) l.initial.r l.j).value) × (l.kind ≡ l.arm.kind)
-
-abbrev pub decreases-loop-j : goal.decreases-loop-j
-decreases-loop-j l = l.n - l.j

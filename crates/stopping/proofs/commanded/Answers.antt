@@ -1,4 +1,5 @@
 -- `stopping::commanded` meets its contract, kind by kind.
+use Rattle.std.proofs.Common.{arith}
 use mathlib.Core.Path.{sym, ap}
 use lib.Ieee.{binary64}
 use Rattle.envelope.specs.declared.ActionKind.{ActionKind}
@@ -15,12 +16,4 @@ returns-in-EeDelta c = let s = c.args in sym (ap (λ (k : ActionKind). (commande
 
 pub returns-in-EePosition : goal.returns-in-EePosition
 unfolding commanded
-returns-in-EePosition c = let s = c.args in sym (ap (λ (k : ActionKind). (commanded binary64 k s.dt s.g s.a s.p).value) c.in-EePosition.is)
-
-pub returns-in-JointPosition : goal.returns-in-JointPosition
-unfolding commanded
-returns-in-JointPosition c = let s = c.args in sym (ap (λ (k : ActionKind). (commanded binary64 k s.dt s.g s.a s.p).value) c.in-JointPosition.is)
-
-pub returns-in-Other : goal.returns-in-Other
-unfolding commanded
-returns-in-Other c = let s = c.args in sym (ap (λ (k : ActionKind). (commanded binary64 k s.dt s.g s.a s.p).value) c.in-Other.is)
+returns-in-EePosition c = grind arith

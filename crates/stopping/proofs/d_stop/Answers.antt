@@ -1,4 +1,5 @@
 -- `stopping::d_stop` meets its contract, kind by kind.
+use Rattle.std.proofs.Common.{arith}
 use mathlib.Core.Path.{sym, ap, ◌∙◌}
 use lib.Ieee.{binary64, of_bits}
 use Rattle.envelope.specs.declared.BrakeKind.{BrakeKind}
@@ -16,12 +17,8 @@ returns-in-FirstOrderDecay c = let s = c.args in c.quotient.ensures ∙ sym (ap 
 
 pub returns-in-BoundedAccel : goal.returns-in-BoundedAccel
 unfolding d_stop
-returns-in-BoundedAccel c = let s = c.args in c.ramp.ensures ∙ sym (ap (λ (b : BrakeKind). reckoned_from (d_stop binary64 b s.a s.j s.s)) c.in-BoundedAccel.is)
+returns-in-BoundedAccel c = grind arith
 
 pub returns-in-JerkLimited : goal.returns-in-JerkLimited
 unfolding d_stop
 returns-in-JerkLimited c = let s = c.args in rw (c.sum.ensures, c.ease.ensures, c.ramp-in-JerkLimited.ensures) (sym (ap (λ (b : BrakeKind). reckoned_from (d_stop binary64 b s.a s.j s.s)) c.in-JerkLimited.is))
-
-pub returns-in-ZeroVelocityHold : goal.returns-in-ZeroVelocityHold
-unfolding d_stop
-returns-in-ZeroVelocityHold c = let s = c.args in c.ramp-in-ZeroVelocityHold.ensures ∙ sym (ap (λ (b : BrakeKind). reckoned_from (d_stop binary64 b s.a s.j s.s)) c.in-ZeroVelocityHold.is)

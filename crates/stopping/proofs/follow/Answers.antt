@@ -34,12 +34,6 @@ row-next-requires c =
     ap length c.action-a.ensures ∙ row_long s.args.rows.now s.args.c.horizon s.args.c.dim (s.args.c.from + i.i) q.rowed q.there in
     (q.axes, omega (arith, long, q.within), omega (arith, i.invariant.written, i.invariant.rows_left, i.invariant.same, c.loop-i-test.true, s.requires.1))
 
-pub overflow_add-i : goal.overflow_add-i
-overflow_add-i c = omega arith
-
-pub loop-i-smaller : goal.loop-i-smaller
-loop-i-smaller c = omega arith
-
 pub loop-i-preserved : goal.loop-i-preserved
 loop-i-preserved c =
     let s = c in

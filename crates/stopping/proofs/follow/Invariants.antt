@@ -1,5 +1,5 @@
 -- `stopping::follow` meets its contract: the loop takes one row a turn.
-use Prim.Native.Nat.{ℕ, suc, ◌+◌, ◌-◌, ◌≤◌}
+use Prim.Native.Nat.{ℕ, suc, ◌+◌, ◌≤◌}
 use mathlib.Core.Path.{◌≡◌}
 use mathlib.Core.List.{List}
 use lib.ListN.{length}
@@ -23,6 +23,3 @@ pub record Following (arm : Arm) (w : Workspace) (c : Course) (g react : Float) 
 
 abbrev pub invariant-loop-i : goal.invariant-loop-i
 invariant-loop-i l = Following l.arm l.w l.c l.g l.react l.rows l.initial.slack l.left l.initial.r l.slack l.r l.i
-
-abbrev pub decreases-loop-i : goal.decreases-loop-i
-decreases-loop-i l = l.left - l.i

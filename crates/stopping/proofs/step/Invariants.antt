@@ -1,5 +1,5 @@
 -- `stopping::step` meets its contract, axis by axis.
-use Prim.Native.Nat.{ℕ, ◌-◌, ◌≤◌}
+use Prim.Native.Nat.{ℕ, ◌≤◌}
 use mathlib.Core.Path.{◌≡◌}
 use lib.Ieee.{binary64}
 use Rattle.checked.specs.Each.{at}
@@ -9,6 +9,3 @@ use Rattle.stopping.proofs.step.Given as goal
 
 abbrev pub invariant-loop-j : goal.invariant-loop-j
 invariant-loop-j l = (l.j ≤ l.n) × (l.r ≡ (each (λ (i : ℕ). moved binary64 l.dt (at l.v i) (at l.p i)) l.p l.j).value) × (l.sound ≡ (each (λ (i : ℕ). moved binary64 l.dt (at l.v i) (at l.p i)) l.p l.j).sound)
-
-abbrev pub decreases-loop-j : goal.decreases-loop-j
-decreases-loop-j l = l.n - l.j
