@@ -9,8 +9,8 @@ use brake::BrakeOut;
 use chunk::Header;
 use conformal::{Calibration, GateSpec};
 use envelope::{
-    AbsentCamera, ActionKind, Box, BrakeKind, BrakeModel, ClampMode, Contact, ControlSteps,
-    FuseConfig, Gripper, Limits, Norm, Substeps, ZoneSlot, Zones,
+    AbsentCamera, ActionKind, Box, BrakeKind, BrakeModel, ClampMode, ControlSteps, FuseConfig,
+    Gripper, Limits, Norm, Substeps, Zones,
 };
 use refusal::Refusal;
 use words::{float_of, pattern};
@@ -92,12 +92,9 @@ fn brake(c: Card) -> BrakeModel
 fn no_zones() -> Zones
     ensures { result ≡ no_zones }
 {
-    let empty = ZoneSlot {
-        contact: Contact::None,
-    };
     Zones {
         count: 0,
-        list: [empty; 4],
+        list: [None; 4],
     }
 }
 

@@ -12,10 +12,9 @@ use Rattle.workspace.specs.declared.Shape.{Shape}
 use Rattle.workspace.specs.declared.Shape.TheVariants.{Box, Disc}
 use Rattle.workspace.specs.Shape.{boxed, shape_ok, spans}
 use Rattle.envelope.specs.Derive.{derived}
-use Rattle.envelope.specs.Slots.{counted, zone_at}
+use Rattle.envelope.specs.Slots.{counted, zone_at, zone_with}
 use Rattle.envelope.specs.Refusals.{sizes_ok, zone_ok, zones_ok, numbers_ok, counts_ok, steps_ok, channels_ok, same_pair, zones_fit, channels_fit, shape_fits, features_ok, config_judged}
 use Rattle.envelope.specs.AtBox.{box_derived, box_judged}
-use Rattle.envelope.specs.declared.Contact.TheVariants.{Zone}
 use Rattle.envelope.specs.declared.AbsentCamera.{AbsentCamera}
 use Rattle.envelope.specs.declared.Gripper.{Gripper}
 use Rattle.envelope.specs.declared.Zones.{Zones}
@@ -115,9 +114,9 @@ pub record ZonesJudged (z : Zones) (aux : ℕ) : Type 0 where
 
 -- two zones have the same pair exactly where the first channels are one and the second channels are one: a swapped pair is another
 pub record PairsTold (radius speed wide fast : Float) (i j k l : ℕ) : Type 0 where
-  pub repeated : i ≡ k → j ≡ l → same_pair (Zone i j radius speed) (Zone k l wide fast) ≡ true
-  pub same_first : same_pair (Zone i j radius speed) (Zone k l wide fast) ≡ true → i ≡ k
-  pub same_second : same_pair (Zone i j radius speed) (Zone k l wide fast) ≡ true → j ≡ l
+  pub repeated : i ≡ k → j ≡ l → same_pair (zone_with i j radius speed) (zone_with k l wide fast) ≡ true
+  pub same_first : same_pair (zone_with i j radius speed) (zone_with k l wide fast) ≡ true → i ≡ k
+  pub same_second : same_pair (zone_with i j radius speed) (zone_with k l wide fast) ≡ true → j ≡ l
 
 -- one zone is judged as a single contact is
 pub record OneZoneJudged (z : Zones) (aux : ℕ) : Type 0 where

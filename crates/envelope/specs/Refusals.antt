@@ -1,5 +1,6 @@
 -- When a configuration is refused: one condition for each number of the table (R0), and the list that is judged.
-use Rattle.std.specs.Prelude.{ℕ, Bool, true, false, not, ◌&&◌, ◌||◌, List, [], ◌∷◌, leb, ltb, eqb, Float}
+use Rattle.envelope.specs.declared.Zone.{Zone}
+use Rattle.std.specs.Prelude.{ℕ, Bool, true, false, not, ◌&&◌, ◌||◌, List, [], ◌∷◌, leb, ltb, eqb, Float, None, Option, Some}
 use Rattle.std.specs.Float.{Format}
 use Rattle.std.specs.Float.Ieee.{lt}
 use Rattle.refusal.specs.Order.{Judged, size, number, steps, channels, shape, withdrawn, ◌when◌, refusal}
@@ -14,8 +15,6 @@ use Rattle.envelope.specs.Steps.{substeps_in}
 use Rattle.envelope.specs.Slots.{counted, zone_at}
 use Rattle.envelope.specs.declared.BrakeKind.{BrakeKind}
 use Rattle.envelope.specs.declared.BrakeKind.TheVariants.{PdSecondOrder, FirstOrderDecay, BoundedAccel, JerkLimited, ZeroVelocityHold}
-use Rattle.envelope.specs.declared.Contact.{Contact}
-use Rattle.envelope.specs.declared.Contact.TheVariants.{None, Zone}
 use Rattle.envelope.specs.declared.Zones.{Zones}
 use Rattle.envelope.specs.declared.Limits.{Limits}
 use Rattle.envelope.specs.declared.Norm.{Norm}
@@ -55,9 +54,9 @@ brake_ok (JerkLimited kp kv dt) = gains_ok kp kv dt
 brake_ok (ZeroVelocityHold kp kv dt) = gains_ok kp kv dt
 
 -- a zone's radius is not below 0, its speed is above 0
-abbrev pub zone_ok : Contact → Bool
+abbrev pub zone_ok : Option Zone → Bool
 zone_ok None = true
-zone_ok (Zone i j radius speed) = not_below_zero radius && above_zero speed
+zone_ok (Some z) = not_below_zero z.radius && above_zero z.v_max
 
 -- each zone that counts
 unfoldable pub zones_ok : Zones → Bool
@@ -122,15 +121,15 @@ steps_ok c = every (counts_ok c.brake ∷ (not c.calibrated || ltb 0 c.horizon_t
 -- ---- 4
 
 -- a zone's two channels differ and each is below the declared count
-abbrev pub channels_ok : Contact → ℕ → Bool
+abbrev pub channels_ok : Option Zone → ℕ → Bool
 channels_ok None aux = true
-channels_ok (Zone i j radius speed) aux = not (eqb i j) && ltb i aux && ltb j aux
+channels_ok (Some z) aux = not (eqb z.a0 z.a1) && ltb z.a0 aux && ltb z.a1 aux
 
 -- two zones name the same channels in the same order
-abbrev pub same_pair : Contact → Contact → Bool
+abbrev pub same_pair : Option Zone → Option Zone → Bool
 same_pair None z = false
-same_pair (Zone i j radius speed) None = false
-same_pair (Zone i j radius speed) (Zone k l wide fast) = eqb i k && eqb j l
+same_pair (Some z) None = false
+same_pair (Some z) (Some o) = eqb z.a0 o.a0 && eqb z.a1 o.a1
 
 -- no place before k has the pair of the zone there
 unfoldable pub pair_is_own : Zones → ℕ → Bool

@@ -1,24 +1,24 @@
 -- Two zones at channels of three: a swapped pair is another, the same pair is refused, and a place past the count is not judged, by computation.
-use Rattle.std.specs.Prelude.{ℕ, ◌≡◌, refl, true, false, [], ◌∷◌}
+use Rattle.envelope.specs.declared.Zone.{Zone}
+use Rattle.envelope.specs.Slots.{zone_with}
+use Rattle.std.specs.Prelude.{ℕ, ◌≡◌, refl, true, false, [], ◌∷◌, None, Option}
 use Rattle.std.specs.Float.Ieee.{lt, le}
 use Rattle.checked.specs.Constants.{1! }
 use Rattle.checked.specs.Each.{all}
 use Rattle.checked.specs.Finite.{+0, finite, above_zero, not_below_zero}
 use Rattle.envelope.specs.Refusals.{zones_ok, pair_is_own, zones_fit}
-use Rattle.envelope.specs.declared.Contact.{Contact}
-use Rattle.envelope.specs.declared.Contact.TheVariants.{None, Zone}
 use Rattle.envelope.specs.declared.Zones.{Zones}
 
 -- so many of four places
-abbrev zones : ℕ → Contact → Contact → Contact → Contact → Zones
-zones count a b c d = record { count = count; list = record { contact = a } ∷ record { contact = b } ∷ record { contact = c } ∷ record { contact = d } ∷ [] }
+abbrev zones : ℕ → Option Zone → Option Zone → Option Zone → Option Zone → Zones
+zones count a b c d = record { count = count; list = a ∷ b ∷ c ∷ d ∷ [] }
 
 -- a zone of radius 0 and speed 1, which is right, and one of radius 1 and speed 0, which is not
-abbrev on : ℕ → ℕ → Contact
-on i j = Zone i j +0 1!
+abbrev on : ℕ → ℕ → Option Zone
+on i j = zone_with i j +0 1!
 
-abbrev still : Contact
-still = Zone 0 1 1! +0
+abbrev still : Option Zone
+still = zone_with 0 1 1! +0
 
 pub swapped_fits : zones_fit (zones 2 (on 0 1) (on 1 0) None None) 3 ≡ true
 unfolding zones_fit pair_is_own all

@@ -40,23 +40,13 @@ pub enum BrakeKind {
     ZeroVelocityHold { k_p: f64, k_v: f64, dt: f64 },
 }
 
-// A slow zone round the point that the camera's channels a0 and a1 give, or none. The channels stand first, beside the case, so that four zones
-// are copied in a few moves.
+// A slow zone round the point that the camera's channels a0 and a1 give.
 #[derive(Clone, Copy)]
-pub enum Contact {
-    None,
-    Zone {
-        a0: u8,
-        a1: u8,
-        radius: f64,
-        v_max: f64,
-    },
-}
-
-// A place in the list of zones; an array may hold no enum itself.
-#[derive(Clone, Copy)]
-pub struct ZoneSlot {
-    pub contact: Contact,
+pub struct Zone {
+    pub a0: u8,
+    pub a1: u8,
+    pub radius: f64,
+    pub v_max: f64,
 }
 
 // The slow zones of an arm: the first `count` places of the list, at most four. What stands past the count is not read, and a place
@@ -64,7 +54,7 @@ pub struct ZoneSlot {
 #[derive(Clone, Copy)]
 pub struct Zones {
     pub count: u8,
-    pub list: [ZoneSlot; 4],
+    pub list: [Option<Zone>; 4],
 }
 
 // What a zone counts as that is not seen, since the camera's message is too short for one of its channels or the position has one
@@ -337,19 +327,14 @@ fn brake_ok(kind: BrakeKind) -> bool
 }
 
 // A zone may have radius 0, but not speed 0. It is judged whether CONTACT is armed or not.
-fn zone_ok(contact: Contact) -> bool
+fn zone_ok(contact: Option<Zone>) -> bool
     ensures { result ≡ zone_ok contact }
 {
     match contact {
-        Contact::None => true,
-        Contact::Zone {
-            a0: _,
-            a1: _,
-            radius,
-            v_max,
-        } => {
-            let a = fmath::not_below_zero(radius);
-            let b = fmath::above_zero(v_max);
+        None => true,
+        Some(zone) => {
+            let a = fmath::not_below_zero(zone.radius);
+            let b = fmath::above_zero(zone.v_max);
             a & b
         }
     }
@@ -363,9 +348,7 @@ fn zones_ok(zones: Zones) -> bool
     let n = counted(zones);
     let mut ok = true;
     for k in 0..n {
-        let slot = list[k];
-        let contact = slot.contact;
-        ok = ok & zone_ok(contact);
+        ok = ok & zone_ok(list[k]);
     }
     ok
 }
@@ -499,39 +482,28 @@ fn steps_ok(c: FuseConfig) -> bool
 // ---- 4: channels
 
 // A zone's channels differ, and the camera has both.
-fn channels_ok(contact: Contact, aux_count: usize) -> bool
+fn channels_ok(contact: Option<Zone>, aux_count: usize) -> bool
     ensures { result ≡ channels_ok contact aux_count }
 {
     match contact {
-        Contact::None => true,
-        Contact::Zone {
-            a0,
-            a1,
-            radius: _,
-            v_max: _,
-        } => (a0 != a1) & ((a0 as usize) < aux_count) & ((a1 as usize) < aux_count),
+        None => true,
+        Some(zone) => {
+            let a0 = zone.a0;
+            let a1 = zone.a1;
+            (a0 != a1) & ((a0 as usize) < aux_count) & ((a1 as usize) < aux_count)
+        }
     }
 }
 
 // Two zones name the same channels in the same order.
-fn same_pair(one: Contact, other: Contact) -> bool
+fn same_pair(one: Option<Zone>, other: Option<Zone>) -> bool
     ensures { result ≡ same_pair one other }
 {
     match one {
-        Contact::None => false,
-        Contact::Zone {
-            a0: i,
-            a1: j,
-            radius: _,
-            v_max: _,
-        } => match other {
-            Contact::None => false,
-            Contact::Zone {
-                a0: k,
-                a1: l,
-                radius: _,
-                v_max: _,
-            } => (i == k) & (j == l),
+        None => false,
+        Some(a) => match other {
+            None => false,
+            Some(b) => (a.a0 == b.a0) & (a.a1 == b.a1),
         },
     }
 }
@@ -542,13 +514,10 @@ fn pair_is_own(zones: Zones, k: usize) -> bool
     ensures { result ≡ pair_is_own zones k }
 {
     let list = zones.list;
-    let slot = list[k];
-    let contact = slot.contact;
+    let contact = list[k];
     let mut ok = true;
     for m in 0..k {
-        let before = list[m];
-        let other = before.contact;
-        ok = ok & !same_pair(other, contact);
+        ok = ok & !same_pair(list[m], contact);
     }
     ok
 }
@@ -561,9 +530,7 @@ fn zones_fit(zones: Zones, aux_count: usize) -> bool
     let n = counted(zones);
     let mut ok = true;
     for k in 0..n {
-        let slot = list[k];
-        let contact = slot.contact;
-        let right = channels_ok(contact, aux_count);
+        let right = channels_ok(list[k], aux_count);
         let own = pair_is_own(zones, k);
         ok = ok & (right & own);
     }

@@ -1,4 +1,6 @@
 -- A struct whose taken-apart parts are right is right: one law for each struct of many parts.
+use Rattle.std.specs.Prelude.{Option}
+use Rattle.envelope.specs.declared.Zone.{Zone}
 use mathlib.Core.Path.{◌≡◌}
 use mathlib.Core.List.{List, [], ◌∷◌}
 use Prim.Native.Nat.{ℕ}
@@ -12,7 +14,6 @@ use Rattle.envelope.specs.declared.ClampMode.{ClampMode}
 use Rattle.envelope.specs.declared.AbsentCamera.{AbsentCamera}
 use Rattle.envelope.specs.declared.Gripper.{Gripper}
 use Rattle.envelope.specs.declared.BrakeKind.{BrakeKind}
-use Rattle.envelope.specs.declared.ZoneSlot.{ZoneSlot}
 use Rattle.envelope.specs.declared.Zones.{Zones}
 use Rattle.envelope.specs.declared.Limits.{Limits}
 use Rattle.envelope.specs.declared.Norm.{Norm}
@@ -49,7 +50,7 @@ pub whole_gate : (c : List ℕ) {k t0 t1 t2 t3 t4 t5 t6 t7 : ℕ}
 unfolding gate_of
 whole_gate c e e0 e1 e2 e3 e4 e5 e6 e7 = rw (e, e0, e1, e2, e3, e4, e5, e6, e7)
 
-pub whole_zones : (n : List Float) (c : List ℕ) {k : ℕ} {z0 z1 z2 z3 : ZoneSlot}
+pub whole_zones : (n : List Float) (c : List ℕ) {k : ℕ} {z0 z1 z2 z3 : Option Zone}
     → k ≡ in8 (count c 5)
     → z0 ≡ zone_of (at n 9) (at n 10) (count c 6) (count c 7)
     → z1 ≡ zone_of (at n 44) (at n 45) (count c 27) (count c 28)

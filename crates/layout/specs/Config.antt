@@ -1,5 +1,7 @@
 -- The configuration in flat arrays: 53 numbers and 35 counts and codes. The calibration's two tables of 192 are lent as they are.
-use Rattle.std.specs.Prelude.{ℕ, zero, suc, Bool, ◌&&◌, ◌||◌, List, [], ◌∷◌, ◌++◌, leb, ltb, eqb, Float, if◌then◌else◌}
+use Rattle.envelope.specs.declared.Zone.{Zone}
+use Rattle.envelope.specs.Slots.{zone_with}
+use Rattle.std.specs.Prelude.{ℕ, zero, suc, Bool, ◌&&◌, ◌||◌, List, [], ◌∷◌, ◌++◌, leb, ltb, eqb, Float, if◌then◌else◌, Option}
 use Rattle.checked.specs.Each.{at, every}
 use Rattle.conformal.specs.declared.Calibration.{Calibration}
 use Rattle.conformal.specs.declared.GateSpec.{GateSpec}
@@ -13,9 +15,7 @@ use Rattle.envelope.specs.declared.Gripper.{Gripper}
 use Rattle.envelope.specs.declared.Gripper.TheVariants as G
 use Rattle.envelope.specs.declared.BrakeKind.{BrakeKind}
 use Rattle.envelope.specs.declared.BrakeKind.TheVariants as B
-use Rattle.envelope.specs.declared.ZoneSlot.{ZoneSlot}
 use Rattle.envelope.specs.declared.Zones.{Zones}
-use Rattle.envelope.specs.declared.Contact.TheVariants as C
 use Rattle.envelope.specs.declared.Limits.{Limits}
 use Rattle.envelope.specs.declared.Norm.{Norm}
 use Rattle.envelope.specs.declared.Box.{Box}
@@ -81,8 +81,8 @@ brake_of n c = record {
 abbrev pub channel_of : ℕ → ℕ → ℕ
 channel_of own other = if leb other 255 then in8 own else 255
 
-unfoldable pub zone_of : Float → Float → ℕ → ℕ → ZoneSlot
-zone_of radius speed first second = record { contact = C.Zone (channel_of first second) (channel_of second first) radius speed }
+unfoldable pub zone_of : Float → Float → ℕ → ℕ → Option Zone
+zone_of radius speed first second = zone_with (channel_of first second) (channel_of second first) radius speed
 
 -- count 5; the first zone is numbers 9 and 10 and counts 6 and 7, the further ones are numbers 44 to 49 and counts 27 to 32
 unfoldable pub zones_of : List Float → List ℕ → Zones

@@ -6,8 +6,8 @@ ghost use Rattle.layout.specs.Config.{kind_of, clamp_of, absent_camera_of, shape
 use crate::places::{to_u8, to_u16, to_u32};
 use conformal::{Calibration, GateSpec};
 use envelope::{
-    AbsentCamera, ActionKind, Box, BrakeKind, BrakeModel, ClampMode, Contact, ControlSteps,
-    Derived, FuseConfig, Gripper, Limits, Norm, Substeps, ZoneSlot, Zones,
+    AbsentCamera, ActionKind, Box, BrakeKind, BrakeModel, ClampMode, ControlSteps, Derived,
+    FuseConfig, Gripper, Limits, Norm, Substeps, Zone, Zones,
 };
 use workspace::Shape;
 
@@ -113,19 +113,17 @@ fn channel(own: u64, other: u64) -> u8
     if other <= 255 { to_u8(own) } else { 255 }
 }
 
-fn zone_of(radius: f64, v_max: f64, first: u64, second: u64) -> ZoneSlot
+fn zone_of(radius: f64, v_max: f64, first: u64, second: u64) -> Option<Zone>
     ensures { result ≡ zone_of radius v_max first second }
 {
     let a0 = channel(first, second);
     let a1 = channel(second, first);
-    ZoneSlot {
-        contact: Contact::Zone {
-            a0,
-            a1,
-            radius,
-            v_max,
-        },
-    }
+    Some(Zone {
+        a0,
+        a1,
+        radius,
+        v_max,
+    })
 }
 
 // The first zone stands among the other fields, the further ones at the arrays' ends.

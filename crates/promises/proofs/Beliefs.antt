@@ -1,5 +1,6 @@
 -- The four beliefs, and what is easily mixed up with the first: each follows from the promises of the crate that has the entry.
-use Rattle.std.specs.Prelude.{Err}
+use Rattle.envelope.specs.declared.Zone.{Zone}
+use Rattle.std.specs.Prelude.{Err, Option}
 use Prim.Native.Nat.{ℕ, min}
 use mathlib.Core.Path.{◌≡◌, refl, sym, ap, subst, ◌∙◌}
 use mathlib.Core.Bool.{Bool, true, false, not, ◌&&◌, ◌||◌, false≢true}
@@ -20,12 +21,10 @@ use Rattle.workspace.specs.declared.WallMasks.{WallMasks}
 use Rattle.chunk.specs.Refusals.{chunk_reasons}
 use Rattle.chunk.specs.declared.Header.{Header}
 use Rattle.conformal.specs.Rule.{Tables}
-use Rattle.envelope.specs.Slots.{counted, zone_at}
+use Rattle.envelope.specs.Slots.{counted, zone_at, zone_with}
 use Rattle.envelope.specs.Refusals.{sizes_ok, numbers_ok, steps_ok, same_pair, channels_fit, config_judged}
 use Rattle.envelope.specs.Promises.{absent_by}
 use Rattle.envelope.specs.declared.AbsentCamera.TheVariants as absent
-use Rattle.envelope.specs.declared.Contact.{Contact}
-use Rattle.envelope.specs.declared.Contact.TheVariants.{Zone}
 use Rattle.envelope.proofs.Promises.{promised as envelope}
 use Rattle.envelope.specs.declared.FuseConfig.{FuseConfig}
 use Rattle.tier0.specs.declared.Checks.{Checks}
@@ -184,7 +183,7 @@ one_channel_is_refused c tabs k radius speed i l is =
 pub same_pair_is_refused : SamePairIsRefused
 same_pair_is_refused c tabs m k radius speed wide fast i j before l first second =
     unfit_4 c tabs
-    (refuted (channels_fit c) (λ fit. false≢true (sym ((envelope.zones_judged c.zones c.aux_count).no_pair_twice fit m k before l) ∙ ap (λ (x : Contact). same_pair x (zone_at c.zones k)) first ∙ ap (same_pair (Zone i j radius speed)) second ∙ (envelope.pairs_told radius speed wide fast i j i j).repeated refl refl)))
+    (refuted (channels_fit c) (λ fit. false≢true (sym ((envelope.zones_judged c.zones c.aux_count).no_pair_twice fit m k before l) ∙ ap (λ (x : Option Zone). same_pair x (zone_at c.zones k)) first ∙ ap (same_pair (zone_with i j radius speed)) second ∙ (envelope.pairs_told radius speed wide fast i j i j).repeated refl refl)))
 
 -- ---- a limit that is touched
 

@@ -16,9 +16,8 @@ use Rattle.chunk.specs.declared.Header.{Header}
 use Rattle.chunk.specs.Refusals.{held_reasons}
 use Rattle.conformal.specs.Refusals.{named, without_stall_of, sizes_ok, features_ok}
 use Rattle.conformal.specs.Rule.{term_at}
-use Rattle.envelope.specs.Slots.{counted, zone_at}
+use Rattle.envelope.specs.Slots.{counted, zone_at, zone_with}
 use Rattle.envelope.specs.Refusals.{counts_ok, channels_ok, pair_is_own, zones_fit}
-use Rattle.envelope.specs.declared.Contact.TheVariants.{Zone}
 use Rattle.envelope.specs.declared.Zones.{Zones}
 use Rattle.envelope.proofs.Promises.{same_judged}
 use Rattle.layout.specs.Places.{count, in8, in16, in32}
@@ -171,8 +170,8 @@ paired i j aux false false e f h = sym (refused i j aux _ _ _ refl refl refl h)
 
 -- a list of zones, and the same with each channel as it came
 module _ (z w : Zones) (aux : ℕ) (r s : ℕ → Float) (i j : ℕ → ℕ) (many : counted z ≡ counted w)
-    (cut_to : (k : ℕ) → k < counted w → zone_at z k ≡ Zone (channel_of (i k) (j k)) (channel_of (j k) (i k)) (r k) (s k))
-    (came : (k : ℕ) → k < counted w → zone_at w k ≡ Zone (i k) (j k) (r k) (s k))
+    (cut_to : (k : ℕ) → k < counted w → zone_at z k ≡ zone_with (channel_of (i k) (j k)) (channel_of (j k) (i k)) (r k) (s k))
+    (came : (k : ℕ) → k < counted w → zone_at w k ≡ zone_with (i k) (j k) (r k) (s k))
     (fit : (k : ℕ) → k < counted w → zone_held (i k) (j k) aux ≡ true) where
   abbrev held : ℕ → Bool
   held k = leb (i k) 255 && leb (j k) 255
@@ -207,7 +206,7 @@ module _ (z w : Zones) (aux : ℕ) (r s : ℕ → Float) (i j : ℕ → ℕ) (ma
       go false e = let one = all_fails_at held (counted w) e in one-refused one.0 one.1 one.2
 
 module _ (n : List Float) (c : List ℕ) where
-  cut_to : (k : ℕ) → k < min (count c 5) 4 → zone_at (zones_of n c) k ≡ Zone (channel_of (first_at c k) (second_at c k)) (channel_of (second_at c k) (first_at c k)) (radius_at n k) (speed_at n k)
+  cut_to : (k : ℕ) → k < min (count c 5) 4 → zone_at (zones_of n c) k ≡ zone_with (channel_of (first_at c k) (second_at c k)) (channel_of (second_at c k) (first_at c k)) (radius_at n k) (speed_at n k)
   unfolding zones_of zone_of
   cut_to zero l = refl
   cut_to (suc zero) l = refl
@@ -215,7 +214,7 @@ module _ (n : List Float) (c : List ℕ) where
   cut_to (suc (suc (suc zero))) l = refl
   cut_to (suc (suc (suc (suc k)))) l = absurd (omega arith)
 
-  came : (k : ℕ) → k < min (count c 5) 4 → zone_at (zones_as_came n c) k ≡ Zone (first_at c k) (second_at c k) (radius_at n k) (speed_at n k)
+  came : (k : ℕ) → k < min (count c 5) 4 → zone_at (zones_as_came n c) k ≡ zone_with (first_at c k) (second_at c k) (radius_at n k) (speed_at n k)
   came zero l = refl
   came (suc zero) l = refl
   came (suc (suc zero)) l = refl

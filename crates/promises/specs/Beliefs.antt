@@ -10,11 +10,10 @@ use Rattle.workspace.specs.declared.WallMasks.{WallMasks}
 use Rattle.chunk.specs.declared.Header.{Header}
 use Rattle.conformal.specs.Rule.{Tables}
 use Rattle.envelope.specs.Refusals.{sizes_ok, numbers_ok, steps_ok, config_judged}
-use Rattle.envelope.specs.Slots.{counted, zone_at}
+use Rattle.envelope.specs.Slots.{counted, zone_at, zone_with}
 use Rattle.envelope.specs.Promises.{absent_by}
 use Rattle.envelope.specs.declared.AbsentCamera.{AbsentCamera}
 use Rattle.envelope.specs.declared.AbsentCamera.TheVariants as absent
-use Rattle.envelope.specs.declared.Contact.TheVariants.{Zone}
 use Rattle.envelope.specs.declared.FuseConfig.{FuseConfig}
 use Rattle.tier0.specs.Rule.{CONTACT}
 use Rattle.tier0.specs.Chunk.{some_longer}
@@ -65,12 +64,12 @@ pub record ChannelsAre4 (c : FuseConfig) (tabs : Tables) : Type 0 where
 
 abbrev pub OneChannelIsRefused : Type 0
 OneChannelIsRefused =
-    (c : FuseConfig) (tabs : Tables) (k : ℕ) (radius speed : Float) (i : ℕ) → k < counted c.zones → zone_at c.zones k ≡ Zone i i radius speed
+    (c : FuseConfig) (tabs : Tables) (k : ℕ) (radius speed : Float) (i : ℕ) → k < counted c.zones → zone_at c.zones k ≡ zone_with i i radius speed
     → sizes_ok c ≡ true → numbers_ok binary64 c tabs ≡ true → steps_ok c ≡ true → ChannelsAre4 c tabs
 
 abbrev pub SamePairIsRefused : Type 0
 SamePairIsRefused =
-    (c : FuseConfig) (tabs : Tables) (m k : ℕ) (radius speed wide fast : Float) (i j : ℕ) → m < k → k < counted c.zones → zone_at c.zones m ≡ Zone i j radius speed → zone_at c.zones k ≡ Zone i j wide fast
+    (c : FuseConfig) (tabs : Tables) (m k : ℕ) (radius speed wide fast : Float) (i j : ℕ) → m < k → k < counted c.zones → zone_at c.zones m ≡ zone_with i j radius speed → zone_at c.zones k ≡ zone_with i j wide fast
     → sizes_ok c ≡ true → numbers_ok binary64 c tabs ≡ true → steps_ok c ≡ true → ChannelsAre4 c tabs
 
 -- "Touching a limit trips it": where no limit is strictly exceeded nothing is raised, however many are touched

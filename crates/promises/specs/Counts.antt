@@ -1,7 +1,8 @@
 -- The number that C is given for a count is the table's for the count as it came. A count that its field cannot hold is cut to the field's largest, and each
 -- condition of the table says of that what it says of the count; where the table accepts the count itself, the boundary has given 255. A zone's channels are judged there by
 -- themselves, so that a pair which its fields cannot hold is 255 also where another zone has it.
-use Rattle.std.specs.Prelude.{ℕ, ◌+◌, ◌*◌, ◌≤◌, ◌<◌, min, ◌≡◌, Bool, true, ◌||◌, List, [], ◌∷◌, leb, ltb, Float}
+use Rattle.envelope.specs.declared.Zone.{Zone}
+use Rattle.std.specs.Prelude.{ℕ, ◌+◌, ◌*◌, ◌≤◌, ◌<◌, min, ◌≡◌, Bool, true, ◌||◌, List, [], ◌∷◌, leb, ltb, Float, Option}
 use Rattle.refusal.specs.Order.{refusal}
 use Rattle.checked.specs.Each.{at, all, every}
 use Rattle.chunk.specs.declared.Header.{Header}
@@ -10,11 +11,9 @@ use Rattle.chunk.specs.Of.{cleared_of}
 use Rattle.window.specs.Rule.{flag}
 use Rattle.window.specs.Answer.{out_of_size}
 use Rattle.conformal.specs.Refusals.{named, without_stall_of, sizes_ok, features_ok}
-use Rattle.envelope.specs.Slots.{counted}
+use Rattle.envelope.specs.Slots.{counted, zone_with}
 use Rattle.envelope.specs.Promises.{SameZones}
 use Rattle.envelope.specs.Refusals.{counts_ok, zones_fit}
-use Rattle.envelope.specs.declared.Contact.TheVariants.{Zone}
-use Rattle.envelope.specs.declared.ZoneSlot.{ZoneSlot}
 use Rattle.envelope.specs.declared.Zones.{Zones}
 use Rattle.envelope.specs.declared.AbsentCamera.TheVariants as absent
 use Rattle.envelope.specs.declared.Gripper.TheVariants as gripper
@@ -54,8 +53,8 @@ abbrev pub second_at : List ℕ → ℕ → ℕ
 second_at c = count (count c 7 ∷ count c 28 ∷ count c 30 ∷ count c 32 ∷ [])
 
 -- the list of zones as its counts came, none of them cut
-abbrev pub as_came : List Float → List ℕ → ℕ → ZoneSlot
-as_came n c k = record { contact = Zone (first_at c k) (second_at c k) (radius_at n k) (speed_at n k) }
+abbrev pub as_came : List Float → List ℕ → ℕ → Option Zone
+as_came n c k = zone_with (first_at c k) (second_at c k) (radius_at n k) (speed_at n k)
 
 abbrev pub zones_as_came : List Float → List ℕ → Zones
 zones_as_came n c = record { count = count c 5; list = as_came n c 0 ∷ as_came n c 1 ∷ as_came n c 2 ∷ as_came n c 3 ∷ [] }

@@ -1,4 +1,5 @@
 -- CONTACT and the leash of an accepted call: by the zones that the arm is inside, one by one, since each of their steps is finite.
+use Rattle.envelope.specs.declared.Zone.{Zone}
 use Rattle.tier0.specs.Refusals.{passed_with}
 use Prim.Native.Nat.{ℕ, ◌<◌}
 use mathlib.Core.Path.{◌≡◌, refl, sym, ap, ◌∙◌}
@@ -8,7 +9,7 @@ use mathlib.Core.List.{List}
 use native.Mathlib.Omega.{arith}
 use lib.ListN.{replicate}
 use lib.Ieee.{Float, Format, lt, le}
-use Rattle.std.specs.Prelude.{if◌then◌else◌}
+use Rattle.std.specs.Prelude.{if◌then◌else◌, None, Option}
 use Rattle.checked.specs.Each.{some, Among}
 use Rattle.checked.specs.Finite.{+0, finite}
 use Rattle.checked.specs.Least.{lesser}
@@ -22,8 +23,6 @@ use Rattle.chunk.specs.declared.Header.{Header}
 use Rattle.conformal.specs.Rule.{Tables}
 use Rattle.envelope.specs.Slots.{counted, zone_at}
 use Rattle.envelope.specs.Promises.{Fit, zoned_by}
-use Rattle.envelope.specs.declared.Contact.{Contact}
-use Rattle.envelope.specs.declared.Contact.TheVariants.{None}
 use Rattle.envelope.specs.declared.Zones.{Zones}
 use Rattle.envelope.specs.declared.FuseConfig.{FuseConfig}
 use Rattle.envelope.proofs.Accepted.{step_max_finite}
@@ -238,9 +237,9 @@ module _ (f : Format) (c : FuseConfig) (t : Tables) (w : Zones) (p aux : List Fl
   found_in : (k : ℕ) → k < counted c.zones → (zone_in f c.limits.dt c.absent_camera (zone_at c.zones k) p aux).value.inside ≡ true
       → Among (λ (m : ℕ). true) (counted w) (λ (m : ℕ). (zone_in f c.limits.dt c.absent_camera (zone_at w m) p aux).value ≡ (zone_in f c.limits.dt c.absent_camera (zone_at c.zones k) p aux).value)
   found_in k l =
-      by_place (λ (x : Contact). (zone_in f c.limits.dt c.absent_camera x p aux).value.inside ≡ true → Among (λ (m : ℕ). true) (counted w) (λ (m : ℕ). (zone_in f c.limits.dt c.absent_camera (zone_at w m) p aux).value ≡ (zone_in f c.limits.dt c.absent_camera x p aux).value)) (zone_at c.zones k)
+      by_place (λ (x : Option Zone). (zone_in f c.limits.dt c.absent_camera x p aux).value.inside ≡ true → Among (λ (m : ℕ). true) (counted w) (λ (m : ℕ). (zone_in f c.limits.dt c.absent_camera (zone_at w m) p aux).value ≡ (zone_in f c.limits.dt c.absent_camera x p aux).value)) (zone_at c.zones k)
       (λ i. absurd (false≢true (sym (ap (λ (x : Checked Slow). x.value.inside) (empty_place f c.limits.dt c.absent_camera p aux None refl)) ∙ i)))
-      (λ radius speed i j e inside. let m = has k l radius speed i j e in record { index = m.index; within = m.within; holds = refl; such = ap (λ (x : Contact). (zone_in f c.limits.dt c.absent_camera x p aux).value) m.such })
+      (λ radius speed i j e inside. let m = has k l radius speed i j e in record { index = m.index; within = m.within; holds = refl; such = ap (λ (x : Option Zone). (zone_in f c.limits.dt c.absent_camera x p aux).value) m.such })
 
   more_zones : LeashTold f (checks_of f c) p aux → LeashTold f (checks_of f (zoned_by c w)) p aux → LeashNotLonger f (checks_of f c) (checks_of f (zoned_by c w)) p aux
   unfolding checks_of arms

@@ -1,5 +1,6 @@
 -- What follows from tier 0's rules: when each bit is raised, that a wall which is touched is not exceeded, when there is no slow zone; and where the rows of a chunk
 -- stand in its list.
+use Rattle.envelope.specs.declared.Zone.{Zone}
 use Prim.Native.Nat.{ℕ, zero, suc, ◌+◌, ◌*◌, ◌≤◌, ◌<◌}
 use mathlib.Core.Path.{◌≡◌, refl, sym, ap, ◌∙◌}
 use mathlib.Core.Bool.{Bool, true, false, not, ◌&&◌, ◌||◌, false≢true, and-true, and-false, or-false}
@@ -9,7 +10,7 @@ use borrow.Author.Tests.{eq-eqb}
 use lib.ListN.{drop, get_or}
 use lib.Seq.{get_or-drop}
 use lib.Ieee.{Float, Format, nan, inf, fin, mul, lt, le, ne, eq, up, down}
-use Rattle.std.specs.Prelude.{if◌then◌else◌}
+use Rattle.std.specs.Prelude.{if◌then◌else◌, None, Option, Some}
 use Rattle.checked.specs.Each.{at, all, over}
 use Rattle.checked.specs.Finite.{finite}
 use Rattle.checked.specs.Checked.{Checked, pure}
@@ -20,10 +21,8 @@ use Rattle.workspace.specs.Shape.{boxed}
 use Rattle.workspace.specs.Rule.{Walls}
 use Rattle.bits.specs.Bits.{bit, bits_where}
 use Rattle.bits.proofs.Bits.{bit_where, bits_below, bits_none}
-use Rattle.envelope.specs.declared.Contact.{Contact}
-use Rattle.envelope.specs.declared.Contact.TheVariants.{None, Zone}
 use Rattle.envelope.specs.declared.AbsentCamera.{AbsentCamera}
-use Rattle.envelope.specs.Slots.{counted, zone_at}
+use Rattle.envelope.specs.Slots.{counted, zone_at, zone_with}
 use Rattle.chunk.proofs.Rows.{row_fits}
 use Rattle.tier0.specs.declared.Checks.{Checks}
 use Rattle.tier0.specs.Rule.{WORKSPACE, SPEED, ACCEL, JERK, REACH, CONTACT, arms, Slow, clear, seen, inside_seen, inside_zone, inside_unseen, zone_step, zone_in, slowest, slow_zone, trip_bits, leash, moved_dims, check_action}
@@ -112,11 +111,11 @@ none_clear f s p aux none =
     (λ armed. slowest_clear f s.dt s.absent_camera p aux (zone_at s.zones) (counted s.zones) (none armed))
 
 -- what holds of a place that is empty and of one that holds a zone
-pub by_place : (P : Contact → Type 0) (z : Contact) → P None → ((radius speed : Float) (i j : ℕ) → z ≡ Zone i j radius speed → P (Zone i j radius speed)) → P z
+pub by_place : (P : Option Zone → Type 0) (z : Option Zone) → P None → ((radius speed : Float) (i j : ℕ) → z ≡ zone_with i j radius speed → P (zone_with i j radius speed)) → P z
 by_place P None empty zone = empty
-by_place P (Zone i j radius speed) empty zone = zone radius speed i j refl
+by_place P (Some z) empty zone = zone z.radius z.v_max z.a0 z.a1 refl
 
-pub empty_place : (f : Format) (dt : Float) (choice : AbsentCamera) (p aux : List Float) (z : Contact) → z ≡ None → zone_in f dt choice z p aux ≡ pure clear
+pub empty_place : (f : Format) (dt : Float) (choice : AbsentCamera) (p aux : List Float) (z : Option Zone) → z ≡ None → zone_in f dt choice z p aux ≡ pure clear
 unfolding zone_in
 empty_place f dt choice p aux z e = rw e
 
@@ -126,7 +125,7 @@ no_contact f s p aux none = none_clear f s p aux (λ armed k l. empty_place f s.
 far_clear : (f : Format) (dt radius speed d : Float) → le d radius ≡ false → (if le d radius then zone_step f dt speed else pure clear).value ≡ clear
 far_clear f dt radius speed d e = rw e
 
-seen_far : (f : Format) (dt : Float) (choice : AbsentCamera) (p aux : List Float) (radius speed : Float) (i j : ℕ) → SeenOutside f radius i j p aux → (zone_in f dt choice (Zone i j radius speed) p aux).value ≡ clear
+seen_far : (f : Format) (dt : Float) (choice : AbsentCamera) (p aux : List Float) (radius speed : Float) (i j : ℕ) → SeenOutside f radius i j p aux → (zone_in f dt choice (zone_with i j radius speed) p aux).value ≡ clear
 unfolding zone_in inside_zone inside_seen
 seen_far f dt choice p aux radius speed i j far = rw far.in_sight (far_clear f dt radius speed (dist f p (at aux i ∷ at aux j ∷ []) 2).value far.beyond_radius)
 
@@ -135,7 +134,7 @@ unfolding slow_zone
 outside_radius f s p aux far =
     or_clear (arms s CONTACT) (slowest f s.dt s.absent_camera (zone_at s.zones) p aux (counted s.zones))
     (slowest_outside f s.dt s.absent_camera p aux (zone_at s.zones) (counted s.zones)
-    (λ k l. by_place (λ (z : Contact). (zone_in f s.dt s.absent_camera z p aux).value ≡ clear) (zone_at s.zones k)
+    (λ k l. by_place (λ (z : Option Zone). (zone_in f s.dt s.absent_camera z p aux).value ≡ clear) (zone_at s.zones k)
     (ap (λ (x : Checked Slow). x.value) (empty_place f s.dt s.absent_camera p aux None refl))
     (λ radius speed i j e. seen_far f s.dt s.absent_camera p aux radius speed i j (far k l radius speed i j e))))
 
@@ -147,7 +146,7 @@ one_zone f s p aux one = rw (one, and-true)
 
 -- ---- each zone by itself
 
-module _ (f : Format) (dt : Float) (choice : AbsentCamera) (p aux : List Float) (z : Contact) (radius speed : Float) (i j : ℕ) (is : z ≡ Zone i j radius speed) where
+module _ (f : Format) (dt : Float) (choice : AbsentCamera) (p aux : List Float) (z : Option Zone) (radius speed : Float) (i j : ℕ) (is : z ≡ zone_with i j radius speed) where
   abbrev if_inside : Bool → Slow
   if_inside b = (if b then zone_step f dt speed else pure clear).value
 

@@ -1,4 +1,5 @@
 -- When each check of an accepted call is raised: exactly when it is armed and what it looks for is found in the rows as they came. A zone is told by its own numbers: by its distance where it is seen, else by the choice.
+use Rattle.envelope.specs.declared.Zone.{Zone}
 use Rattle.tier0.specs.Refusals.{passed_with}
 use Prim.Native.Nat.{ℕ, ◌-◌}
 use mathlib.Core.Path.{◌≡◌, refl, sym, ap, ◌∙◌}
@@ -6,7 +7,7 @@ use mathlib.Core.Bool.{Bool, true, false, ◌&&◌, false≢true, and-false}
 use mathlib.Core.List.{List, [], ◌∷◌}
 use lib.ListN.{replicate}
 use lib.Ieee.{Float, Format, lt, le}
-use Rattle.std.specs.Prelude.{if◌then◌else◌}
+use Rattle.std.specs.Prelude.{if◌then◌else◌, None, Option, Some}
 use Rattle.checked.specs.Each.{at, some}
 use Rattle.checked.specs.Finite.{+0}
 use Rattle.checked.proofs.Each.{some_same}
@@ -15,8 +16,6 @@ use Rattle.workspace.specs.declared.WallMasks.{WallMasks}
 use Rattle.chunk.specs.declared.Header.{Header}
 use Rattle.conformal.specs.Rule.{Tables}
 use Rattle.envelope.specs.Slots.{counted, zone_at}
-use Rattle.envelope.specs.declared.Contact.{Contact}
-use Rattle.envelope.specs.declared.Contact.TheVariants.{None, Zone}
 use Rattle.envelope.specs.declared.FuseConfig.{FuseConfig}
 use Rattle.tier0.specs.declared.Checks.{Checks}
 use Rattle.tier0.specs.declared.Difference.{Difference}
@@ -46,21 +45,21 @@ module _ (f : Format) (s : Checks) (p aux : List Float) where
       told : ZoneTold f s p aux k
       told = zone_told f s p aux k
 
-      go : (x : Contact) → zone_at s.zones k ≡ x → (zone_found f s p aux k).inside ≡ counts_inside f s.absent_camera p aux x
+      go : (x : Option Zone) → zone_at s.zones k ≡ x → (zone_found f s p aux k).inside ≡ counts_inside f s.absent_camera p aux x
       go None e = ap (λ (y : Slow). y.inside) (told.empty_place e)
-      go (Zone i j radius speed) e = by_sight (seen p aux i j) refl
+      go (Some z) e = by_sight (seen p aux z.a0 z.a1) refl
         where
-          by_sight : (b : Bool) → seen p aux i j ≡ b → (zone_found f s p aux k).inside ≡ (if b then le (dist f p (at aux i ∷ at aux j ∷ []) 2).value radius else inside_unseen s.absent_camera)
-          by_sight true h = told.seen_by_distance radius speed i j e h
-          by_sight false h = told.unseen_by_choice radius speed i j e h
+          by_sight : (b : Bool) → seen p aux z.a0 z.a1 ≡ b → (zone_found f s p aux k).inside ≡ (if b then le (dist f p (at aux z.a0 ∷ at aux z.a1 ∷ []) 2).value z.radius else inside_unseen s.absent_camera)
+          by_sight true h = told.seen_by_distance z.radius z.v_max z.a0 z.a1 e h
+          by_sight false h = told.unseen_by_choice z.radius z.v_max z.a0 z.a1 e h
 
   step_by_numbers : (k : ℕ) → counts_inside f s.absent_camera p aux (zone_at s.zones k) ≡ true → (zone_found f s p aux k).step ≡ allowed_step f s.dt (zone_at s.zones k)
   unfolding counts_inside allowed_step
   step_by_numbers k = go (zone_at s.zones k) refl
     where
-      go : (x : Contact) → zone_at s.zones k ≡ x → counts_inside f s.absent_camera p aux x ≡ true → (zone_found f s p aux k).step ≡ allowed_step f s.dt x
+      go : (x : Option Zone) → zone_at s.zones k ≡ x → counts_inside f s.absent_camera p aux x ≡ true → (zone_found f s p aux k).step ≡ allowed_step f s.dt x
       go None e h = absurd (false≢true h)
-      go (Zone i j radius speed) e h = (zone_told f s p aux k).step_inside radius speed i j e (inside_by_numbers k ∙ rw e h)
+      go (Some z) e h = (zone_told f s p aux k).step_inside z.radius z.v_max z.a0 z.a1 e (inside_by_numbers k ∙ rw e h)
 
   -- some zone that counts, by the numbers of each
   zones_by_numbers : (longer : Float → Bool) → some (λ (k : ℕ). inside_at f s p aux k && longer (zone_found f s p aux k).step) (counted s.zones) ≡ (arms s CONTACT && some (λ (k : ℕ). counts_inside f s.absent_camera p aux (zone_at s.zones k) && longer (allowed_step f s.dt (zone_at s.zones k))) (counted s.zones))

@@ -1,4 +1,5 @@
 -- The slow zones together: the arm is inside one of them where it is inside some, and the step is the least of those, and one of them.
+use Rattle.envelope.specs.declared.Zone.{Zone}
 use Prim.Native.Nat.{ℕ, zero, suc, ◌<◌}
 use mathlib.Core.Path.{◌≡◌, refl, sym, ap, ◌∙◌}
 use mathlib.Core.Bool.{Bool, true, false, ◌&&◌, ◌||◌, false≢true, and-true, or-false}
@@ -7,7 +8,7 @@ use mathlib.Core.List.{List}
 use native.Mathlib.Omega.{arith}
 use borrow.Author.Count.{below_more}
 use lib.Ieee.{Float, Format, mul, lt}
-use Rattle.std.specs.Prelude.{if◌then◌else◌}
+use Rattle.std.specs.Prelude.{if◌then◌else◌, None, Option, Some}
 use Rattle.checked.specs.Each.{all, some, Among}
 use Rattle.checked.specs.Finite.{finite}
 use Rattle.checked.specs.Least.{lesser}
@@ -16,8 +17,6 @@ use Rattle.checked.proofs.Each.{and_left, and_right, some_either}
 use Rattle.checked.proofs.Ordered.{finite_real}
 use Rattle.checked.proofs.Extremes.{lesser_either, lesser_below}
 use Rattle.envelope.specs.declared.AbsentCamera.{AbsentCamera}
-use Rattle.envelope.specs.declared.Contact.{Contact}
-use Rattle.envelope.specs.declared.Contact.TheVariants.{None, Zone}
 use Rattle.tier0.specs.Rule.{Slow, clear, inside_zone, zone_step, zone_in, slower, slowest}
 use Rattle.tier0.specs.Chunk.{step_to, some_longer}
 
@@ -61,7 +60,7 @@ slower_tested longer of-lesser a b = go a.inside b.inside
     go false u q = refl
 
 -- zones that say the same one by one say the same together
-pub slowest_alike : (f : Format) (dt period : Float) (choice other : AbsentCamera) (zone place : ℕ → Contact) (p aux q cam : List Float) (n : ℕ) → ((k : ℕ) → k < n → zone_in f period other (place k) q cam ≡ zone_in f dt choice (zone k) p aux)
+pub slowest_alike : (f : Format) (dt period : Float) (choice other : AbsentCamera) (zone place : ℕ → Option Zone) (p aux q cam : List Float) (n : ℕ) → ((k : ℕ) → k < n → zone_in f period other (place k) q cam ≡ zone_in f dt choice (zone k) p aux)
     → slowest f period other place q cam n ≡ slowest f dt choice zone p aux n
 unfolding slowest
 slowest_alike f dt period choice other zone place p aux q cam zero same = refl
@@ -71,18 +70,18 @@ slowest_alike f dt period choice other zone place p aux q cam (suc n) same = rw 
 
 module _ (f : Format) (dt : Float) (choice : AbsentCamera) (p aux : List Float) where
   -- where all that it computes is finite, so is its step
-  zone_firm : (z : Contact) → (zone_in f dt choice z p aux).sound ≡ true → Firm (zone_in f dt choice z p aux).value
+  zone_firm : (z : Option Zone) → (zone_in f dt choice z p aux).sound ≡ true → Firm (zone_in f dt choice z p aux).value
   unfolding zone_in zone_step
   zone_firm None = λ s i. absurd (false≢true i)
-  zone_firm (Zone i j radius speed) = go (inside_zone f choice radius i j p aux).value (inside_zone f choice radius i j p aux).sound
+  zone_firm (Some z) = go (inside_zone f choice z.radius z.a0 z.a1 p aux).value (inside_zone f choice z.radius z.a0 z.a1 p aux).sound
     where
-      go : (b t : Bool) → t && (if b then zone_step f dt speed else pure clear).sound ≡ true → Firm (if b then zone_step f dt speed else pure clear).value
-      go true t s in-it = rw (and-true (finite (mul f speed dt))) at (and_right t (finite (mul f speed dt) && true) s)
+      go : (b t : Bool) → t && (if b then zone_step f dt z.v_max else pure clear).sound ≡ true → Firm (if b then zone_step f dt z.v_max else pure clear).value
+      go true t s in-it = rw (and-true (finite (mul f z.v_max dt))) at (and_right t (finite (mul f z.v_max dt) && true) s)
       go false t s in-it = absurd (false≢true in-it)
 
   -- ---- all of them
 
-  module _ (zone : ℕ → Contact) where
+  module _ (zone : ℕ → Option Zone) where
     abbrev found : ℕ → Slow
     found k = (zone_in f dt choice (zone k) p aux).value
 

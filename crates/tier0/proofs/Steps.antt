@@ -1,4 +1,6 @@
 -- What each step of the check answers, as a struct of its parts: one or two laws a step, on plain values and at any format.
+use Rattle.std.specs.Prelude.{None, Option}
+use Rattle.envelope.specs.declared.Zone.{Zone}
 use Prim.Native.Nat.{ℕ, ◌+◌}
 use mathlib.Core.Path.{◌≡◌, refl, sym, ap, ◌∙◌}
 use mathlib.Core.Bool.{Bool, true, false, not, ◌&&◌, ◌||◌, and-true}
@@ -20,10 +22,8 @@ use Rattle.workspace.specs.Of.{walls_in}
 use Rattle.workspace.specs.Rule.{outside, inward}
 use Rattle.envelope.specs.declared.ClampMode.{ClampMode}
 use Rattle.envelope.specs.declared.ClampMode.TheVariants as M
-use Rattle.envelope.specs.Slots.{counted, zone_at}
+use Rattle.envelope.specs.Slots.{counted, zone_at, zone_with}
 use Rattle.envelope.specs.declared.AbsentCamera.{AbsentCamera}
-use Rattle.envelope.specs.declared.Contact.{Contact}
-use Rattle.envelope.specs.declared.Contact.TheVariants as C
 use Rattle.tier0.specs.declared.Checks.{Checks}
 use Rattle.tier0.specs.declared.SlowZone.{SlowZone}
 use Rattle.checked.specs.declared.Row.{Row}
@@ -81,12 +81,12 @@ module _ (f : Format) (s : Checks) (p aux : List Float) {k : Bool} (e : k ≡ ar
   unfolding slow_zone
   slow_on h q = rw (sym e ∙ h) q
 
-module _ (f : Format) (dt : Float) (choice : AbsentCamera) (z : Contact) (p aux : List Float) where
-  pub unconfigured : z ≡ C.None → {r : SlowZone} → r ≡ zone_from (pure clear) → r ≡ zone_from (zone_in f dt choice z p aux)
+module _ (f : Format) (dt : Float) (choice : AbsentCamera) (z : Option Zone) (p aux : List Float) where
+  pub unconfigured : z ≡ None → {r : SlowZone} → r ≡ zone_from (pure clear) → r ≡ zone_from (zone_in f dt choice z p aux)
   unfolding zone_in
   unconfigured e h = rw e h
 
-  module _ (radius speed : Float) (i j : ℕ) (e : z ≡ C.Zone i j radius speed) {t : Test} (is : t ≡ test_from (inside_zone f choice radius i j p aux)) where
+  module _ (radius speed : Float) (i j : ℕ) (e : z ≡ zone_with i j radius speed) {t : Test} (is : t ≡ test_from (inside_zone f choice radius i j p aux)) where
     pub zone_inside : t.holds ≡ true → {k : Bool} → k ≡ finite (mul f speed dt) → ◌≡◌ {A = SlowZone} (record { inside = true; step = mul f speed dt; sound = t.sound && k }) (zone_from (zone_in f dt choice z p aux))
     unfolding zone_in zone_step
     zone_inside h q = rw (e, sym (ap (λ (x : Test). x.holds) is) ∙ h, ap (λ (x : Test). x.sound) is, q, and-true)
@@ -107,7 +107,7 @@ module _ (a b : SlowZone) where
   slower_first e h = rw (e, h)
 
 -- one turn of the loop over the zones
-module _ (f : Format) (dt : Float) (choice : AbsentCamera) (zone : ℕ → Contact) (p aux : List Float) where
+module _ (f : Format) (dt : Float) (choice : AbsentCamera) (zone : ℕ → Option Zone) (p aux : List Float) where
   pub none_asked : {z : SlowZone} → z ≡ zone_from (pure clear) → z ≡ zone_from (slowest f dt choice zone p aux 0)
   unfolding slowest
   none_asked e = e

@@ -1,5 +1,6 @@
 -- What the slow zones do to the entries' answers: without one, or where those that are not seen count as none, they are those with CONTACT unarmed; where they count
 -- as slow they are those of an arm that is seen inside them; elsewhere the choice changes nothing, and what stands past the count never does.
+use Rattle.envelope.specs.declared.Zone.{Zone}
 use Prim.Native.Nat.{ℕ, ◌-◌, ◌/◌, ◌%◌, ◌<◌}
 use mathlib.Core.Path.{◌≡◌, refl, sym, ap, ◌∙◌}
 use mathlib.Core.Bool.{Bool, true, false, and-true, and-false}
@@ -10,20 +11,18 @@ use borrow.Author.Tests.{eqb-true, le-leb, lt-leb, lt-ltb, le-ltb}
 use lib.Dec.{eqb, leb, ltb}
 use lib.ListN.{length}
 use lib.Ieee.{Float, Format, mul}
-use Rattle.std.specs.Prelude.{if◌then◌else◌}
+use Rattle.std.specs.Prelude.{if◌then◌else◌, None, Option, Some}
 use Rattle.checked.specs.Each.{at}
 use Rattle.checked.specs.Finite.{finite}
 use Rattle.checked.proofs.Each.{◌&&≡◌}
 use Rattle.checked.specs.Checked.{Checked, pure}
 use Rattle.conformal.specs.Rule.{Tables}
 use Rattle.fmath.proofs.Lengths.{dist_same}
-use Rattle.envelope.specs.Slots.{counted, zone_at}
+use Rattle.envelope.specs.Slots.{counted, zone_at, zone_with}
 use Rattle.envelope.specs.Promises.{absent_by, zoned_by, SameZones}
 use Rattle.envelope.specs.declared.Zones.{Zones}
 use Rattle.envelope.specs.declared.AbsentCamera.{AbsentCamera}
 use Rattle.envelope.specs.declared.AbsentCamera.TheVariants as absent
-use Rattle.envelope.specs.declared.Contact.{Contact}
-use Rattle.envelope.specs.declared.Contact.TheVariants.{None, Zone}
 use Rattle.envelope.specs.declared.FuseConfig.{FuseConfig}
 use Rattle.tier0.specs.Rule.{WORKSPACE, SPEED, ACCEL, JERK, REACH, CONTACT, arms, weight, box_dims, Slow, clear, seen, inside_seen, inside_zone, zone_step, zone_in, slow_zone}
 use Rattle.tier0.specs.Of.{checks_of}
@@ -50,7 +49,7 @@ module _ (p aux : List Float) (i j : ℕ) where
 
 -- ---- one zone, by how it is seen and by the choice
 
-module _ (f : Format) (dt : Float) (choice : AbsentCamera) (z : Contact) (radius speed : Float) (i j : ℕ) (is : z ≡ Zone i j radius speed) where
+module _ (f : Format) (dt : Float) (choice : AbsentCamera) (z : Option Zone) (radius speed : Float) (i j : ℕ) (is : z ≡ zone_with i j radius speed) where
   unseen_slow : (p aux : List Float) → choice ≡ absent.Slow → seen p aux i j ≡ false → zone_in f dt choice z p aux ≡ zone_step f dt speed
   unfolding zone_in inside_zone
   unseen_slow p aux new away = rw (is, away, new)
@@ -83,12 +82,12 @@ module _ (f : Format) (dt : Float) (choice : AbsentCamera) (z : Contact) (radius
     stands_alike new = ⊎_elim (λ x. seen_within q cam x.1 ∙ sym (unseen_slow p aux new x.0)) (⊎_elim (λ x. unseen_both x.0 x.1) seen_alike)
 
 -- where a zone that is not seen is none, its rule reads no choice
-if_seen : (f : Format) (dt : Float) (choice : AbsentCamera) (z : Contact) (p aux : List Float) → choice ≡ absent.NoZone → zone_in f dt choice z p aux ≡ zone_if_seen f dt z p aux
+if_seen : (f : Format) (dt : Float) (choice : AbsentCamera) (z : Option Zone) (p aux : List Float) → choice ≡ absent.NoZone → zone_in f dt choice z p aux ≡ zone_if_seen f dt z p aux
 unfolding zone_in inside_zone inside_seen zone_if_seen
 if_seen f dt choice None p aux old = refl
-if_seen f dt choice (Zone i j radius speed) p aux old = by_sight (seen p aux i j) refl
+if_seen f dt choice (Some z) p aux old = by_sight (seen p aux z.a0 z.a1) refl
   where
-    by_sight : (b : Bool) → seen p aux i j ≡ b → zone_in f dt choice (Zone i j radius speed) p aux ≡ zone_if_seen f dt (Zone i j radius speed) p aux
+    by_sight : (b : Bool) → seen p aux z.a0 z.a1 ≡ b → zone_in f dt choice (Some z) p aux ≡ zone_if_seen f dt (Some z) p aux
     by_sight true e = rw (e, and-true)
     by_sight false e = rw (e, old)
 
@@ -112,10 +111,10 @@ unseen_is_inside f s k p aux radius speed i j new at-zone =
 unseen_as_empty : UnseenAsEmpty
 unseen_as_empty f dt p aux z w each =
     slowest_alike f dt dt absent.NoZone absent.NoZone (zone_at z) (zone_at w) p aux p aux (counted z)
-    (λ k l. ⊎_elim (λ e. ap (λ (x : Contact). zone_in f dt absent.NoZone x p aux) e) (λ x. ap (λ (y : Contact). zone_in f dt absent.NoZone y p aux) x.0 ∙ empty_place f dt absent.NoZone p aux None refl ∙ sym (says_nothing (zone_at z k) x.1)) (each k l))
+    (λ k l. ⊎_elim (λ e. ap (λ (x : Option Zone). zone_in f dt absent.NoZone x p aux) e) (λ x. ap (λ (y : Option Zone). zone_in f dt absent.NoZone y p aux) x.0 ∙ empty_place f dt absent.NoZone p aux None refl ∙ sym (says_nothing (zone_at z k) x.1)) (each k l))
   where
-    says_nothing : (x : Contact) → ((radius speed : Float) (i j : ℕ) → x ≡ Zone i j radius speed → seen p aux i j ≡ false) → zone_in f dt absent.NoZone x p aux ≡ pure clear
-    says_nothing x away = by_place (λ (y : Contact). zone_in f dt absent.NoZone y p aux ≡ pure clear) x (empty_place f dt absent.NoZone p aux None refl) (λ radius speed i j e. unseen_none f dt absent.NoZone (Zone i j radius speed) radius speed i j refl p aux refl (away radius speed i j e))
+    says_nothing : (x : Option Zone) → ((radius speed : Float) (i j : ℕ) → x ≡ zone_with i j radius speed → seen p aux i j ≡ false) → zone_in f dt absent.NoZone x p aux ≡ pure clear
+    says_nothing x away = by_place (λ (y : Option Zone). zone_in f dt absent.NoZone y p aux ≡ pure clear) x (empty_place f dt absent.NoZone p aux None refl) (λ radius speed i j e. unseen_none f dt absent.NoZone (zone_with i j radius speed) radius speed i j refl p aux refl (away radius speed i j e))
 
 -- ---- with CONTACT unarmed
 
@@ -159,9 +158,9 @@ module _ (f : Format) (t : Tables) (c : FuseConfig) (p aux : List Float) (old : 
   unfolding checks_of arms
   none_seen =
       none_clear f (checks_of f c) p aux
-      (λ armed k l. by_place (λ (z : Contact). zone_in f c.limits.dt c.absent_camera z p aux ≡ pure clear) (zone_at c.zones k)
+      (λ armed k l. by_place (λ (z : Option Zone). zone_in f c.limits.dt c.absent_camera z p aux ≡ pure clear) (zone_at c.zones k)
       (empty_place f c.limits.dt c.absent_camera p aux None refl)
-      (λ radius speed i j e. unseen_none f c.limits.dt c.absent_camera (Zone i j radius speed) radius speed i j refl p aux old (away armed k l radius speed i j e)))
+      (λ radius speed i j e. unseen_none f c.limits.dt c.absent_camera (zone_with i j radius speed) radius speed i j refl p aux old (away armed k l radius speed i j e)))
 
   pub unseen_as_unarmed : AsUnarmed f t c p aux
   unseen_as_unarmed = as_unarmed f t c p aux none_seen
@@ -171,9 +170,9 @@ module _ (f : Format) (t : Tables) (c : FuseConfig) (p aux q cam : List Float) (
   unfolding checks_of arms
   inside_alike =
       zones_same f (checks_of f c) (checks_of f c) p aux q cam refl refl
-      (λ armed k l. by_place (λ (z : Contact). zone_in f c.limits.dt c.absent_camera z q cam ≡ zone_in f c.limits.dt c.absent_camera z p aux) (zone_at c.zones k)
+      (λ armed k l. by_place (λ (z : Option Zone). zone_in f c.limits.dt c.absent_camera z q cam ≡ zone_in f c.limits.dt c.absent_camera z p aux) (zone_at c.zones k)
       (empty_place f c.limits.dt c.absent_camera q cam None refl ∙ sym (empty_place f c.limits.dt c.absent_camera p aux None refl))
-      (λ radius speed i j e. stands_alike f c.limits.dt c.absent_camera (Zone i j radius speed) radius speed i j refl p aux q cam new (each armed k l radius speed i j e)))
+      (λ radius speed i j e. stands_alike f c.limits.dt c.absent_camera (zone_with i j radius speed) radius speed i j refl p aux q cam new (each armed k l radius speed i j e)))
 
   near : (j : ℕ) → j < box_dims (checks_of f c) → at q j ≡ at p j
   unfolding checks_of
@@ -193,9 +192,9 @@ module _ (f : Format) (t : Tables) (c : FuseConfig) (choice : AbsentCamera) (p a
   unfolding checks_of arms
   either_choice =
       zones_same f (checks_of f c) (checks_of f (absent_by c choice)) p aux p aux refl refl
-      (λ armed k l. by_place (λ (z : Contact). zone_in f c.limits.dt choice z p aux ≡ zone_in f c.limits.dt c.absent_camera z p aux) (zone_at c.zones k)
+      (λ armed k l. by_place (λ (z : Option Zone). zone_in f c.limits.dt choice z p aux ≡ zone_in f c.limits.dt c.absent_camera z p aux) (zone_at c.zones k)
       (empty_place f c.limits.dt choice p aux None refl ∙ sym (empty_place f c.limits.dt c.absent_camera p aux None refl))
-      (λ radius speed i j e. seen_either f c.limits.dt c.absent_camera (Zone i j radius speed) radius speed i j refl p aux choice (shown armed k l radius speed i j e)))
+      (λ radius speed i j e. seen_either f c.limits.dt c.absent_camera (zone_with i j radius speed) radius speed i j refl p aux choice (shown armed k l radius speed i j e)))
 
   pub choice_only_where_unseen : SameChecks f t (absent_by c choice) p aux c p aux
   choice_only_where_unseen = same-checks f t c c.armed c.zones choice (moves_as_they_are c.armed) (zones_as_they_are c.zones) p aux p aux (λ j l. refl) refl refl either_choice (differences_as_they_are c.armed)
@@ -208,7 +207,7 @@ module _ (f : Format) (t : Tables) (c : FuseConfig) (w : Zones) (p aux : List Fl
 
   either_list : slow_zone f (checks_of f (zoned_by c w)) p aux ≡ slow_zone f (checks_of f c) p aux
   unfolding checks_of arms
-  either_list = zones_same f (checks_of f c) (checks_of f (zoned_by c w)) p aux p aux refl same_counted (λ armed k l. ap (λ (z : Contact). zone_in f c.limits.dt c.absent_camera z p aux) (same.same_places k l))
+  either_list = zones_same f (checks_of f c) (checks_of f (zoned_by c w)) p aux p aux refl same_counted (λ armed k l. ap (λ (z : Option Zone). zone_in f c.limits.dt c.absent_camera z p aux) (same.same_places k l))
 
   unread_zones : SameChecks f t (zoned_by c w) p aux c p aux
   unread_zones = same-checks f t c c.armed w c.absent_camera (moves_as_they_are c.armed) same p aux p aux (λ j l. refl) refl refl either_list (differences_as_they_are c.armed)

@@ -1,7 +1,8 @@
 -- A calm chunk is not touched: what is promised of an accepted call that raises no check which can move a row, when each check is raised, and that ACCEL and JERK move none.
 -- `proofs/Calm.calm` is all of it. It is said of every configuration: of a box and a disc, of none to four zones, and under either choice for an absent camera.
+use Rattle.envelope.specs.declared.Zone.{Zone}
 use Rattle.tier0.specs.Refusals.{passed_with}
-use Rattle.std.specs.Prelude.{ℕ, ◌-◌, ◌*◌, ◌<◌, ◌≡◌, Bool, true, false, ◌&&◌, List, [], ◌∷◌, ◌++◌, length, take, drop, Float, if◌then◌else◌}
+use Rattle.std.specs.Prelude.{ℕ, ◌-◌, ◌*◌, ◌<◌, ◌≡◌, Bool, true, false, ◌&&◌, List, [], ◌∷◌, ◌++◌, length, take, drop, Float, if◌then◌else◌, None, Option, Some}
 use Rattle.std.specs.Float.{Format}
 use Rattle.std.specs.Float.Ieee.{mul, lt, le}
 use Rattle.checked.specs.Each.{at, some}
@@ -15,8 +16,6 @@ use Rattle.conformal.specs.Rule.{Tables}
 use Rattle.envelope.specs.Slots.{counted, zone_at}
 use Rattle.envelope.specs.Promises.{armed_by}
 use Rattle.envelope.specs.declared.AbsentCamera.{AbsentCamera}
-use Rattle.envelope.specs.declared.Contact.{Contact}
-use Rattle.envelope.specs.declared.Contact.TheVariants.{None, Zone}
 use Rattle.envelope.specs.declared.FuseConfig.{FuseConfig}
 use Rattle.tier0.specs.declared.Checks.{Checks}
 use Rattle.tier0.specs.Rule.{WORKSPACE, SPEED, ACCEL, JERK, REACH, CONTACT, arms, box_dims, seen, inside_unseen, slow_zone, moved_inside, leashed, reached}
@@ -58,14 +57,14 @@ action_found f c p aux prev a = record {
 }
 
 -- the arm counts as inside a zone: by the distance where the zone is seen, else, its camera or the position being too short, by the choice
-unfoldable pub counts_inside : Format → AbsentCamera → (p aux : List Float) → Contact → Bool
+unfoldable pub counts_inside : Format → AbsentCamera → (p aux : List Float) → Option Zone → Bool
 counts_inside f choice p aux None = false
-counts_inside f choice p aux (Zone i j radius speed) = if seen p aux i j then le (dist f p (at aux i ∷ at aux j ∷ []) 2).value radius else inside_unseen choice
+counts_inside f choice p aux (Some z) = if seen p aux z.a0 z.a1 then le (dist f p (at aux z.a0 ∷ at aux z.a1 ∷ []) 2).value z.radius else inside_unseen choice
 
 -- the step that its speed allows
-unfoldable pub allowed_step : Format → Float → Contact → Float
+unfoldable pub allowed_step : Format → Float → Option Zone → Float
 allowed_step f dt None = +0
-allowed_step f dt (Zone i j radius speed) = mul f speed dt
+allowed_step f dt (Some z) = mul f z.v_max dt
 
 -- each check is raised exactly when it is armed and what it looks for is found: CONTACT, a step longer than is allowed by some zone that the arm counts as inside. Of WORKSPACE and CONTACT
 -- `Promises` says it in the rule's own words, too

@@ -1,8 +1,9 @@
 -- What is promised of the answers of `check_chunk` and `check_action`, and what follows from the rules that they cite. `proofs/Zones.promised` is all of it; a chunk that is
 -- not touched has a file of its own, `Calm`. A projected row that passes its check again is not promised.
+use Rattle.envelope.specs.declared.Zone.{Zone}
 use Rattle.tier0.specs.Refusals.{passed_with}
 use Rattle.refusal.specs.declared.Refusal.{Refusal}
-use Rattle.std.specs.Prelude.{ℕ, ◌+◌, ◌-◌, ◌*◌, ◌/◌, ◌%◌, ◌≤◌, ◌<◌, min, ◌≡◌, Bool, true, false, not, ◌&&◌, ◌||◌, ◌⊎◌, List, [], ◌∷◌, eqb, length, replicate, Float, if◌then◌else◌, Err, Result, Ok}
+use Rattle.std.specs.Prelude.{ℕ, ◌+◌, ◌-◌, ◌*◌, ◌/◌, ◌%◌, ◌≤◌, ◌<◌, min, ◌≡◌, Bool, true, false, not, ◌&&◌, ◌||◌, ◌⊎◌, List, [], ◌∷◌, eqb, length, replicate, Float, if◌then◌else◌, Err, Result, Ok, None, Option, Some}
 use Rattle.std.specs.Float.{Format}
 use Rattle.std.specs.Float.Ieee.{mul, lt, le, eq}
 use Rattle.bits.specs.Bits.{bit, bits_where}
@@ -24,12 +25,10 @@ use Rattle.workspace.specs.Promises.{AxisTold, AxisOfAnyTold, NoBitPast}
 use Rattle.chunk.specs.declared.Header.{Header}
 use Rattle.conformal.specs.Rule.{Tables}
 use Rattle.envelope.specs.declared.ClampMode.TheVariants.{Off, Project}
-use Rattle.envelope.specs.declared.Contact.TheVariants.{None, Zone}
-use Rattle.envelope.specs.Slots.{counted, zone_at}
+use Rattle.envelope.specs.Slots.{counted, zone_at, zone_with}
 use Rattle.envelope.specs.Promises.{armed_by, absent_by, zoned_by, margined_by, Agree, SameZones}
 use Rattle.envelope.specs.declared.AbsentCamera.{AbsentCamera}
 use Rattle.envelope.specs.declared.AbsentCamera.TheVariants as absent
-use Rattle.envelope.specs.declared.Contact.{Contact}
 use Rattle.envelope.specs.declared.Zones.{Zones}
 use Rattle.envelope.specs.declared.FuseConfig.{FuseConfig}
 use Rattle.tier0.specs.declared.Tier0Out.{Tier0Out}
@@ -213,7 +212,7 @@ pub record WallsTouched (w : Walls) (a : List Float) (j : ℕ) : Type 0 where
 
 -- of each zone that counts, P holds, with its radius, speed and channels; a place that holds none is no zone
 abbrev pub EachZone : Zones → (Float → Float → ℕ → ℕ → Type 0) → Type 0
-EachZone z P = (k : ℕ) → k < counted z → (radius speed : Float) (i j : ℕ) → zone_at z k ≡ Zone i j radius speed → P radius speed i j
+EachZone z P = (k : ℕ) → k < counted z → (radius speed : Float) (i j : ℕ) → zone_at z k ≡ zone_with i j radius speed → P radius speed i j
 
 -- no place that counts holds a zone: none counts, or those that do are empty
 abbrev pub NoZones : Zones → Type 0
@@ -239,13 +238,13 @@ OneZone = (f : Format) (s : Checks) (p aux : List Float) → s.zones.count ≡ 1
 -- each zone is asked by its own channels: by the distance where it is seen, by the choice where it is not. Inside, its step is its speed x dt
 pub record ZoneTold (f : Format) (s : Checks) (p aux : List Float) (k : ℕ) : Type 0 where
   pub empty_place : zone_at s.zones k ≡ None → zone_found f s p aux k ≡ clear
-  pub seen_by_distance : (radius speed : Float) (i j : ℕ) → zone_at s.zones k ≡ Zone i j radius speed → seen p aux i j ≡ true → (zone_found f s p aux k).inside ≡ le (dist f p (at aux i ∷ at aux j ∷ []) 2).value radius
-  pub unseen_by_choice : (radius speed : Float) (i j : ℕ) → zone_at s.zones k ≡ Zone i j radius speed → seen p aux i j ≡ false → (zone_found f s p aux k).inside ≡ inside_unseen s.absent_camera
-  pub step_inside : (radius speed : Float) (i j : ℕ) → zone_at s.zones k ≡ Zone i j radius speed → (zone_found f s p aux k).inside ≡ true → (zone_found f s p aux k).step ≡ mul f speed s.dt
+  pub seen_by_distance : (radius speed : Float) (i j : ℕ) → zone_at s.zones k ≡ zone_with i j radius speed → seen p aux i j ≡ true → (zone_found f s p aux k).inside ≡ le (dist f p (at aux i ∷ at aux j ∷ []) 2).value radius
+  pub unseen_by_choice : (radius speed : Float) (i j : ℕ) → zone_at s.zones k ≡ zone_with i j radius speed → seen p aux i j ≡ false → (zone_found f s p aux k).inside ≡ inside_unseen s.absent_camera
+  pub step_inside : (radius speed : Float) (i j : ℕ) → zone_at s.zones k ≡ zone_with i j radius speed → (zone_found f s p aux k).inside ≡ true → (zone_found f s p aux k).step ≡ mul f speed s.dt
   -- finite have to be its distance where it is seen, and its step where the arm is inside
   pub empty_computes_nothing : zone_at s.zones k ≡ None → zone_finite f s p aux k ≡ true
-  pub seen_computes : (radius speed : Float) (i j : ℕ) → zone_at s.zones k ≡ Zone i j radius speed → seen p aux i j ≡ true → zone_finite f s p aux k ≡ ((dist f p (at aux i ∷ at aux j ∷ []) 2).sound && (not (zone_found f s p aux k).inside || finite (mul f speed s.dt)))
-  pub unseen_computes : (radius speed : Float) (i j : ℕ) → zone_at s.zones k ≡ Zone i j radius speed → seen p aux i j ≡ false → zone_finite f s p aux k ≡ (not (zone_found f s p aux k).inside || finite (mul f speed s.dt))
+  pub seen_computes : (radius speed : Float) (i j : ℕ) → zone_at s.zones k ≡ zone_with i j radius speed → seen p aux i j ≡ true → zone_finite f s p aux k ≡ ((dist f p (at aux i ∷ at aux j ∷ []) 2).sound && (not (zone_found f s p aux k).inside || finite (mul f speed s.dt)))
+  pub unseen_computes : (radius speed : Float) (i j : ℕ) → zone_at s.zones k ≡ zone_with i j radius speed → seen p aux i j ≡ false → zone_finite f s p aux k ≡ (not (zone_found f s p aux k).inside || finite (mul f speed s.dt))
 
 -- where CONTACT is armed, 13 comes from each zone that counts, and from no other: none is skipped
 abbrev pub EachAsked : Type 0
@@ -272,7 +271,7 @@ moved_row f s p aux isFirst prev a = do
 
 -- a list has every zone of another, at whatever places: the other with one more zone, or several, is such a list
 abbrev pub HasZonesOf : Zones → Zones → Type 0
-HasZonesOf w z = EachZone z (λ radius speed i j. Among (λ (m : ℕ). true) (counted w) (λ (m : ℕ). zone_at w m ≡ Zone i j radius speed))
+HasZonesOf w z = EachZone z (λ radius speed i j. Among (λ (m : ℕ). true) (counted w) (λ (m : ℕ). zone_at w m ≡ zone_with i j radius speed))
 
 -- and so is one that goes on where the other ends
 abbrev pub MoreAtTheEnd : Type 0
@@ -293,10 +292,10 @@ pub record SeenExactly (p aux : List Float) (i j : ℕ) : Type 0 where
   pub second_channel_missing : length aux ≤ j → seen p aux i j ≡ false
 
 -- the zone where one that is not seen is none, which is the Rust's rule: no choice is read
-unfoldable pub zone_if_seen : Format → Float → Contact → List Float → List Float → Checked Slow
+unfoldable pub zone_if_seen : Format → Float → Option Zone → List Float → List Float → Checked Slow
 zone_if_seen f dt None p aux = pure clear
-zone_if_seen f dt (Zone i j radius speed) p aux =
-    if seen p aux i j then (do d ← dist f p (at aux i ∷ at aux j ∷ []) 2; if le d radius then zone_step f dt speed else pure clear) else pure clear
+zone_if_seen f dt (Some z) p aux =
+    if seen p aux z.a0 z.a1 then (do d ← dist f p (at aux z.a0 ∷ at aux z.a1 ∷ []) 2; if le d z.radius then zone_step f dt z.v_max else pure clear) else pure clear
 
 -- under NoZone that is the rule of one zone
 abbrev pub NoZoneAsRust : Type 0
@@ -306,7 +305,7 @@ NoZoneAsRust = (f : Format) (s : Checks) (p aux : List Float) → s.zones.count 
 pub record ZoneUnseen (armed : ℕ) (z : Zones) (k : ℕ) (p aux : List Float) (radius speed : Float) (i j : ℕ) : Type 0 where
   pub contact_armed : raised CONTACT armed ≡ true
   pub counts : k < counted z
-  pub configured : zone_at z k ≡ Zone i j radius speed
+  pub configured : zone_at z k ≡ zone_with i j radius speed
   pub unseen : seen p aux i j ≡ false
 
 -- under Slow the arm is inside it, its step is speed x dt, and no distance is computed
@@ -320,7 +319,7 @@ UnseenIsInside = (f : Format) (s : Checks) (k : ℕ) (p aux : List Float) (radiu
 
 -- under NoZone a place whose zone is not seen may as well be empty: w has none there, and elsewhere what z has
 abbrev pub EmptyWhereUnseen : (p aux : List Float) → Zones → Zones → Type 0
-EmptyWhereUnseen p aux z w = (k : ℕ) → k < counted z → (zone_at w k ≡ zone_at z k) ⊎ ((zone_at w k ≡ None) × ((radius speed : Float) (i j : ℕ) → zone_at z k ≡ Zone i j radius speed → seen p aux i j ≡ false))
+EmptyWhereUnseen p aux z w = (k : ℕ) → k < counted z → (zone_at w k ≡ zone_at z k) ⊎ ((zone_at w k ≡ None) × ((radius speed : Float) (i j : ℕ) → zone_at z k ≡ zone_with i j radius speed → seen p aux i j ≡ false))
 
 abbrev pub UnseenAsEmpty : Type 0
 UnseenAsEmpty = (f : Format) (dt : Float) (p aux : List Float) (z w : Zones) → EmptyWhereUnseen p aux z w → slowest f dt absent.NoZone (zone_at w) p aux (counted z) ≡ slowest f dt absent.NoZone (zone_at z) p aux (counted z)

@@ -1,5 +1,6 @@
 -- The rules of the checks for one row (R5), over the format. Whatever is computed is checked.
-use Rattle.std.specs.Prelude.{ℕ, zero, suc, ◌+◌, ◌/◌, ◌%◌, min, Bool, true, false, ◌&&◌, ◌||◌, List, [], ◌∷◌, ltb, leb, eqb, length, Float, if◌then◌else◌}
+use Rattle.envelope.specs.declared.Zone.{Zone}
+use Rattle.std.specs.Prelude.{ℕ, zero, suc, ◌+◌, ◌/◌, ◌%◌, min, Bool, true, false, ◌&&◌, ◌||◌, List, [], ◌∷◌, ltb, leb, eqb, length, Float, if◌then◌else◌, None, Option, Some}
 use Rattle.std.specs.Float.{Format}
 use Rattle.std.specs.Float.Ieee.{lt, le, ne}
 use Rattle.checked.specs.Each.{at}
@@ -18,8 +19,6 @@ use Rattle.envelope.specs.declared.ClampMode.TheVariants.{Off, Project}
 use Rattle.envelope.specs.declared.AbsentCamera.{AbsentCamera}
 use Rattle.envelope.specs.declared.AbsentCamera.TheVariants as absent
 use Rattle.envelope.specs.Slots.{counted, zone_at}
-use Rattle.envelope.specs.declared.Contact.{Contact}
-use Rattle.envelope.specs.declared.Contact.TheVariants.{None, Zone}
 use Rattle.tier0.specs.declared.Checks.{Checks}
 
 abbrev pub WORKSPACE : ℕ
@@ -85,18 +84,18 @@ zone_step f dt speed = do
   pure (record { inside = true; step = step })
 
 -- one zone of a configuration; its place may hold none. Its step is computed only inside
-unfoldable pub zone_in : Format → Float → AbsentCamera → Contact → List Float → List Float → Checked Slow
+unfoldable pub zone_in : Format → Float → AbsentCamera → Option Zone → List Float → List Float → Checked Slow
 zone_in f dt choice None p aux = pure clear
-zone_in f dt choice (Zone i j radius speed) p aux = do
-  inside ← inside_zone f choice radius i j p aux
-  if inside then zone_step f dt speed else pure clear
+zone_in f dt choice (Some z) p aux = do
+  inside ← inside_zone f choice z.radius z.a0 z.a1 p aux
+  if inside then zone_step f dt z.v_max else pure clear
 
 -- two findings together: of the zones that the arm is inside, the lesser step
 abbrev pub slower : Slow → Slow → Slow
 slower a b = if a.inside then (if b.inside then record { inside = true; step = lesser a.step b.step } else a) else b
 
 -- the zones at places 0, .., n - 1; each is asked, whatever those before it say
-unfoldable pub slowest : Format → Float → AbsentCamera → (ℕ → Contact) → List Float → List Float → ℕ → Checked Slow
+unfoldable pub slowest : Format → Float → AbsentCamera → (ℕ → Option Zone) → List Float → List Float → ℕ → Checked Slow
 slowest f dt choice zone p aux zero = pure clear
 slowest f dt choice zone p aux (suc n) = do
   a ← slowest f dt choice zone p aux n

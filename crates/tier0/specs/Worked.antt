@@ -1,5 +1,6 @@
 -- What is not promised of projection, which walls moved rows, what a round table does, a chunk that is not touched and rows that are not calm once moved, what a zone counts as that is not seen, and what several zones say, by computation.
-use Rattle.std.specs.Prelude.{ℕ, zero, suc, ◌+◌, ◌<◌, ◌≡◌, refl, true, false, List, [], ◌∷◌, pos, negsuc, replicate, Float}
+use Rattle.envelope.specs.declared.Zone.{Zone}
+use Rattle.std.specs.Prelude.{ℕ, zero, suc, ◌+◌, ◌<◌, ◌≡◌, refl, true, false, List, [], ◌∷◌, pos, negsuc, replicate, Float, None, Option, Some}
 use Rattle.std.proofs.Common.{arith, inl, inr}
 use Rattle.std.specs.Float.{binary64, fin}
 use Rattle.std.specs.Float.Ieee.{add, sub, mul, div, lt, le, eq, ne}
@@ -20,10 +21,8 @@ use Rattle.envelope.specs.declared.ClampMode.{ClampMode}
 use Rattle.envelope.specs.declared.ClampMode.TheVariants.{Off, Project}
 use Rattle.envelope.specs.declared.AbsentCamera.{AbsentCamera}
 use Rattle.envelope.specs.declared.AbsentCamera.TheVariants as absent
-use Rattle.envelope.specs.Slots.{zone_at}
+use Rattle.envelope.specs.Slots.{zone_at, zone_with}
 use Rattle.envelope.specs.declared.Zones.{Zones}
-use Rattle.envelope.specs.declared.Contact.{Contact}
-use Rattle.envelope.specs.declared.Contact.TheVariants.{None, Zone}
 use Rattle.pull.specs.Rule.{toward, shortened, pulled}
 use Rattle.envelope.specs.declared.FuseConfig.{FuseConfig}
 use Rattle.tier0.specs.declared.Checks.{Checks}
@@ -33,8 +32,8 @@ use Rattle.tier0.specs.Calm.{Calm, ButDifferences}
 use Rattle.tier0.specs.Promises.{leash_now, SeenInside, Stands, ZonesStand, StandsAlike}
 
 -- so many zones of two places; the further places hold none
-abbrev list : ℕ → Contact → Contact → Zones
-list count one other = record { count = count; list = record { contact = one } ∷ record { contact = other } ∷ record { contact = None } ∷ record { contact = None } ∷ [] }
+abbrev list : ℕ → Option Zone → Option Zone → Zones
+list count one other = record { count = count; list = one ∷ other ∷ None ∷ None ∷ [] }
 
 -- a position of so many coordinates or more, and rows of dim
 abbrev checking_on : ℕ → Zones → AbsentCamera → Float → ℕ → ClampMode → ℕ → Float → Workspace → Checks
@@ -295,7 +294,7 @@ past_the_edge_again = refl
 
 -- a zone of radius 1, whose centre is on channels 2 and 0; the control period is 2
 abbrev zoned_at : Float → AbsentCamera → ℕ → Checks
-zoned_at speed choice armed = checking_zones (list 1 (Zone 2 0 1! speed) None) choice 2! 1 Off armed 1! no_walls
+zoned_at speed choice armed = checking_zones (list 1 (zone_with 2 0 1! speed) None) choice 2! 1 Off armed 1! no_walls
 
 -- its speed is 1.5, so that the step is 3
 abbrev zoned : AbsentCamera → ℕ → Checks
@@ -317,7 +316,7 @@ unfolding slow_zone slowest arms zone_in inside_zone zone_step mul finite
 first_channel_missing = refl
 
 -- on channels 0 and 2, the same message lacks the second
-pub second_channel_missing : zone_in binary64 2! absent.Slow (Zone 0 2 1! (fin false 3 (negsuc 0))) corner (+0 ∷ +0 ∷ []) ≡ at_zone_speed
+pub second_channel_missing : zone_in binary64 2! absent.Slow (zone_with 0 2 1! (fin false 3 (negsuc 0))) corner (+0 ∷ +0 ∷ []) ≡ at_zone_speed
 unfolding zone_in inside_zone zone_step mul finite
 second_channel_missing = refl
 
@@ -365,7 +364,7 @@ step_not_computed = refl
 
 -- two zones on channels of four, with the control period 2: one of radius 1 and speed 1.5 round (x, y), one of radius 2 and speed 0.5 round (z, w), where the message is x, y, z, w
 abbrev both : ℕ → Checks
-both count = checking_zones (list count (Zone 0 1 1! (fin false 3 (negsuc 0))) (Zone 2 3 2! (fin false 1 (negsuc 0)))) absent.Slow 2! 1 Off (CONTACT + SPEED) 2! no_walls
+both count = checking_zones (list count (zone_with 0 1 1! (fin false 3 (negsuc 0))) (zone_with 2 3 2! (fin false 1 (negsuc 0)))) absent.Slow 2! 1 Off (CONTACT + SPEED) 2! no_walls
 
 abbrev at_step : Float → Checked Slow
 at_step x = pure (record { inside = true; step = x })
@@ -375,7 +374,7 @@ pub inside_both : slow_zone binary64 (both 2) corner (5! ∷ 5! ∷ 5! ∷ 5! �
 unfolding slow_zone slowest arms zone_in inside_zone inside_seen zone_step dist sum_from squared_gap add sub mul root_of number root_exponent half near_root floor_root scaled le lt lesser finite
 inside_both = refl
 
-pub inside_both_swapped : slow_zone binary64 (checking_zones (list 2 (Zone 2 3 2! (fin false 1 (negsuc 0))) (Zone 0 1 1! (fin false 3 (negsuc 0)))) absent.Slow 2! 1 Off CONTACT 1! no_walls) corner (5! ∷ 5! ∷ 5! ∷ 5! ∷ []) ≡ at_step 1!
+pub inside_both_swapped : slow_zone binary64 (checking_zones (list 2 (zone_with 2 3 2! (fin false 1 (negsuc 0))) (zone_with 0 1 1! (fin false 3 (negsuc 0)))) absent.Slow 2! 1 Off CONTACT 1! no_walls) corner (5! ∷ 5! ∷ 5! ∷ 5! ∷ []) ≡ at_step 1!
 unfolding slow_zone slowest arms zone_in inside_zone inside_seen zone_step dist sum_from squared_gap add sub mul root_of number root_exponent half near_root floor_root scaled le lt lesser finite
 inside_both_swapped = refl
 
@@ -404,16 +403,16 @@ unfolding slow_zone slowest arms zone_in inside_zone inside_seen zone_step dist 
 each_distance_computed = refl
 
 -- nor for its step: speed 2^1023
-pub each_step_computed : (slow_zone binary64 (checking_zones (list 2 (Zone 0 1 1! (fin false 3 (negsuc 0))) (Zone 2 3 2! (fin false 1 (pos 1023)))) absent.Slow 2! 1 Off CONTACT 1! no_walls) corner (5! ∷ 5! ∷ 5! ∷ 5! ∷ [])).sound ≡ false
+pub each_step_computed : (slow_zone binary64 (checking_zones (list 2 (zone_with 0 1 1! (fin false 3 (negsuc 0))) (zone_with 2 3 2! (fin false 1 (pos 1023)))) absent.Slow 2! 1 Off CONTACT 1! no_walls) corner (5! ∷ 5! ∷ 5! ∷ 5! ∷ [])).sound ≡ false
 unfolding slow_zone slowest arms zone_in inside_zone inside_seen zone_step dist sum_from squared_gap add sub mul root_of number root_exponent half near_root floor_root scaled le lt lesser finite
 each_step_computed = refl
 
 -- a place that counts and holds none is no zone
-pub empty_place_first : slow_zone binary64 (checking_zones (list 2 None (Zone 2 3 2! (fin false 1 (negsuc 0)))) absent.Slow 2! 1 Off CONTACT 1! no_walls) corner [] ≡ at_step 1!
+pub empty_place_first : slow_zone binary64 (checking_zones (list 2 None (zone_with 2 3 2! (fin false 1 (negsuc 0)))) absent.Slow 2! 1 Off CONTACT 1! no_walls) corner [] ≡ at_step 1!
 unfolding slow_zone slowest arms zone_in inside_zone zone_step mul lesser finite
 empty_place_first = refl
 
-pub empty_place_last : slow_zone binary64 (checking_zones (list 4 (Zone 2 3 2! (fin false 1 (negsuc 0))) None) absent.Slow 2! 1 Off CONTACT 1! no_walls) corner [] ≡ at_step 1!
+pub empty_place_last : slow_zone binary64 (checking_zones (list 4 (zone_with 2 3 2! (fin false 1 (negsuc 0))) None) absent.Slow 2! 1 Off CONTACT 1! no_walls) corner [] ≡ at_step 1!
 unfolding slow_zone slowest arms zone_in inside_zone zone_step mul lesser finite
 empty_place_last = refl
 
@@ -446,9 +445,9 @@ shown = +0 ∷ +0 ∷ []
 abbrev both_shown : List Float
 both_shown = +0 ∷ +0 ∷ 5! ∷ 5! ∷ []
 
-abbrev standing : Contact → Type 0
+abbrev standing : Option Zone → Type 0
 standing None = true ≡ true
-standing (Zone i j radius speed) = Stands binary64 radius i j corner shown corner both_shown
+standing (Some z) = Stands binary64 z.radius z.a0 z.a1 corner shown corner both_shown
 
 each_stands : (k : ℕ) → k < 2 → standing (zone_at (both 2).zones k)
 unfolding dist sum_from squared_gap add sub mul root_of number root_exponent half near_root floor_root scaled le finite
@@ -458,5 +457,5 @@ each_stands (suc (suc k)) b = absurd (omega arith)
 
 pub both_stand : (c : FuseConfig) → c.zones ≡ (both 2).zones → ZonesStand binary64 c corner shown corner both_shown
 both_stand c is armed k l radius speed i j e =
-    let placed : zone_at (both 2).zones k ≡ Zone i j radius speed = rw is at e in
+    let placed : zone_at (both 2).zones k ≡ zone_with i j radius speed = rw is at e in
     rw placed at (each_stands k (rw is at l))

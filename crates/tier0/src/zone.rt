@@ -10,7 +10,7 @@ ghost use Rattle.tier0.specs.Of.{zone_from, slower_of};
 use crate::measure::armed;
 use crate::{Checks, SlowZone};
 use checked::Test;
-use envelope::{AbsentCamera, Contact, TripMask, Zones};
+use envelope::{AbsentCamera, TripMask, Zone, Zones};
 
 fn no_zone() -> SlowZone
     ensures { result ≡ zone_from (pure clear) }
@@ -68,23 +68,20 @@ fn inside_zone(
 fn zone_in(
     dt: f64,
     absent_camera: AbsentCamera,
-    contact: Contact,
+    contact: Option<Zone>,
     pos: &[f64],
     aux: &[f64],
 ) -> SlowZone
     ensures { result ≡ zone_from (zone_in binary64 dt absent_camera contact pos.now aux.now) }
 {
     match contact {
-        Contact::None => no_zone(),
-        Contact::Zone {
-            a0,
-            a1,
-            radius,
-            v_max,
-        } => {
-            let t = inside_zone(absent_camera, radius, a0 as usize, a1 as usize, pos, aux);
+        None => no_zone(),
+        Some(zone) => {
+            let i = zone.a0 as usize;
+            let j = zone.a1 as usize;
+            let t = inside_zone(absent_camera, zone.radius, i, j, pos, aux);
             if t.holds {
-                let step = v_max * dt;
+                let step = zone.v_max * dt;
                 let sound = t.sound & fmath::finite(step);
                 SlowZone {
                     inside: true,
@@ -134,11 +131,8 @@ fn slowest(dt: f64, absent_camera: AbsentCamera, zones: Zones, pos: &[f64], aux:
     let n = envelope::counted(zones);
     let mut found = no_zone();
     for k in 0..n {
-        let slot = list[k];
-        let contact = slot.contact;
-        let z = zone_in(dt, absent_camera, contact, pos, aux);
-        let next = slower(found, z);
-        found = next;
+        let z = zone_in(dt, absent_camera, list[k], pos, aux);
+        found = slower(found, z);
     }
     found
 }

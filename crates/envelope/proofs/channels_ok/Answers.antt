@@ -1,5 +1,5 @@
 -- `envelope::channels_ok` meets its contract: by the case of the contact.
 use Rattle.envelope.proofs.channels_ok.Goals as goal
 
-pub returns-in-Zone : goal.returns-in-Zone
-returns-in-Zone c = rw c.in-Zone.is
+pub returns-in-Some : goal.returns-in-Some
+returns-in-Some c = rw c.in-Some.is

@@ -1,5 +1,5 @@
 -- `envelope::zone_ok` meets its contract: by the case of the contact.
 use Rattle.envelope.proofs.zone_ok.Goals as goal
 
-pub returns-in-Zone : goal.returns-in-Zone
-returns-in-Zone c = rw (c.in-Zone.is, c.not_below_zero-a.ensures, c.above_zero-b.ensures)
+pub returns-in-Some : goal.returns-in-Some
+returns-in-Some c = rw (c.in-Some.is, c.not_below_zero-a.ensures, c.above_zero-b.ensures)
