@@ -182,8 +182,7 @@ pub struct Compiled {
 pub fn counted(zones: Zones) -> usize
     ensures { result ≡ counted zones }
 {
-    let n = zones.count as usize;
-    if n < 4 { n } else { 4 }
+    (zones.count as usize).min(4)
 }
 
 // ---- what is derived
@@ -195,28 +194,20 @@ fn keep(t: bool, x: f64) -> f64
     if t { x } else { 0.0 }
 }
 
-// The low walls moved inward on those of the first n axes that have a box, 0.0 on the others.
-fn low_walls(shape: Shape, lo: &[f64; 8], margin: f64, n: usize) -> [f64; 8]
-    ensures { result ≡ low_walls binary64 shape lo.now margin n }
+// The walls moved inward on those of the first n axes that have a box, 0.0 on the others.
+fn moved_inward(shape: Shape, walls: Box, margin: f64, n: usize) -> Box
+    ensures lo { result.lo ≡ low_walls binary64 shape walls.lo margin n }
+    ensures hi { result.hi ≡ high_walls binary64 shape walls.hi margin n }
 {
     let first = workspace::first_boxed(shape);
-    let mut walls = [0.0; 8];
+    let mut lo = [0.0; 8];
+    let mut hi = [0.0; 8];
     for i in 0..8 {
-        walls[i] = keep((first <= i) & (i < n), lo[i] + margin);
+        let on = (first <= i) & (i < n);
+        lo[i] = keep(on, walls.lo[i] + margin);
+        hi[i] = keep(on, walls.hi[i] - margin);
     }
-    walls
-}
-
-// The high walls moved inward likewise.
-fn high_walls(shape: Shape, hi: &[f64; 8], margin: f64, n: usize) -> [f64; 8]
-    ensures { result ≡ high_walls binary64 shape hi.now margin n }
-{
-    let first = workspace::first_boxed(shape);
-    let mut walls = [0.0; 8];
-    for i in 0..8 {
-        walls[i] = keep((first <= i) & (i < n), hi[i] - margin);
-    }
-    walls
+    Box { lo, hi }
 }
 
 // 1 / scale on the first n coordinates, 0.0 past them.
@@ -224,27 +215,19 @@ fn inverses(scale: &[f64; 8], n: usize) -> [f64; 8]
     ensures { result ≡ inverses binary64 scale.now n }
 {
     let mut inv = [0.0; 8];
-    for i in 0..8 {
-        inv[i] = keep(i < n, 1.0 / scale[i]);
+    for (i, x) in scale.iter().enumerate() {
+        inv[i] = keep(i < n, 1.0 / *x);
     }
     inv
-}
-
-// A count of coordinates, no more than an array has.
-fn at_most_8(n: usize) -> usize
-    ensures { result ≡ min n 8 }
-{
-    if n < 8 { n } else { 8 }
 }
 
 // The least of the first n scales, from infinity; of all eight where n is above 8.
 fn isotropic(scale: &[f64; 8], n: usize) -> f64
     ensures { result ≡ isotropic scale.now n }
 {
-    let count = at_most_8(n);
     let mut least = 1.0 / 0.0;
-    for i in 0..count {
-        least = fmath::min(least, scale[i]);
+    for x in &scale[..n.min(8)] {
+        least = fmath::min(least, *x);
     }
     least
 }
@@ -257,8 +240,9 @@ fn derive(c: FuseConfig) -> Derived
     let inv_dt = 1.0 / c.limits.dt;
     let inv_dt2 = inv_dt * inv_dt;
     let shape = c.shape;
-    let box_lo = low_walls(shape, &c.walls.lo, c.limits.margin, c.pos_dim);
-    let box_hi = high_walls(shape, &c.walls.hi, c.limits.margin, c.pos_dim);
+    let moved = moved_inward(shape, c.walls, c.limits.margin, c.pos_dim);
+    let box_lo = moved.lo;
+    let box_hi = moved.hi;
     let inv_norm_scale = inverses(&c.norm.scale, c.dim);
     let norm_scale_iso = isotropic(&c.norm.scale, c.dim);
     Derived {
@@ -318,11 +302,11 @@ fn brake_ok(kind: BrakeKind) -> bool
     ensures { result ≡ brake_ok kind }
 {
     match kind {
-        BrakeKind::PdSecondOrder { k_p, k_v, dt } => gains_ok(k_p, k_v, dt),
-        BrakeKind::FirstOrderDecay { k_p, k_v, dt } => gains_ok(k_p, k_v, dt),
-        BrakeKind::BoundedAccel { k_p, k_v, dt } => gains_ok(k_p, k_v, dt),
-        BrakeKind::JerkLimited { k_p, k_v, dt } => gains_ok(k_p, k_v, dt),
-        BrakeKind::ZeroVelocityHold { k_p, k_v, dt } => gains_ok(k_p, k_v, dt),
+        BrakeKind::PdSecondOrder { k_p, k_v, dt }
+        | BrakeKind::FirstOrderDecay { k_p, k_v, dt }
+        | BrakeKind::BoundedAccel { k_p, k_v, dt }
+        | BrakeKind::JerkLimited { k_p, k_v, dt }
+        | BrakeKind::ZeroVelocityHold { k_p, k_v, dt } => gains_ok(k_p, k_v, dt),
     }
 }
 
@@ -347,8 +331,8 @@ fn zones_ok(zones: Zones) -> bool
     let list = zones.list;
     let n = counted(zones);
     let mut ok = true;
-    for k in 0..n {
-        ok = ok & zone_ok(list[k]);
+    for slot in &list[..n] {
+        ok = ok & zone_ok(*slot);
     }
     ok
 }
@@ -371,8 +355,8 @@ fn walls_finite(shape: Shape, walls: [f64; 8], n: usize) -> bool
     }
     let first = workspace::first_boxed(shape);
     let mut ok = true;
-    for i in 0..n {
-        ok = ok & (!(first <= i) | fmath::finite(walls[i]));
+    for (i, wall) in walls[..n].iter().enumerate() {
+        ok = ok & (!(first <= i) | fmath::finite(*wall));
     }
     ok
 }
@@ -405,8 +389,8 @@ fn ordered<'a>(lo: &'a [f64; 8], hi: &'a [f64; 8]) -> bool
     ensures { result ≡ ordered lo.now hi.now }
 {
     let mut ok = true;
-    for i in 0..8 {
-        ok = ok & !(hi[i] < lo[i]);
+    for (low, high) in lo.iter().zip(hi) {
+        ok = ok & !(high < low);
     }
     ok
 }
@@ -516,8 +500,8 @@ fn pair_is_own(zones: Zones, k: usize) -> bool
     let list = zones.list;
     let contact = list[k];
     let mut ok = true;
-    for m in 0..k {
-        ok = ok & !same_pair(list[m], contact);
+    for before in &list[..k] {
+        ok = ok & !same_pair(*before, contact);
     }
     ok
 }
@@ -529,8 +513,8 @@ fn zones_fit(zones: Zones, aux_count: usize) -> bool
     let list = zones.list;
     let n = counted(zones);
     let mut ok = true;
-    for k in 0..n {
-        let right = channels_ok(list[k], aux_count);
+    for (k, slot) in list[..n].iter().enumerate() {
+        let right = channels_ok(*slot, aux_count);
         let own = pair_is_own(zones, k);
         ok = ok & (right & own);
     }

@@ -1,7 +1,6 @@
 -- `envelope::inverses` meets its contract: the loop fills the table from the front.
 use mathlib.Core.Path.{refl}
 use native.Mathlib.Omega.{arith}
-use borrow.Author.Rules.{rules}
 use lib.ListN.{length-set}
 use lib.Ieee.{of_bits}
 use Rattle.checked.specs.Each.{table}
@@ -11,24 +10,12 @@ use Rattle.envelope.proofs.inverses.Goals as goal
 
 pub loop-i-init : goal.loop-i-init
 unfolding table
-loop-i-init c = (search rules, (refl, refl))
-
-pub offset_bounds-scale-i : goal.offset_bounds-scale-i
-offset_bounds-scale-i c = omega arith
-
-pub bounds-scale-i : goal.bounds-scale-i
-bounds-scale-i c = omega arith
-
-pub offset_bounds-inv-i : goal.offset_bounds-inv-i
-offset_bounds-inv-i c = omega arith
-
-pub bounds-inv-i : goal.bounds-inv-i
-bounds-inv-i c = omega arith
+loop-i-init c = (refl, refl)
 
 pub loop-i-preserved : goal.loop-i-preserved
 unfolding of_bits
-loop-i-preserved c = let l = c.loop-i in (omega arith, (simp length-set l.invariant.1.0, table_more _ _ _ _ (omega arith) l.invariant.1.1 c.keep.ensures))
+loop-i-preserved c = let l = c.loop-i in (simp length-set l.invariant.0, table_more _ _ _ _ (omega arith) l.invariant.1 c.keep.ensures)
 
 pub returns : goal.returns
 unfolding inverses
-returns c = table_all _ _ _ _ (omega arith) c.loop-i.invariant.1.0 c.loop-i.invariant.1.1
+returns c = table_all _ _ _ _ (omega arith) c.loop-i.invariant.0 c.loop-i.invariant.1

@@ -1,8 +1,8 @@
 -- `envelope::isotropic` meets its contract: the loop keeps the least of the scales passed.
-use Prim.Native.Nat.{◌≤◌}
 use mathlib.Core.Path.{◌≡◌}
 use Rattle.checked.specs.Each.{at}
+use Rattle.checked.specs.Least.{least}
 use Rattle.envelope.proofs.isotropic.Given as goal
 
-abbrev pub invariant-loop-i : goal.invariant-loop-i
-invariant-loop-i l = (l.i ≤ l.count) × ((l.count ≤ 8) × (l.least ≡ Rattle.checked.specs.Least.least (at l.scale) l.i))
+abbrev pub invariant-loop-x : goal.invariant-loop-x
+invariant-loop-x l = l.least ≡ least (at l.scale) l.x-index

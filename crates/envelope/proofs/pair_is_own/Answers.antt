@@ -1,33 +1,28 @@
 -- `envelope::pair_is_own` meets its contract: the loop keeps the answer so far.
-use mathlib.Core.Path.{◌≡◌, refl}
+use mathlib.Core.Path.{◌≡◌, refl, ap, ◌∙◌}
+use mathlib.Core.Bool.{not}
 use native.Mathlib.Omega.{arith}
+use Rattle.std.proofs.lemmas.List.{get_or-take, length-take}
 use Rattle.checked.specs.Each.{all}
 use Rattle.checked.proofs.Each.{all_more}
-use Rattle.envelope.specs.Refusals.{pair_is_own}
+use Rattle.envelope.specs.declared.ZoneSlot.{ZoneSlot}
+use Rattle.envelope.specs.Slots.{zone_at}
+use Rattle.envelope.specs.Refusals.{same_pair, pair_is_own}
 use Rattle.envelope.proofs.pair_is_own.Goals as goal
 
-pub offset_bounds-list-k : goal.offset_bounds-list-k
-offset_bounds-list-k c = omega arith
-
-pub bounds-list-k : goal.bounds-list-k
-bounds-list-k c = omega arith
-
-pub loop-m-init : goal.loop-m-init
+pub loop-before-init : goal.loop-before-init
 unfolding all
-loop-m-init c = (omega arith, refl)
+loop-before-init c = refl
 
-pub offset_bounds-list-m : goal.offset_bounds-list-m
-offset_bounds-list-m c = omega arith
-
-pub bounds-list-m : goal.bounds-list-m
-bounds-list-m c = omega arith
-
-pub loop-m-preserved : goal.loop-m-preserved
-loop-m-preserved c = (omega arith, all_more _ _ _ _ c.loop-m.invariant.1 (rw c.same_pair.ensures))
+pub loop-before-preserved : goal.loop-before-preserved
+loop-before-preserved c =
+    let k = c.args.k in
+    let z = c.args.zones in
+    all_more _ _ _ _ c.loop-before.invariant (ap not (c.same_pair.ensures ∙ ap (λ (s : ZoneSlot). same_pair s.contact (zone_at z k)) (get_or-take k z.list _ _ (omega (arith, length-take k z.list)))))
 
 pub returns : goal.returns
 unfolding pair_is_own
 returns c =
-    let l = c.loop-m in
-    let e : l.m ≡ c.args.k = omega arith in
-    rw e at l.invariant.1
+    let l = c.loop-before in
+    let e : l.before-index ≡ c.args.k = omega (arith, c.requires, length-take c.args.k c.args.zones.list) in
+    rw e at l.invariant

@@ -4,7 +4,9 @@ use mathlib.Core.Bool.{Bool, not, ◌||◌}
 use native.Mathlib.Omega.{arith}
 use borrow.Author.Rules.{rules}
 use lib.Dec.{leb}
+use Rattle.std.proofs.lemmas.List.{get_or-take, length-take}
 use Rattle.checked.specs.Each.{all}
+use Rattle.checked.specs.Finite.{finite}
 use Rattle.checked.proofs.Each.{all_more}
 use Rattle.envelope.proofs.Walls.{walls_told, walls_missing}
 use Rattle.envelope.proofs.walls_finite.Goals as goal
@@ -14,22 +16,18 @@ returns-then-n-gt8 c = let s = c.args in walls_missing s.shape s.walls s.n (sear
 
 pub loop-i-init : goal.loop-i-init
 unfolding all
-loop-i-init c = (omega arith, omega arith, refl)
-
-pub offset_bounds-walls-i : goal.offset_bounds-walls-i
-offset_bounds-walls-i c = omega arith
-
-pub bounds-walls-i : goal.bounds-walls-i
-bounds-walls-i c = omega arith
+loop-i-init c = refl
 
 pub loop-i-preserved : goal.loop-i-preserved
 loop-i-preserved c =
     let l = c.loop-i in
-    (omega arith, l.invariant.1, all_more _ l.i l.ok _ l.invariant.2 (ap (λ (b : Bool). not (leb c.first_boxed-first.result l.i) || b) c.finite.ensures))
+    let s = c.args in
+    let same = ap finite (get_or-take s.n s.walls _ _ (omega (arith, length-take s.n s.walls))) in
+    all_more _ l.i l.ok _ l.invariant (ap (λ (b : Bool). not (leb c.first_boxed-first.result l.i) || b) (c.finite.ensures ∙ same))
 
 pub returns : goal.returns
 returns c =
     let l = c.loop-i in
     let s = c.args in
-    let e : l.i ≡ s.n = omega arith in
-    l.invariant.2 ∙ ap (all _) e ∙ walls_told s.shape c.first_boxed-first.ensures s.n s.walls
+    let e : l.i ≡ s.n = omega (arith, length-take s.n s.walls) in
+    l.invariant ∙ ap (all _) e ∙ walls_told s.shape c.first_boxed-first.ensures s.n s.walls

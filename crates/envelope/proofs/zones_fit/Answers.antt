@@ -1,32 +1,30 @@
 -- `envelope::zones_fit` meets its contract: the loop keeps the answer so far.
-use mathlib.Core.Path.{◌≡◌, refl}
+use mathlib.Core.Path.{◌≡◌, refl, ap, ◌∙◌}
 use native.Mathlib.Omega.{arith}
+use Rattle.std.proofs.lemmas.List.{get_or-take, length-take}
 use Rattle.checked.specs.Each.{all}
 use Rattle.checked.proofs.Each.{all_more, ◌&&≡◌}
-use Rattle.envelope.specs.Refusals.{zones_fit}
+use Rattle.envelope.specs.declared.ZoneSlot.{ZoneSlot}
+use Rattle.envelope.specs.Refusals.{channels_ok, zones_fit}
 use Rattle.envelope.proofs.zones_fit.Goals as goal
 
 pub loop-k-init : goal.loop-k-init
 unfolding all
-loop-k-init c = (omega arith, (rw c.counted-n.ensures (omega arith), refl))
-
-pub offset_bounds-list-k : goal.offset_bounds-list-k
-offset_bounds-list-k c = omega arith
-
-pub bounds-list-k : goal.bounds-list-k
-bounds-list-k c = omega arith
+loop-k-init c = refl
 
 pub pair_is_own-own-requires : goal.pair_is_own-own-requires
-pair_is_own-own-requires c = omega arith
+pair_is_own-own-requires c = omega (arith, c.counted-n.ensures, length-take c.counted-n.result c.args.zones.list)
 
 pub loop-k-preserved : goal.loop-k-preserved
 loop-k-preserved c =
-    let l = c.loop-k in
-    (omega arith, (l.invariant.1.0, all_more _ _ _ _ l.invariant.1.1 (c.channels_ok-right.ensures &&≡ c.pair_is_own-own.ensures)))
+    let n = c.counted-n.result in
+    let s = c.args.zones.list in
+    let same = ap (λ (z : ZoneSlot). channels_ok z.contact c.args.aux_count) (get_or-take n s _ _ (omega (arith, length-take n s))) in
+    all_more _ _ _ _ c.loop-k.invariant ((c.channels_ok-right.ensures ∙ same) &&≡ c.pair_is_own-own.ensures)
 
 pub returns : goal.returns
 unfolding zones_fit
 returns c =
     let l = c.loop-k in
-    let e : l.k ≡ c.counted-n.result = omega arith in
-    rw (e, c.counted-n.ensures) at l.invariant.1.1
+    let e : l.k ≡ c.counted-n.result = omega (arith, c.counted-n.ensures, length-take c.counted-n.result c.args.zones.list) in
+    rw (e, c.counted-n.ensures) at l.invariant

@@ -1,5 +1,5 @@
 -- `envelope::zones_fit` meets its contract: the loop keeps the answer so far.
-use Prim.Native.Nat.{ℕ, ◌≤◌}
+use Prim.Native.Nat.{ℕ}
 use mathlib.Core.Path.{◌≡◌}
 use mathlib.Core.Bool.{◌&&◌}
 use Rattle.checked.specs.Each.{all}
@@ -8,4 +8,4 @@ use Rattle.envelope.specs.Refusals.{channels_ok, pair_is_own}
 use Rattle.envelope.proofs.zones_fit.Given as goal
 
 abbrev pub invariant-loop-k : goal.invariant-loop-k
-invariant-loop-k l = (l.k ≤ l.n) × ((l.n ≤ 4) × (l.ok ≡ all (λ (m : ℕ). channels_ok (zone_at l.zones m) l.aux_count && pair_is_own l.zones m) l.k))
+invariant-loop-k l = l.ok ≡ all (λ (m : ℕ). channels_ok (zone_at l.zones m) l.aux_count && pair_is_own l.zones m) l.k

@@ -1,27 +1,26 @@
 -- `envelope::zones_ok` meets its contract: the loop keeps the answer so far.
-use mathlib.Core.Path.{◌≡◌, refl}
+use mathlib.Core.Path.{◌≡◌, refl, ap, ◌∙◌}
 use native.Mathlib.Omega.{arith}
+use Rattle.std.proofs.lemmas.List.{get_or-take, length-take}
 use Rattle.checked.specs.Each.{all}
 use Rattle.checked.proofs.Each.{all_more}
-use Rattle.envelope.specs.Refusals.{zones_ok}
+use Rattle.envelope.specs.declared.ZoneSlot.{ZoneSlot}
+use Rattle.envelope.specs.Refusals.{zone_ok, zones_ok}
 use Rattle.envelope.proofs.zones_ok.Goals as goal
 
-pub loop-k-init : goal.loop-k-init
+pub loop-slot-init : goal.loop-slot-init
 unfolding all
-loop-k-init c = (omega arith, (rw c.counted-n.ensures (omega arith), refl))
+loop-slot-init c = refl
 
-pub offset_bounds-list-k : goal.offset_bounds-list-k
-offset_bounds-list-k c = omega arith
-
-pub bounds-list-k : goal.bounds-list-k
-bounds-list-k c = omega arith
-
-pub loop-k-preserved : goal.loop-k-preserved
-loop-k-preserved c = (omega arith, (c.loop-k.invariant.1.0, all_more _ _ _ _ c.loop-k.invariant.1.1 c.zone_ok-ok.ensures))
+pub loop-slot-preserved : goal.loop-slot-preserved
+loop-slot-preserved c =
+    let n = c.counted-n.result in
+    let s = c.args.zones.list in
+    all_more _ _ _ _ c.loop-slot.invariant (c.zone_ok-ok.ensures ∙ ap (λ (z : ZoneSlot). zone_ok z.contact) (get_or-take n s _ _ (omega (arith, length-take n s))))
 
 pub returns : goal.returns
 unfolding zones_ok
 returns c =
-    let l = c.loop-k in
-    let e : l.k ≡ c.counted-n.result = omega arith in
-    rw (e, c.counted-n.ensures) at l.invariant.1.1
+    let l = c.loop-slot in
+    let e : l.slot-index ≡ c.counted-n.result = omega (arith, c.counted-n.ensures, length-take c.counted-n.result c.args.zones.list) in
+    rw (e, c.counted-n.ensures) at l.invariant
