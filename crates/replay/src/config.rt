@@ -23,9 +23,7 @@ fn counts(w: &Words) -> [u64; 35] {
 }
 
 // Either table of a calibration that is not there.
-pub(crate) fn unread() -> [f64; 192] {
-    [0.0; 192]
-}
+pub(crate) const UNREAD: [f64; 192] = [0.0; 192];
 
 // The configuration that a record begins with. It has no calibration.
 pub(crate) fn config(w: &Words, x: &Numbers) -> FuseConfig {
@@ -41,8 +39,7 @@ fn is_derived(refusal: u8, derived: &[f64; 29], x: &Numbers) -> bool {
 
 pub(crate) fn derive_agrees(w: &Words, x: &Numbers) -> bool {
     let c = config(w, x);
-    let t = unread();
-    let compiled = envelope::compile(c, &t, &t);
+    let compiled = envelope::compile(c, &UNREAD, &UNREAD);
     let mut derived = [0.0; 29];
     layout::config::put_derived(compiled.derived, &mut derived);
     is_derived(compiled.number, &derived, x)

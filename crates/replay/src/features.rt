@@ -1,5 +1,5 @@
 // Records of tier 1: the features of a tick with a new chunk.
-use crate::config::{config, unread};
+use crate::config::{UNREAD, config};
 use crate::record::{Numbers, Words, exact, header, part, rows_of};
 use chunk::ChunkBuf;
 use conformal::Scores;
@@ -11,12 +11,8 @@ use window::Trail;
 fn trail(w: &Words, x: &Numbers) -> Trail {
     let n = fmath::fewer(w[57] as usize, 24) as u16;
     let mut t = Trail::new();
-    let mut i = 0;
-    while i < n {
-        let pushed = t.push(part(x, 58 + 8 * i, 8), 8);
-        let next = pushed.trail;
-        t = next;
-        i += 1;
+    for i in 0..n {
+        t = t.push(part(x, 58 + 8 * i, 8), 8).trail;
     }
     t
 }
@@ -59,7 +55,6 @@ fn is_featured(sc: Scores, rt: Tier1Rt, w: &Words, x: &Numbers) -> bool {
 
 pub(crate) fn features_agree(w: &Words, x: &Numbers) -> bool {
     let c = config(w, x);
-    let t = unread();
     let rt = state(w, x);
     let pos = part(x, 287, w[286]);
     let ext = part(x, 296, w[295]);
@@ -72,6 +67,6 @@ pub(crate) fn features_agree(w: &Words, x: &Numbers) -> bool {
         valid: 0,
         fired: 0,
     };
-    let a = tier1::features(c, &t, &t, rt, pos, ext, true, k, rows, none);
+    let a = tier1::features(c, &UNREAD, &UNREAD, rt, pos, ext, true, k, rows, none);
     (a.refusal.number == 0) & is_featured(a.scores, a.rt, w, x)
 }

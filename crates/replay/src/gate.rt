@@ -6,34 +6,19 @@ use conformal::{Calibration, GateSpec, Scores};
 use layout::places::{to_u8, to_u32};
 use refusal::Refusal;
 use sample::agrees;
+use std::array;
 
 // Twelve numbers from word at on, for each of 16 time bins.
 fn table(x: &Numbers, at: usize) -> [f64; 192]
     requires { at ≤ 12 }
 {
-    let mut t = [0.0; 192];
-    let mut i = 0usize;
-    while i < 192 {
-        t[i] = x[at + i % 12];
-        i += 1;
-    }
-    t
+    array::from_fn(|i| x[at + i % 12])
 }
 
 fn gate(w: &Words) -> GateSpec {
-    let terms = [
-        to_u32(w[27]),
-        to_u32(w[28]),
-        to_u32(w[29]),
-        to_u32(w[30]),
-        to_u32(w[31]),
-        to_u32(w[32]),
-        to_u32(w[33]),
-        to_u32(w[34]),
-    ];
     GateSpec {
         n_terms: to_u8(w[26]),
-        terms,
+        terms: array::from_fn(|i| to_u32(w[27 + i])),
     }
 }
 
@@ -47,10 +32,8 @@ fn calibration(w: &Words, x: &Numbers) -> Calibration {
 }
 
 fn scores(w: &Words, x: &Numbers) -> Scores {
-    let mut f = [0.0; 12];
-    fmath::put(part(x, 36, 12), 12, &mut f);
     Scores {
-        f,
+        f: array::from_fn(|i| x[36 + i]),
         z: [0.0; 12],
         s: 0.0,
         valid: to_u32(w[48]),

@@ -3,7 +3,7 @@
 // It is a test: what it says is seen in its runs (tools/test-replay), and only that it ends and stays in bounds is proved.
 #![tactic(auto)]
 
-ghost use Rattle.std.specs.Prelude.{◌≡◌, ◌≤◌, length};
+ghost use Rattle.std.specs.Prelude.{◌≤◌};
 
 use crate::arithmetic::{dist_agrees, norm_agrees, sqrt_agrees, time_bin_agrees};
 use crate::checks::{check_action_agrees, check_chunk_agrees};
@@ -133,19 +133,12 @@ fn cut(t: Tally, failed: bool) -> Tally {
     u
 }
 
-// Room for the longest record, and zeros behind a shorter one.
-fn record_buffer() -> [u8; 4096]
-    ensures { 4096 ≡ length result }
-{
-    [0; 4096]
-}
-
-// What the next n words of the input stand for.
+// What the next n words of the input stand for. There is room for the longest record, and zeros stand behind a shorter one.
 fn next_record<R: io::Read>(from: &mut R, n: usize) -> Next
     requires { n ≤ 358 }
 {
     let size = 8 * n;
-    let mut space = record_buffer();
+    let mut space = [0u8; 4096];
     let f = input::fill(from, &mut space[..size]);
     let record = record_of(&space);
     Next {
@@ -159,14 +152,12 @@ fn next_record<R: io::Read>(from: &mut R, n: usize) -> Next
 fn replay<R: io::Read>(from: &mut R, entry: Entry, count: u64) -> Tally {
     let n = words_of(entry);
     let mut t = start();
-    let mut k = 0;
-    while k < count {
+    for _ in 0..count {
         let next = next_record(from, n);
         if !next.whole {
             return cut(t, next.failed);
         }
         t = judged(entry, next.record, t);
-        k += 1;
     }
     t
 }

@@ -1,6 +1,7 @@
 // A record of the sample: its words, by their places in tests/oracle-sample/README.md, and the numbers that they stand for.
 use chunk::Header;
 use layout::places::{to_u16, to_u32};
+use std::array;
 
 // A word that is no part of the record is 0.
 pub(crate) type Words = [u64; 358];
@@ -15,15 +16,8 @@ pub(crate) struct Record {
 
 // The record that the first bytes stand for, where zeros follow them.
 pub(crate) fn record_of(b: &[u8; 4096]) -> Record {
-    let mut words = [0; 358];
-    let mut numbers = [0.0; 358];
-    let mut i = 0usize;
-    while i < 358 {
-        let w = words::word(b, (8 * i) as u32);
-        words[i] = w;
-        numbers[i] = words::float_of(w);
-        i += 1;
-    }
+    let words: Words = array::from_fn(|i| words::word(b, (8 * i) as u32));
+    let numbers = words.map(words::float_of);
     Record { words, numbers }
 }
 

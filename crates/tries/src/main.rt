@@ -8,11 +8,9 @@
 // runs (tools/test-desk).
 #![tactic(auto)]
 
-ghost use Rattle.std.specs.Prelude.{◌≡◌, length};
-
 use envelope::FuseConfig;
-use fmath::put;
 use refusal::Refusal;
+use std::array;
 use tier0::Tier0Out;
 
 type Words = [u64; 122];
@@ -26,24 +24,10 @@ struct Record {
     numbers: Numbers,
 }
 
-// Room for the bytes of a record.
-fn record_buffer() -> [u8; 976]
-    ensures { 976 ≡ length result }
-{
-    [0; 976]
-}
-
 // The record that bytes stand for; a byte that is not there counts as 0.
 fn record_of(b: &[u8]) -> Record {
-    let mut words = [0; 122];
-    let mut numbers = [0.0; 122];
-    let mut i = 0usize;
-    while i < 122 {
-        let w = words::word(b, (8 * i) as u32);
-        words[i] = w;
-        numbers[i] = words::float_of(w);
-        i += 1;
-    }
+    let words: Words = array::from_fn(|i| words::word(b, (8 * i) as u32));
+    let numbers = words.map(words::float_of);
     Record { words, numbers }
 }
 
@@ -57,23 +41,12 @@ fn part(x: &Numbers, at: u16, n: u64) -> &[f64] {
 
 // The numbers of its configuration.
 fn config_numbers(x: &Numbers) -> [f64; 53] {
-    let mut n = [0.0; 53];
-    put(part(x, 0, 53), 53, &mut n);
-    n
+    array::from_fn(|i| x[i])
 }
 
 // Its counts and codes.
 fn config_counts(w: &Words) -> [u64; 35] {
-    [
-        w[53], w[54], w[55], w[56], w[57], w[58], w[59], w[60], w[61], w[62], w[63], w[64], w[65],
-        w[66], w[67], w[68], w[69], w[70], w[71], w[72], w[73], w[74], w[75], w[76], w[77], w[78],
-        w[79], w[80], w[81], w[82], w[83], w[84], w[85], w[86], w[87],
-    ]
-}
-
-// Either table of a calibration that is not there.
-fn unread() -> [f64; 192] {
-    [0.0; 192]
+    array::from_fn(|i| w[53 + i])
 }
 
 fn say(to: &impl Print, text: &str) -> bool {
@@ -91,14 +64,7 @@ fn say_number(to: &impl Print, x: f64) -> bool {
 }
 
 fn say_row(to: &impl Print, row: &[f64; 8]) -> bool {
-    say_number(to, row[0])
-        & say_number(to, row[1])
-        & say_number(to, row[2])
-        & say_number(to, row[3])
-        & say_number(to, row[4])
-        & say_number(to, row[5])
-        & say_number(to, row[6])
-        & say_number(to, row[7])
+    row.iter().fold(true, |wrote, x| wrote & say_number(to, *x))
 }
 
 fn say_refusal(to: &impl Print, r: Refusal) -> bool {
@@ -126,7 +92,8 @@ fn say_answer(to: &impl Print, a: Result<Tier0Out, Refusal>, row: &[f64; 8]) -> 
     }
 }
 
-// Checks the record's action and says the answer. A count or a code that no configuration has is 255, as for callers in C.
+// Checks the record's action and says the answer. A count or a code that no configuration has is 255, as for callers in C. No calibration is
+// there, and neither table of one is read.
 fn answer(to: &impl Print, w: &Words, x: &Numbers) -> bool {
     let n = config_numbers(x);
     let k = config_counts(w);
@@ -134,7 +101,7 @@ fn answer(to: &impl Print, w: &Words, x: &Numbers) -> bool {
         return say(to, "255\n");
     }
     let c: FuseConfig = layout::config::config_of(&n, &k);
-    let t = unread();
+    let t = [0.0; 192];
     let pos = part(x, 89, w[88]);
     let aux = part(x, 98, w[97]);
     let prev = part(x, 106, w[53]);
@@ -149,7 +116,7 @@ fn complain(to: &impl Eprint, text: &str) {
 }
 
 fn main(rt: HostRuntime) {
-    let mut space = record_buffer();
+    let mut space = [0u8; 976];
     let bytes: &mut [u8] = &mut space;
     let f = input::fill(&mut rt.stdin(), bytes);
     if f.failed {
