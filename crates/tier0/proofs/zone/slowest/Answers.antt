@@ -17,7 +17,7 @@ bounds-list-k c = omega arith
 pub loop-k-preserved : goal.loop-k-preserved
 loop-k-preserved c =
     let l = c.loop-k in
-    (omega arith, (l.invariant.1.0, one_more_asked binary64 _ _ _ _ _ l.k l.invariant.1.1 c.zone_in-z.ensures c.slower-next.ensures))
+    (omega arith, (l.invariant.1.0, one_more_asked binary64 _ _ _ _ _ l.k l.invariant.1.1 c.zone_in-z.ensures c.slower-found.ensures))
 
 pub returns : goal.returns
 returns c =
