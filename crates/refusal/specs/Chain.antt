@@ -1,9 +1,9 @@
 -- What is judged in the order of the list: its first reason that applies. So a list of two parts is refused by the first part, and by the second where
 -- the first passes. For a list whose reasons stand in order `refusal` computes to `chain`.
-use Rattle.std.specs.Prelude.{ℕ, ◌≡◌, refl, Bool, true, false, List, [], ◌∷◌, ◌++◌, eqb, if◌then◌else◌}
-use Rattle.std.proofs.Common.{sym, ◌∙◌, eqb-true}
-use Rattle.std.proofs.lemmas.Bool.{eqb-false}
-use Rattle.refusal.specs.Order.{Reason, Judged, number_of, ◌when◌, or_later}
+use Rattle.refusal.specs.declared.Refusal.{Refusal}
+use Rattle.std.specs.Prelude.{zero, suc, ⊤, Result, Ok, Err, is_ok, ℕ, ◌≡◌, refl, Bool, true, false, List, [], ◌∷◌, ◌++◌, if◌then◌else◌}
+use Rattle.std.proofs.Common.{sym, ap, arith, ◌∙◌, true≢false}
+use Rattle.refusal.specs.Order.{Reason, Judged, number_of, ◌when◌, or_later, judged_by, refused_for}
 use Rattle.refusal.specs.Exactly.{not_zero}
 
 abbrev pub chain : List Judged → ℕ
@@ -20,13 +20,32 @@ first_passes [] m h = refl
 first_passes ((r when true) ∷ l) m h = absurd (not_zero r (sym h))
 first_passes ((r when false) ∷ l) m h = first_passes l m h
 
--- the number for two parts, from the number for each
-pub joined : (l m : List Judged) {a b r : ℕ} → a ≡ chain l → b ≡ chain m → r ≡ or_later a b → r ≡ chain (l ++ m)
-joined l m {a} {b} {r} ea eb er = go (eqb a 0) refl
+-- what two parts come to, from what each comes to
+pub joined : (l m : List Judged) {a b r : Result ⊤ Refusal} → a ≡ judged_by (chain l) → b ≡ judged_by (chain m) → r ≡ or_later a b → r ≡ judged_by (chain (l ++ m))
+joined l m {a} {b} {r} ea eb er = er ∙ ap (λ (x : Result ⊤ Refusal). or_later x b) ea ∙ go (chain l) refl
   where
-    go : (none : Bool) → eqb a 0 ≡ none → r ≡ chain (l ++ m)
-    go true z = er ∙ rw (z, eb, first_passes l m (sym ea ∙ eqb-true a 0 z))
-    go false z = er ∙ rw (z, ea, first_refuses l m (λ y. eqb-false a 0 z (ea ∙ y)))
+    go : (n : ℕ) → chain l ≡ n → or_later (judged_by n) b ≡ judged_by (chain (l ++ m))
+    go zero z = eb ∙ ap judged_by (sym (first_passes l m z))
+    go (suc n) z = ap judged_by (sym z ∙ sym (first_refuses l m (λ y. omega (arith, z, y))))
+
+abbrev refusal_in : Result ⊤ Refusal → Refusal
+refusal_in (Ok x) = refused_for 0
+refusal_in (Err r) = r
+
+-- a refusal of what is judged has its number, which is not 0; what passes has 0
+pub refuses_by : {n : ℕ} {x : Result ⊤ Refusal} {r : Refusal} → x ≡ judged_by n → x ≡ Err r → (n ≡ 0 → ⊥) × (r ≡ refused_for n)
+refuses_by {n} {x} {r} e h = go n (sym e ∙ h)
+  where
+    go : (n : ℕ) → judged_by n ≡ Err r → (n ≡ 0 → ⊥) × (r ≡ refused_for n)
+    go zero w = absurd (true≢false (ap is_ok w))
+    go (suc n) w = ((λ z. omega (arith, z)), sym (ap refusal_in w))
+
+pub passes_by : {n : ℕ} {x : Result ⊤ Refusal} {y : ⊤} → x ≡ judged_by n → x ≡ Ok y → n ≡ 0
+passes_by {n} {x} {y} e h = go n (sym e ∙ h)
+  where
+    go : (n : ℕ) → judged_by n ≡ Ok y → n ≡ 0
+    go zero w = refl
+    go (suc n) w = absurd (true≢false (sym (ap is_ok w)))
 
 pub both_pass : (l m : List Judged) → chain (l ++ m) ≡ 0 → (chain l ≡ 0) × (chain m ≡ 0)
 both_pass [] m h = (refl, h)

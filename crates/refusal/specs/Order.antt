@@ -1,5 +1,5 @@
 -- The refusals of the table (R0): their numbers, the order in which they are judged, and the answer, the first that applies.
-use Rattle.std.specs.Prelude.{ℕ, zero, suc, Bool, false, ◌||◌, List, [], ◌∷◌, eqb, if◌then◌else◌}
+use Rattle.std.specs.Prelude.{ℕ, zero, suc, ⊤, Result, Ok, Err, Bool, false, ◌||◌, List, [], ◌∷◌, eqb, if◌then◌else◌}
 use Rattle.refusal.specs.declared.Refusal.{Refusal}
 
 pub data Reason : Type 0 where
@@ -68,18 +68,28 @@ named n k = eqb n (number_of k)
 abbrev pub earlier : ℕ → ℕ → ℕ
 earlier a b = given (named a or named b)
 
--- the number of a part that refuses, else that of the parts judged after it
-abbrev pub or_later : ℕ → ℕ → ℕ
-or_later n later = if eqb n 0 then later else n
-
 -- a refusal without a place
 abbrev pub refused_for : ℕ → Refusal
 refused_for n = record { number = n; place = 0 }
+
+-- the refusal of a part, else what the parts judged after it come to
+abbrev pub or_later : Result ⊤ Refusal → Result ⊤ Refusal → Result ⊤ Refusal
+or_later (Ok x) later = later
+or_later (Err r) later = Err r
+
+-- the number of what is judged: 0 where nothing is refused
+abbrev pub number_given : Result ⊤ Refusal → ℕ
+number_given (Ok x) = 0
+number_given (Err r) = r.number
 
 -- what an entry answers by the number of its refusal: the refusal, and its own answer where the number is 0
 abbrev pub answer_by : {A : Type 0} → (Refusal → A) → A → ℕ → A
 answer_by refused answer zero = answer
 answer_by refused answer (suc n) = refused (refused_for (suc n))
+
+-- what is judged, by the number of the first reason that applies
+abbrev pub judged_by : ℕ → Result ⊤ Refusal
+judged_by n = answer_by Err (Ok tt) n
 
 -- what it then leaves of what was lent: all as it was, and what it writes where the number is 0
 abbrev pub left_by : {A : Type 0} → A → A → ℕ → A

@@ -1,8 +1,8 @@
 // Why a call is refused: a number of the table (R0) and, for a computed number that isn't finite, its place.
 #![tactic(auto)]
 
-ghost use Rattle.std.specs.Prelude.{◌≡◌, if◌then◌else◌};
-ghost use Rattle.refusal.specs.Order.{earlier, or_later, refused_for};
+ghost use Rattle.std.specs.Prelude.{◌≡◌, Ok, Err, if◌then◌else◌};
+ghost use Rattle.refusal.specs.Order.{earlier, judged_by, number_given, or_later, refused_for};
 
 #[derive(Clone, Copy)]
 pub struct Refusal {
@@ -50,22 +50,50 @@ impl Refusal {
         Refusal { number, place: 0 }
     }
 
-    // A number where its reason applies, else what is judged after it.
-    pub fn when(number: u8, applies: bool, later: u8) -> u8
-        ensures { result ≡ (if applies then number else later) }
+    // Refused with a number where its reason applies.
+    pub fn when(number: u8, applies: bool) -> Result<(), Refusal>
+        ensures { result ≡ (if applies then Err (refused_for number) else Ok tt) }
     {
-        if applies { number } else { later }
+        if applies {
+            Err(Refusal::of(number))
+        } else {
+            Ok(())
+        }
     }
 
-    // The number of a part that refuses, else that of the parts judged after it.
-    pub fn or_later(number: u8, later: u8) -> u8
-        ensures { result ≡ or_later number later }
+    // The refusal of a part, else what the parts judged after it come to.
+    pub fn or_later(part: Result<(), Refusal>, later: Result<(), Refusal>) -> Result<(), Refusal>
+        ensures { result ≡ or_later part later }
     {
-        if number == 0 { later } else { number }
+        match part {
+            Ok(()) => later,
+            Err(r) => Err(r),
+        }
+    }
+
+    // The number of what is judged: 0 where nothing is refused.
+    pub fn number_of(judged: Result<(), Refusal>) -> u8
+        ensures { result ≡ number_given judged }
+    {
+        match judged {
+            Ok(()) => 0,
+            Err(r) => r.number,
+        }
+    }
+
+    // What is judged, from its number.
+    fn judged_by(number: u8) -> Result<(), Refusal>
+        ensures { result ≡ judged_by number }
+    {
+        if number == 0 {
+            Ok(())
+        } else {
+            Err(Refusal::of(number))
+        }
     }
 
     // Of two numbers the one that is judged first, where 0 and what is no number of the table count as none.
-    pub fn earlier(a: u8, b: u8) -> u8
+    fn earlier_number(a: u8, b: u8) -> u8
         ensures { result ≡ earlier a b }
     {
         if (a == 0) & (b == 0) {
@@ -95,5 +123,14 @@ impl Refusal {
             }
         }
         0
+    }
+
+    // Of two refusals the one that is judged first, where a number that is none of the table counts as no refusal.
+    pub fn earlier(one: Result<(), Refusal>, other: Result<(), Refusal>) -> Result<(), Refusal>
+        ensures { result ≡ judged_by (earlier (number_given one) (number_given other)) }
+    {
+        let a = Refusal::number_of(one);
+        let b = Refusal::number_of(other);
+        Refusal::judged_by(Refusal::earlier_number(a, b))
     }
 }

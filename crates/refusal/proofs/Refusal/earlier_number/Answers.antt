@@ -1,4 +1,4 @@
--- `Refusal::earlier` meets its contract: the loop goes through the order, and neither number was met so far.
+-- `Refusal::earlier_number` meets its contract: the loop goes through the order, and neither number was met so far.
 use Prim.Native.Nat.{ℕ, zero, suc, ◌<◌}
 use mathlib.Core.Path.{◌≡◌, refl, sym, ap, ◌∙◌}
 use mathlib.Core.Bool.{true, false, ◌&&◌, ◌||◌, false≢true}
@@ -11,7 +11,7 @@ use lib.Dec.{eqb}
 use lib.ListN.{length, get_or, drop}
 use Rattle.refusal.specs.Order.{Reason, number_of, order, first_of, ◌or◌, named, earlier}
 use Rattle.std.specs.Prelude.{if◌then◌else◌}
-use Rattle.refusal.proofs.Refusal.earlier.Goals as goal
+use Rattle.refusal.proofs.Refusal.earlier_number.Goals as goal
 
 abbrev numbers : List Reason → List ℕ
 numbers [] = []
