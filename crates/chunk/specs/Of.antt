@@ -4,7 +4,7 @@ use Rattle.std.specs.Prelude.{ℕ, ◌+◌, ◌*◌, ◌≡◌, Bool, true, fals
 use Rattle.std.proofs.Math.Seq.{paste}
 use Rattle.std.specs.Borrow.{Bor, MutBor}
 use Rattle.checked.specs.Finite.{+0}
-use Rattle.refusal.specs.Order.{refusal, refused_for}
+use Rattle.refusal.specs.Order.{refusal, refused_for, answer_by}
 use Rattle.chunk.specs.declared.ChunkBuf.{ChunkBuf}
 use Rattle.chunk.specs.declared.ChunkView.{ChunkView}
 use Rattle.chunk.specs.declared.Filled.{Filled}
@@ -43,7 +43,7 @@ clear_of b = if eqb (held_refusal_of b) 0 then record { number = 0; buf = cleare
 
 -- whether a chunk is held, where it is not refused
 unfoldable pub holding_of : ChunkBuf → Result Bool Refusal
-holding_of b = if eqb (held_refusal_of b) 0 then Ok b.filled else Err (refused_for (held_refusal_of b))
+holding_of b = answer_by Err (Ok b.filled) (held_refusal_of b)
 
 -- where row i lies among n numbers: from its start, d long, or an empty part
 unfoldable pub part_of : ℕ → ℕ → ℕ → ℕ → Part

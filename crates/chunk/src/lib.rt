@@ -2,7 +2,7 @@
 #![tactic(auto)]
 
 ghost use Rattle.std.specs.Prelude.{◌≡◌, ◌<◌};
-ghost use Rattle.refusal.specs.Order.{refusal};
+ghost use Rattle.refusal.specs.Order.{judged_by, refusal};
 ghost use Rattle.chunk.specs.Rule.{row_start, row_of, row_set, held_rows};
 ghost use Rattle.chunk.specs.Refusals.{chunk_reasons, lent_reasons};
 ghost use Rattle.chunk.specs.Of.{new_chunk, fill_of, copy_of, cleared_of, held_refusal_of, clear_of, holding_of, part_of, IsRow, view_of, held_header, Shows, ShowsHeld};
@@ -48,37 +48,28 @@ struct Part {
     end: usize,
 }
 
-// The number for a chunk's sizes, in the order of `fill`, where its rows are len numbers; 0 where they are accepted.
-pub fn chunk_refusal(header: Header, len: usize) -> u8
-    ensures { result ≡ refusal (chunk_reasons header len) }
+// Why a chunk's sizes are refused, in the order of `fill`, where its rows are len numbers.
+pub fn chunk_refusal(header: Header, len: usize) -> Result<(), Refusal>
+    ensures { result ≡ judged_by (refusal (chunk_reasons header len)) }
 {
     let horizon = header.horizon;
     let dim = header.dim;
-    if (horizon == 0) | (dim == 0) {
-        return Refusal::EMPTY;
-    }
-    if ChunkBuf::MAX_H < horizon {
-        return Refusal::TOO_LONG;
-    }
-    if ChunkBuf::MAX_D < dim {
-        return Refusal::TOO_WIDE;
-    }
-    if horizon < header.exec_steps {
-        return Refusal::EXEC_EXCEEDS_HORIZON;
-    }
-    if len != (horizon as usize) * (dim as usize) {
-        return Refusal::LEN_MISMATCH;
-    }
-    0
+    Refusal::when(Refusal::EMPTY, (horizon == 0) | (dim == 0))?;
+    Refusal::when(Refusal::TOO_LONG, ChunkBuf::MAX_H < horizon)?;
+    Refusal::when(Refusal::TOO_WIDE, ChunkBuf::MAX_D < dim)?;
+    let exceeds = horizon < header.exec_steps;
+    Refusal::when(Refusal::EXEC_EXCEEDS_HORIZON, exceeds)?;
+    let size = (horizon as usize) * (dim as usize);
+    Refusal::when(Refusal::LEN_MISMATCH, len != size)
 }
 
-// The number for a lent chunk: its sizes, then its rows' numbers, which have to be finite.
-pub fn lent_refusal(rows: &[f64], header: Header) -> u8
-    ensures { result ≡ refusal (lent_reasons rows.now header) }
+// Why a lent chunk is refused: its sizes, then its rows' numbers, which have to be finite.
+pub fn lent_refusal(rows: &[f64], header: Header) -> Result<(), Refusal>
+    ensures { result ≡ judged_by (refusal (lent_reasons rows.now header)) }
 {
     let sizes = chunk_refusal(header, rows.len());
     let fit = fmath::all_finite(rows, rows.len());
-    Refusal::or_later(sizes, Refusal::when(Refusal::NOT_FINITE, !fit, 0))
+    Refusal::or_later(sizes, Refusal::when(Refusal::NOT_FINITE, !fit))
 }
 
 impl ChunkBuf {
@@ -107,7 +98,7 @@ impl ChunkBuf {
     pub fn fill(self, header: Header, src: &[f64]) -> Filled
         ensures { result ≡ fill_of self header src.now }
     {
-        let number = lent_refusal(src, header);
+        let number = Refusal::number_of(lent_refusal(src, header));
         if number != 0 {
             return Filled { number, buf: self };
         }
@@ -142,7 +133,7 @@ impl ChunkBuf {
     pub fn clear(self) -> Filled
         ensures { result ≡ clear_of self }
     {
-        let number = self.held_refusal();
+        let number = Refusal::number_of(self.held_refusal());
         if number != 0 {
             return Filled { number, buf: self };
         }
@@ -154,26 +145,23 @@ impl ChunkBuf {
     pub fn is_filled(self) -> Result<bool, Refusal>
         ensures { result ≡ holding_of self }
     {
-        let number = self.held_refusal();
-        if number != 0 {
-            return Err(Refusal::of(number));
-        }
+        self.held_refusal()?;
         Ok(self.filled)
     }
 
-    // The number for the held chunk: 0 where none is held, else as for a lent one.
-    pub fn held_refusal(self) -> u8
-        ensures { result ≡ held_refusal_of self }
+    // Why the held chunk is refused: never where none is held, else as a lent one.
+    pub fn held_refusal(self) -> Result<(), Refusal>
+        ensures { result ≡ judged_by (held_refusal_of self) }
     {
         if !self.filled {
-            return 0;
+            return Ok(());
         }
         let data = self.data;
         let header = self.header;
         let n = (header.horizon as usize) * (header.dim as usize);
         let sizes = chunk_refusal(header, n);
         let fit = fmath::all_finite(&data, n);
-        Refusal::or_later(sizes, Refusal::when(Refusal::NOT_FINITE, !fit, 0))
+        Refusal::or_later(sizes, Refusal::when(Refusal::NOT_FINITE, !fit))
     }
 
     // The view of the held chunk, as `view_held` gives it.

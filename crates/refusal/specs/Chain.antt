@@ -3,7 +3,7 @@
 use Rattle.refusal.specs.declared.Refusal.{Refusal}
 use Rattle.std.specs.Prelude.{zero, suc, ⊤, Result, Ok, Err, is_ok, ℕ, ◌≡◌, refl, Bool, true, false, List, [], ◌∷◌, ◌++◌, if◌then◌else◌}
 use Rattle.std.proofs.Common.{sym, ap, arith, ◌∙◌, true≢false}
-use Rattle.refusal.specs.Order.{Reason, Judged, number_of, ◌when◌, or_later, judged_by, refused_for}
+use Rattle.refusal.specs.Order.{Reason, Judged, number_of, ◌when◌, or_later, judged_by, number_given, refused_for, answer_by}
 use Rattle.refusal.specs.Exactly.{not_zero}
 
 abbrev pub chain : List Judged → ℕ
@@ -31,6 +31,41 @@ joined l m {a} {b} {r} ea eb er = er ∙ ap (λ (x : Result ⊤ Refusal). or_lat
 abbrev refusal_in : Result ⊤ Refusal → Refusal
 refusal_in (Ok x) = refused_for 0
 refusal_in (Err r) = r
+
+-- one reason alone
+pub alone : (r : Reason) (b : Bool) {x : Result ⊤ Refusal} → x ≡ (if b then Err (refused_for (number_of r)) else Ok tt) → x ≡ judged_by (chain ((r when b) ∷ []))
+alone r b {x} e = e ∙ go b
+  where
+    by_some : (n : ℕ) → (n ≡ 0 → ⊥) → Err (refused_for n) ≡ judged_by n
+    by_some zero some = absurd (some refl)
+    by_some (suc n) some = refl
+
+    go : (b : Bool) → (if b then Err (refused_for (number_of r)) else Ok tt) ≡ judged_by (if b then number_of r else 0)
+    go true = by_some (number_of r) (λ z. not_zero r (sym z))
+    go false = refl
+
+-- an answer by what is judged: its refusal, or where that passes the answer itself
+pub refused_as : {A : Type 0} (n : ℕ) {r : Refusal} (answer : Result A Refusal) → Err r ≡ judged_by n → Err r ≡ answer_by Err answer n
+refused_as {A} n {r} answer e = go n e
+  where
+    go : (n : ℕ) → Err r ≡ judged_by n → Err r ≡ answer_by Err answer n
+    go zero w = absurd (true≢false (ap is_ok (sym w)))
+    go (suc n) w = ap (λ (x : Result ⊤ Refusal). Err (refusal_in x)) w
+
+pub passed_as : {A : Type 0} (n : ℕ) {y : ⊤} (answer : Result A Refusal) → Ok y ≡ judged_by n → answer ≡ answer_by Err answer n
+passed_as {A} n {y} answer e = go n e
+  where
+    go : (n : ℕ) → Ok y ≡ judged_by n → answer ≡ answer_by Err answer n
+    go zero w = refl
+    go (suc n) w = absurd (true≢false (ap is_ok w))
+
+-- what is judged by a number gives that number
+pub number_back : (n : ℕ) → number_given (judged_by n) ≡ n
+number_back zero = refl
+number_back (suc n) = refl
+
+pub number_is : {n : ℕ} {x : Result ⊤ Refusal} → x ≡ judged_by n → number_given x ≡ n
+number_is {n} e = ap number_given e ∙ number_back n
 
 -- a refusal of what is judged has its number, which is not 0; what passes has 0
 pub refuses_by : {n : ℕ} {x : Result ⊤ Refusal} {r : Refusal} → x ≡ judged_by n → x ≡ Err r → (n ≡ 0 → ⊥) × (r ≡ refused_for n)

@@ -6,6 +6,7 @@ use lib.Dec.{eqb}
 use Rattle.std.specs.Prelude.{if◌then◌else◌}
 use Rattle.chunk.specs.declared.ChunkBuf.{ChunkBuf}
 use Rattle.chunk.specs.declared.Filled.{Filled}
+use Rattle.refusal.specs.Chain.{number_is}
 use Rattle.chunk.specs.Of.{cleared_of, held_refusal_of, clear_of}
 use Rattle.chunk.proofs.ChunkBuf.clear.Goals as goal
 
@@ -21,7 +22,7 @@ module _ (b : ChunkBuf) (n : ℕ) (is : n ≡ held_refusal_of b) where
   cleared z c e = rw e (sym (by_number ∙ rw (eq-eqb n 0 z)))
 
 pub returns-then-number-ne0 : goal.returns-then-number-ne0
-returns-then-number-ne0 c = refused c.args.self _ c.held_refusal-number.ensures c.if-number-ne0.true
+returns-then-number-ne0 c = refused c.args.self _ (c.number_of-number.ensures ∙ number_is c.held_refusal.ensures) c.if-number-ne0.true
 
 pub returns : goal.returns
-returns c = cleared c.args.self _ c.held_refusal-number.ensures c.if-number-ne0.false _ c.emptied-buf.ensures
+returns c = cleared c.args.self _ (c.number_of-number.ensures ∙ number_is c.held_refusal.ensures) c.if-number-ne0.false _ c.emptied-buf.ensures

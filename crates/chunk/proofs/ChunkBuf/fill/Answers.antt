@@ -15,6 +15,7 @@ use Rattle.checked.proofs.Copy.{all_pasted}
 use Rattle.chunk.specs.declared.ChunkBuf.{ChunkBuf}
 use Rattle.chunk.specs.declared.Filled.{Filled}
 use Rattle.chunk.specs.declared.Header.{Header}
+use Rattle.refusal.specs.Chain.{number_is}
 use Rattle.chunk.specs.Of.{fill_of, held_of}
 use Rattle.chunk.specs.Refusals.{lent_reasons}
 use Rattle.chunk.proofs.Judged.{lent_accepted, accepted_fits}
@@ -35,12 +36,12 @@ module _ (b : ChunkBuf) (k : Header) (n : ℕ) (l : List Float) (is : n ≡ refu
 pub returns-then-number-ne0 : goal.returns-then-number-ne0
 returns-then-number-ne0 c =
     let a = c.args in
-    refused a.self a.header _ a.src.now c.lent_refusal-number.ensures c.if-number-ne0.true
+    refused a.self a.header _ a.src.now (c.number_of-number.ensures ∙ number_is c.lent_refusal.ensures) c.if-number-ne0.true
 
 pub returns : goal.returns
 returns c =
     let a = c.args in
-    let is = c.lent_refusal-number.ensures in
+    let is = (c.number_of-number.ensures ∙ number_is c.lent_refusal.ensures) in
     let zero = c.if-number-ne0.false in
     let long : length a.self.«data» ≡ 512 = search rules in
     let fits = accepted_fits (lent_accepted a.src.now a.header (sym is ∙ zero)).0 in

@@ -9,7 +9,7 @@ use borrow.Author.Tests.{not-true, not-false}
 use Rattle.checked.specs.Finite.{all_finite}
 use Rattle.chunk.specs.Of.{held_refusal_of}
 use Rattle.refusal.specs.Order.{not_finite, ◌when◌}
-use Rattle.refusal.specs.Chain.{joined}
+use Rattle.refusal.specs.Chain.{joined, alone}
 use Rattle.chunk.specs.Refusals.{chunk_reasons}
 use Rattle.chunk.proofs.Rows.{place_small}
 use Rattle.chunk.proofs.ChunkBuf.held_refusal.Goals as goal
@@ -29,4 +29,4 @@ returns c =
     let b = c.args.self in
     let n = b.header.horizon * b.header.dim in
     rw (not-false b.filled c.if-not-self.false)
-    (joined (chunk_reasons b.header n) ((not_finite when not (all_finite b.«data» n)) ∷ []) c.chunk_refusal-sizes.ensures (c.when.ensures ∙ rw c.all_finite-fit.ensures) c.or_later.ensures)
+    (joined (chunk_reasons b.header n) ((not_finite when not (all_finite b.«data» n)) ∷ []) c.chunk_refusal-sizes.ensures (alone not_finite (not (all_finite b.«data» n)) (c.when.ensures ∙ rw c.all_finite-fit.ensures)) c.or_later.ensures)
