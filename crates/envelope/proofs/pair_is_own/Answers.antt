@@ -5,7 +5,8 @@ use native.Mathlib.Omega.{arith}
 use Rattle.std.proofs.lemmas.List.{get_or-take, length-take}
 use Rattle.checked.specs.Each.{all}
 use Rattle.checked.proofs.Each.{all_more}
-use Rattle.envelope.specs.declared.ZoneSlot.{ZoneSlot}
+use Rattle.std.specs.Prelude.{Option}
+use Rattle.envelope.specs.declared.Zone.{Zone}
 use Rattle.envelope.specs.Slots.{zone_at}
 use Rattle.envelope.specs.Refusals.{same_pair, pair_is_own}
 use Rattle.envelope.proofs.pair_is_own.Goals as goal
@@ -18,7 +19,7 @@ pub loop-before-preserved : goal.loop-before-preserved
 loop-before-preserved c =
     let k = c.args.k in
     let z = c.args.zones in
-    all_more _ _ _ _ c.loop-before.invariant (ap not (c.same_pair.ensures ∙ ap (λ (s : ZoneSlot). same_pair s.contact (zone_at z k)) (get_or-take k z.list _ _ (omega (arith, length-take k z.list)))))
+    all_more _ _ _ _ c.loop-before.invariant (ap not (c.same_pair.ensures ∙ ap (λ (s : Option Zone). same_pair s (zone_at z k)) (get_or-take k z.list _ _ (omega (arith, length-take k z.list)))))
 
 pub returns : goal.returns
 unfolding pair_is_own

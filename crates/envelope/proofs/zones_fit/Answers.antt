@@ -4,7 +4,8 @@ use native.Mathlib.Omega.{arith}
 use Rattle.std.proofs.lemmas.List.{get_or-take, length-take}
 use Rattle.checked.specs.Each.{all}
 use Rattle.checked.proofs.Each.{all_more, ◌&&≡◌}
-use Rattle.envelope.specs.declared.ZoneSlot.{ZoneSlot}
+use Rattle.std.specs.Prelude.{Option}
+use Rattle.envelope.specs.declared.Zone.{Zone}
 use Rattle.envelope.specs.Refusals.{channels_ok, zones_fit}
 use Rattle.envelope.proofs.zones_fit.Goals as goal
 
@@ -19,7 +20,7 @@ pub loop-k-preserved : goal.loop-k-preserved
 loop-k-preserved c =
     let n = c.counted-n.result in
     let s = c.args.zones.list in
-    let same = ap (λ (z : ZoneSlot). channels_ok z.contact c.args.aux_count) (get_or-take n s _ _ (omega (arith, length-take n s))) in
+    let same = ap (λ (z : Option Zone). channels_ok z c.args.aux_count) (get_or-take n s _ _ (omega (arith, length-take n s))) in
     all_more _ _ _ _ c.loop-k.invariant ((c.channels_ok-right.ensures ∙ same) &&≡ c.pair_is_own-own.ensures)
 
 pub returns : goal.returns

@@ -4,7 +4,6 @@ use native.Mathlib.Omega.{arith}
 use Rattle.std.proofs.lemmas.List.{get_or-take, length-take}
 use Rattle.checked.specs.Each.{all}
 use Rattle.checked.proofs.Each.{all_more}
-use Rattle.envelope.specs.declared.ZoneSlot.{ZoneSlot}
 use Rattle.envelope.specs.Refusals.{zone_ok, zones_ok}
 use Rattle.envelope.proofs.zones_ok.Goals as goal
 
@@ -16,7 +15,7 @@ pub loop-slot-preserved : goal.loop-slot-preserved
 loop-slot-preserved c =
     let n = c.counted-n.result in
     let s = c.args.zones.list in
-    all_more _ _ _ _ c.loop-slot.invariant (c.zone_ok-ok.ensures ∙ ap (λ (z : ZoneSlot). zone_ok z.contact) (get_or-take n s _ _ (omega (arith, length-take n s))))
+    all_more _ _ _ _ c.loop-slot.invariant (c.zone_ok-ok.ensures ∙ ap zone_ok (get_or-take n s _ _ (omega (arith, length-take n s))))
 
 pub returns : goal.returns
 unfolding zones_ok
