@@ -2,7 +2,6 @@
 use mathlib.Core.Path.{◌≡◌, refl, sym, ap, ◌∙◌}
 use mathlib.Core.Bool.{Bool, true, false, ◌&&◌, ◌||◌, and-true, and-false}
 use mathlib.Core.List.{List, [], ◌∷◌}
-use mathlib.Core.Logic.{◌⊎◌, inl, inr}
 use Prim.Native.Nat.{ℕ, zero, suc, ◌+◌, ◌-◌, ◌≤◌, ◌<◌, min}
 use native.Mathlib.Nat.{lt_of_not-le, le_refl}
 use native.Mathlib.Decide.{dec_le}
@@ -10,15 +9,14 @@ use native.Mathlib.Omega.{arith}
 use borrow.Author.Count.{below_more}
 use lib.ListN.{length, set, length-set, get_or-eq_default}
 use lib.Seq.{get_or-set_same, get_or-set_other}
-use lib.Ieee.{Float, Format, nan, inf, lt, add, sub}
+use lib.Ieee.{Float, Format, nan, lt, add, sub}
 use Rattle.checked.specs.Each.{at, some, all, over}
 use Rattle.checked.specs.Finite.{finite}
 use Rattle.checked.specs.Least.{lesser, least}
 use Rattle.checked.specs.Checked.{Checked, least_of}
-use Rattle.checked.specs.declared.Reckoned.{Reckoned}
 use Rattle.checked.specs.declared.Row.{Row}
 use Rattle.checked.specs.declared.Test.{Test}
-use Rattle.checked.specs.Of.{reckoned_from, row_from, test_from}
+use Rattle.checked.specs.Of.{row_from, test_from}
 use Rattle.checked.proofs.Each.{◌&&≡◌, some_cut, some_none, over_itself, over_cut, all_fails, all_more, all_from, and_left, and_right}
 use Rattle.checked.proofs.Extremes.{least_missing, least_more}
 use Rattle.checked.proofs.Absorbing.{sub_nan, nan_sub, fine_sub_left, fine_sub_right, fine_add_left, fine_add_right}
@@ -29,7 +27,7 @@ use Rattle.pull.specs.Rule.{pulled}
 use Rattle.workspace.specs.declared.Shape.{Shape}
 use Rattle.workspace.specs.declared.Shape.TheVariants.{Box, Disc}
 use Rattle.workspace.specs.Shape.{first_boxed, boxed}
-use Rattle.workspace.specs.Rule.{Walls, from_centre, past_edge, beyond, outside, onto_disc, inside_at, inward, between, between_r, gap, gap_r, to_edge, to_edge_r, edge_first, slack_in, slack_in_r, slack, slack_r}
+use Rattle.workspace.specs.Rule.{Walls, from_centre, past_edge, beyond, outside, onto_disc, inside_at, inward, between, between_r, gap, gap_r, to_edge, to_edge_r, edge_first, slack_in}
 use Rattle.workspace.proofs.Shapes.{boxed_before}
 
 -- ---- by the shape
@@ -73,15 +71,6 @@ module _ (f : Format) (w : Walls) (a : List Float) (n : ℕ) where
   pub inward_disc : {x y radius : Float} {o : Row} {r : List Float} → w.shape ≡ Disc x y radius → o ≡ row_from (pulled f radius (x ∷ y ∷ []) 2 a) → r ≡ over (inside_at w o.at) o.at n
       → ◌≡◌ {A = Row} (record { at = r; sound = o.sound }) (row_from (inward f w a n))
   inward_disc h k e = inward_is (onto_the_disc f a h k) e
-
-module _ (f : Format) (w : Walls) (p : List Float) where
-  pub edge_none : w.shape ≡ Box → ◌≡◌ {A = Reckoned} (record { value = inf false; sound = true }) (reckoned_from (slack f w p 0))
-  unfolding slack_in least_of least all
-  edge_none h = rw h
-
-  pub edge_none_r : (r : Float) → w.shape ≡ Box → ◌≡◌ {A = Reckoned} (record { value = inf false; sound = true }) (reckoned_from (slack_r f w r p 0))
-  unfolding slack_in_r least_of least all
-  edge_none_r r h = rw h
 
 -- ---- past the end
 
@@ -143,109 +132,40 @@ within_missing f r lo hi = (rw (nan_sub f r, nan_sub f lo, sub_nan f hi, nan_sub
 abbrev pub NoSlack : Checked Float → Type 0
 NoSlack x = (x.value ≡ nan) × (x.sound ≡ false)
 
-least_missing_of : (g : ℕ → Checked Float) (m n : ℕ) → m < n → ((j : ℕ) → m ≤ j → NoSlack (g j)) → NoSlack (least_of g n)
+pub least_missing_of : (g : ℕ → Checked Float) (m n : ℕ) → m < n → ((j : ℕ) → m ≤ j → NoSlack (g j)) → NoSlack (least_of g n)
 unfolding least_of
 least_missing_of g m n h w = (least_missing (λ (j : ℕ). (g j).value) m n h (λ j k. (w j k).0), all_fails (λ (j : ℕ). (g j).sound) n m h (w m (le_refl m)).1)
 
-gap_missing : (f : Format) (w : Walls) (p : List Float) (j : ℕ) → length p ≤ j → NoSlack (gap f w p j)
+pub gap_missing : (f : Format) (w : Walls) (p : List Float) (j : ℕ) → length p ≤ j → NoSlack (gap f w p j)
 gap_missing f w p j k = rw (past p j k) (between_missing f (at w.lo j) (at w.hi j))
 
-gap_missing_r : (f : Format) (w : Walls) (r : Float) (p : List Float) (j : ℕ) → length p ≤ j → NoSlack (gap_r f w r p j)
+pub gap_missing_r : (f : Format) (w : Walls) (r : Float) (p : List Float) (j : ℕ) → length p ≤ j → NoSlack (gap_r f w r p j)
 gap_missing_r f w r p j k = rw (past p j k) (within_missing f r (at w.lo j) (at w.hi j))
 
 -- one of the further axes is missing where two more than these are
-further_missing : (edge : Checked Float) (g : ℕ → Checked Float) (m n : ℕ) → 2 ≤ m → m < n → ((j : ℕ) → m ≤ j → NoSlack (g j)) → NoSlack (least_of (edge_first edge g) (suc (n - 2)))
+pub further_missing : (edge : Checked Float) (g : ℕ → Checked Float) (m n : ℕ) → 2 ≤ m → m < n → ((j : ℕ) → m ≤ j → NoSlack (g j)) → NoSlack (least_of (edge_first edge g) (suc (n - 2)))
 further_missing edge g m n l h w = least_missing_of (edge_first edge g) (m - 1) (suc (n - 2)) (omega arith) at_k
   where
     at_k : (k : ℕ) → m - 1 ≤ k → NoSlack (edge_first edge g k)
     at_k zero b = absurd (omega arith)
     at_k (suc k) b = w (suc (suc k)) (omega arith)
 
-pub slack_missing : (f : Format) (s : Shape) (w : Walls) (p : List Float) (n : ℕ) → 2 ≤ length p → length p < n → NoSlack (slack_in f s w p n)
-unfolding slack_in
-slack_missing f Box w p n l h = least_missing_of (gap f w p) (length p) n h (gap_missing f w p)
-slack_missing f (Disc x y radius) w p n l h = further_missing (to_edge f x y radius p) (gap f w p) (length p) n l h (gap_missing f w p)
-
-pub within_slack_missing : (f : Format) (s : Shape) (w : Walls) (r : Float) (p : List Float) (n : ℕ) → 2 ≤ length p → length p < n → NoSlack (slack_in_r f s w r p n)
-unfolding slack_in_r
-within_slack_missing f Box w r p n l h = least_missing_of (gap_r f w r p) (length p) n h (gap_missing_r f w r p)
-within_slack_missing f (Disc x y radius) w r p n l h = further_missing (to_edge_r f x y radius r p) (gap_r f w r p) (length p) n l h (gap_missing_r f w r p)
-
 -- ---- the disc's own slack: one test of it tells of the distance
 
 module _ (f : Format) (x y radius : Float) (p : List Float) {n : Float} (e : n ≡ (from_centre f x y p).value) where
-  edge_told : finite (sub f radius n) ≡ (to_edge f x y radius p).sound
+  pub edge_told : finite (sub f radius n) ≡ (to_edge f x y radius p).sound
   unfolding to_edge
   edge_told = rw (sym (dist_sound f p _ 2 e refl), e) (sym (implied (finite (from_centre f x y p).value) (finite (sub f radius (from_centre f x y p).value)) (fine_sub_right f radius (from_centre f x y p).value)))
 
-  pub edge_slack_is : {k : Bool} {l : Float} (w : Walls) → w.shape ≡ Disc x y radius → k ≡ finite (sub f radius n) → l ≡ lesser (inf false) (sub f radius n) → ◌≡◌ {A = Reckoned} (record { value = l; sound = k }) (reckoned_from (slack f w p 0))
-  unfolding slack_in least_of least all to_edge
-  edge_slack_is w h ek el = rw (h, ek ∙ edge_told, el, e)
-
-  edge_told_r : (r : Float) → finite (sub f (sub f radius n) r) ≡ (to_edge_r f x y radius r p).sound
+  pub edge_told_r : (r : Float) → finite (sub f (sub f radius n) r) ≡ (to_edge_r f x y radius r p).sound
   unfolding to_edge to_edge_r
   edge_told_r r = rw (sym edge_told, e) (sym (implied (finite (sub f radius (from_centre f x y p).value)) _ (fine_sub_left f (sub f radius (from_centre f x y p).value) r)))
-
-  pub edge_slack_r_is : (r : Float) {k : Bool} {l : Float} (w : Walls) → w.shape ≡ Disc x y radius → k ≡ finite (sub f (sub f radius n) r) → l ≡ lesser (inf false) (sub f (sub f radius n) r) → ◌≡◌ {A = Reckoned} (record { value = l; sound = k }) (reckoned_from (slack_r f w r p 0))
-  unfolding slack_in_r least_of least all to_edge to_edge_r
-  edge_slack_r_is r w h ek el = rw (h, ek ∙ edge_told_r r, el, e)
 
 -- ---- one turn of a loop over the axes
 
 pub least_of_more : (g : ℕ → Checked Float) (i : ℕ) (m x : Float) (s t : Bool) → (m ≡ (least_of g i).value) × (s ≡ (least_of g i).sound) → x ≡ (g i).value → t ≡ (g i).sound → (lesser m x ≡ (least_of g (i + 1)).value) × (s && t ≡ (least_of g (i + 1)).sound)
 unfolding least_of
 least_of_more g i m x s t h e k = (least_more (λ (j : ℕ). (g j).value) i m x h.0 e, all_more (λ (j : ℕ). (g j).sound) i s t h.1 k)
-
--- the same of the slack, from the first axis that has a box on
-module _ (f : Format) (w : Walls) (p : List Float) where
-  further_more : (edge : Checked Float) (g : ℕ → Checked Float) (j : ℕ) → 2 ≤ j → {m x : Float} {ok t : Bool} → (m ≡ (least_of (edge_first edge g) (suc (j - 2))).value) × (ok ≡ (least_of (edge_first edge g) (suc (j - 2))).sound) → x ≡ (g j).value → t ≡ (g j).sound
-      → (lesser m x ≡ (least_of (edge_first edge g) (suc (j + 1 - 2))).value) × (ok && t ≡ (least_of (edge_first edge g) (suc (j + 1 - 2))).sound)
-  further_more edge g j b {m} {x} {ok} {t} h e k =
-      let here : suc (suc (j - 2)) ≡ j = omega arith in
-      let next : suc (j - 2) + 1 ≡ suc (j + 1 - 2) = omega arith in
-      let r = least_of_more (edge_first edge g) (suc (j - 2)) m x ok t h (e ∙ ap (λ (i : ℕ). (g i).value) (sym here)) (k ∙ ap (λ (i : ℕ). (g i).sound) (sym here)) in
-      rw next at r
-
-  pub slack_more : (s : Shape) (j : ℕ) → first_boxed s ≤ j → {m x : Float} {ok t : Bool} → (m ≡ (slack_in f s w p j).value) × (ok ≡ (slack_in f s w p j).sound) → x ≡ (gap f w p j).value → t ≡ (gap f w p j).sound
-      → (lesser m x ≡ (slack_in f s w p (j + 1)).value) × (ok && t ≡ (slack_in f s w p (j + 1)).sound)
-  unfolding slack_in
-  slack_more Box j b h e k = least_of_more (gap f w p) j _ _ _ _ h e k
-  slack_more (Disc x y radius) j b h e k = further_more (to_edge f x y radius p) (gap f w p) j b h e k
-
-  pub within_slack_more : (r : Float) (s : Shape) (j : ℕ) → first_boxed s ≤ j → {m x : Float} {ok t : Bool} → (m ≡ (slack_in_r f s w r p j).value) × (ok ≡ (slack_in_r f s w r p j).sound) → x ≡ (gap_r f w r p j).value → t ≡ (gap_r f w r p j).sound
-      → (lesser m x ≡ (slack_in_r f s w r p (j + 1)).value) × (ok && t ≡ (slack_in_r f s w r p (j + 1)).sound)
-  unfolding slack_in_r
-  within_slack_more r Box j b h e k = least_of_more (gap_r f w r p) j _ _ _ _ h e k
-  within_slack_more r (Disc x y radius) j b h e k = further_more (to_edge_r f x y radius r p) (gap_r f w r p) j b h e k
-
-  -- a loop that starts at that axis has the disc's before it, and ends with the slack of all n
-  pub slack_start : (s : Shape) → slack_in f s w p 0 ≡ slack_in f s w p (first_boxed s)
-  unfolding slack_in
-  slack_start Box = refl
-  slack_start (Disc x y radius) = refl
-
-  pub within_slack_start : (r : Float) (s : Shape) → slack_in_r f s w r p 0 ≡ slack_in_r f s w r p (first_boxed s)
-  unfolding slack_in_r
-  within_slack_start r Box = refl
-  within_slack_start r (Disc x y radius) = refl
-
-  ends : (j n : ℕ) → n ≤ j → (j ≤ n) ⊎ (j ≡ 2) → suc (j - 2) ≡ suc (n - 2)
-  ends j n h (inl k) = omega arith
-  ends j n h (inr k) = omega arith
-
-  ends_box : (j n : ℕ) → n ≤ j → (j ≤ n) ⊎ (j ≡ 0) → j ≡ n
-  ends_box j n h (inl k) = omega arith
-  ends_box j n h (inr k) = omega arith
-
-  pub slack_end : (s : Shape) (j n : ℕ) → n ≤ j → (j ≤ n) ⊎ (j ≡ first_boxed s) → slack_in f s w p j ≡ slack_in f s w p n
-  unfolding slack_in
-  slack_end Box j n h k = ap (least_of (gap f w p)) (ends_box j n h k)
-  slack_end (Disc x y radius) j n h k = ap (least_of (edge_first (to_edge f x y radius p) (gap f w p))) (ends j n h k)
-
-  pub within_slack_end : (r : Float) (s : Shape) (j n : ℕ) → n ≤ j → (j ≤ n) ⊎ (j ≡ first_boxed s) → slack_in_r f s w r p j ≡ slack_in_r f s w r p n
-  unfolding slack_in_r
-  within_slack_end r Box j n h k = ap (least_of (gap_r f w r p)) (ends_box j n h k)
-  within_slack_end r (Disc x y radius) j n h k = ap (least_of (edge_first (to_edge_r f x y radius r p) (gap_r f w r p))) (ends j n h k)
 
 -- ---- all eight axes abreast, two a turn
 

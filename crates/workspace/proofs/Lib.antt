@@ -1,5 +1,6 @@
 pub mod Shapes
 pub mod Gaps
+pub mod Over
 pub mod Inside
 pub mod Masks
 pub mod Slacks

@@ -12,6 +12,7 @@ ghost use Rattle.checked.specs.Of.{reckoned_from, row_from, test_from};
 ghost use Rattle.workspace.specs.Shape.{first_boxed, shape_ok, spans};
 ghost use Rattle.workspace.specs.Rule.{beyond, outside, inside_at, inward, wall_masks, unmoved, setpoint, setpoint_masks, between, between_r, gap, slack, slack_r};
 ghost use Rattle.workspace.specs.Of.{walls_in, walls_of};
+ghost use Rattle.workspace.specs.Over.{FromEdge, LeastOver, nearer, no_slack};
 
 use checked::{Reckoned, Row, Test};
 
@@ -214,11 +215,10 @@ pub fn setpoint_masks(w: Workspace, pos: &[f64], n: usize) -> WallMasks
 
 // ---- the slack
 
-fn gap(lo: f64, hi: f64, p: f64) -> Reckoned
-    ensures { result ≡ reckoned_from (between binary64 lo hi p) }
+// The lesser of the distances to the walls of one axis, and whether both are finite.
+fn nearer(low: f64, high: f64) -> Reckoned
+    ensures { result ≡ nearer low high }
 {
-    let low = p - lo;
-    let high = hi - p;
     let fine = fmath::finite(low) & fmath::finite(high);
     Reckoned {
         value: fmath::min(low, high),
@@ -226,9 +226,16 @@ fn gap(lo: f64, hi: f64, p: f64) -> Reckoned
     }
 }
 
-// The slack over no axis: that of a disc, else infinity.
-fn edge_slack(w: Workspace, p: [f64; 8]) -> Reckoned
-    ensures { result ≡ reckoned_from (slack binary64 (walls_of w) p 0) }
+fn gap(lo: f64, hi: f64, p: f64) -> Reckoned
+    ensures { result ≡ reckoned_from (between binary64 lo hi p) }
+{
+    nearer(p - lo, hi - p)
+}
+
+// The slack over no axis: at a disc what `left` makes of the distance to its edge, else infinity.
+fn edge_slack<F: Fn(f64) -> f64>(w: Workspace, p: [f64; 8], left: F) -> Reckoned
+    requires { F.IsAlwaysCallable left }
+    ensures { FromEdge (F.post left) w.shape p result }
 {
     let inf = 1.0 / 0.0;
     let shape = w.shape;
@@ -239,19 +246,21 @@ fn edge_slack(w: Workspace, p: [f64; 8]) -> Reckoned
         },
         Shape::Disc { x, y, radius } => {
             let centre = [x, y];
-            let left = radius - fmath::distance(&p, &centre, 2);
-            let sound = fmath::finite(left);
+            let rest = left(radius - fmath::distance(&p, &centre, 2));
+            let sound = fmath::finite(rest);
             Reckoned {
-                value: fmath::min(inf, left),
+                value: fmath::min(inf, rest),
                 sound,
             }
         }
     }
 }
 
-// The slack of a point over its first n coordinates.
-pub fn slack(w: Workspace, p: [f64; 8], n: usize) -> Reckoned
-    ensures { result ≡ reckoned_from (slack binary64 (walls_of w) p n) }
+// The least of the edge's slack and of what `gap` gives for each of the first n axes that has a box. Past eight axes there is none.
+fn slack_over<F: Fn(usize) -> Reckoned>(shape: Shape, edge: Reckoned, n: usize, gap: F) -> Reckoned
+    requires { (j : ℕ) → j < 8 → F.pre gap j }
+    ensures few { 8 < n → result ≡ no_slack }
+    ensures all { n ≤ 8 → LeastOver shape edge (F.post gap) n result }
 {
     if 8 < n {
         return Reckoned {
@@ -259,12 +268,10 @@ pub fn slack(w: Workspace, p: [f64; 8], n: usize) -> Reckoned
             sound: false,
         };
     }
-    let shape = w.shape;
-    let edge = edge_slack(w, p);
     let mut least = edge.value;
     let mut sound = edge.sound;
     for j in first_boxed(shape)..n {
-        let g = gap(w.lo[j], w.hi[j], p[j]);
+        let g = gap(j);
         least = fmath::min(least, g.value);
         sound = sound & g.sound;
     }
@@ -272,6 +279,14 @@ pub fn slack(w: Workspace, p: [f64; 8], n: usize) -> Reckoned
         value: least,
         sound,
     }
+}
+
+// The slack of a point over its first n coordinates.
+pub fn slack(w: Workspace, p: [f64; 8], n: usize) -> Reckoned
+    ensures { result ≡ reckoned_from (slack binary64 (walls_of w) p n) }
+{
+    let edge = edge_slack(w, p, |left| left);
+    slack_over(w.shape, edge, n, |j| gap(w.lo[j], w.hi[j], p[j]))
 }
 
 // The lesser distance to the walls of one axis, and the sum of both.
@@ -357,59 +372,13 @@ pub fn slack_abreast(w: Workspace, p: [f64; 8], n: usize) -> Reckoned
 fn gap_r(r: f64, lo: f64, hi: f64, p: f64) -> Reckoned
     ensures { result ≡ reckoned_from (between_r binary64 r lo hi p) }
 {
-    let low = p - r - lo;
-    let high = hi - p - r;
-    let fine = fmath::finite(low) & fmath::finite(high);
-    Reckoned {
-        value: fmath::min(low, high),
-        sound: fine,
-    }
-}
-
-// The slack over no axis with a stopping radius taken off.
-fn edge_slack_r(w: Workspace, r: f64, p: [f64; 8]) -> Reckoned
-    ensures { result ≡ reckoned_from (slack_r binary64 (walls_of w) r p 0) }
-{
-    let inf = 1.0 / 0.0;
-    let shape = w.shape;
-    match shape {
-        Shape::Box => Reckoned {
-            value: inf,
-            sound: true,
-        },
-        Shape::Disc { x, y, radius } => {
-            let centre = [x, y];
-            let left = radius - fmath::distance(&p, &centre, 2) - r;
-            let sound = fmath::finite(left);
-            Reckoned {
-                value: fmath::min(inf, left),
-                sound,
-            }
-        }
-    }
+    nearer(p - r - lo, hi - p - r)
 }
 
 // The slack with a stopping radius taken off.
 pub fn slack_r(w: Workspace, r: f64, p: [f64; 8], n: usize) -> Reckoned
     ensures { result ≡ reckoned_from (slack_r binary64 (walls_of w) r p n) }
 {
-    if 8 < n {
-        return Reckoned {
-            value: 0.0 / 0.0,
-            sound: false,
-        };
-    }
-    let shape = w.shape;
-    let edge = edge_slack_r(w, r, p);
-    let mut least = edge.value;
-    let mut sound = edge.sound;
-    for j in first_boxed(shape)..n {
-        let g = gap_r(r, w.lo[j], w.hi[j], p[j]);
-        least = fmath::min(least, g.value);
-        sound = sound & g.sound;
-    }
-    Reckoned {
-        value: least,
-        sound,
-    }
+    let edge = edge_slack(w, p, |left| left - r);
+    slack_over(w.shape, edge, n, |j| gap_r(r, w.lo[j], w.hi[j], p[j]))
 }

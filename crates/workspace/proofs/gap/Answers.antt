@@ -6,6 +6,4 @@ use Rattle.workspace.proofs.gap.Goals as goal
 
 pub returns : goal.returns
 unfolding between
-returns c =
-    let s = c in
-    rw (c.min.ensures, c.finite-2.ensures, c.finite.ensures, between_tells binary64 s.args.lo s.args.hi s.args.p)
+returns c = let s = c.args in rw (c.nearer.ensures, between_tells binary64 s.lo s.hi s.p)

@@ -6,6 +6,4 @@ use Rattle.workspace.proofs.gap_r.Goals as goal
 
 pub returns : goal.returns
 unfolding between_r
-returns c =
-    let s = c in
-    rw (c.min.ensures, c.finite-2.ensures, c.finite.ensures, within_tells binary64 s.args.r s.args.lo s.args.hi s.args.p)
+returns c = let s = c.args in rw (c.nearer.ensures, within_tells binary64 s.r s.lo s.hi s.p)

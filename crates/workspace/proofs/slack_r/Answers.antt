@@ -1,49 +1,21 @@
--- `workspace::slack_r` meets its contract: a point with fewer coordinates has no slack, and the loop keeps the least so far, the disc's first.
+-- `workspace::slack_r` meets its contract: what its closures give is the edge and the gaps of the rule.
 use mathlib.Core.Path.{◌≡◌, ap, ◌∙◌}
-use mathlib.Core.Logic.{inl, inr}
-use native.Mathlib.Nat.{le_refl}
 use native.Mathlib.Omega.{arith}
 use borrow.Author.Rules.{rules}
+use lib.Ieee.{binary64}
 use lib.ListN.{length}
-use lib.Ieee.{Float, binary64, of_bits, div}
-use Rattle.checked.specs.Checked.{Checked}
-use Rattle.checked.specs.declared.Reckoned.{Reckoned}
-use Rattle.workspace.specs.Shape.{first_boxed}
+use Rattle.checked.specs.Of.{reckoned_from}
+use Rattle.workspace.specs.Rule.{gap_r}
 use Rattle.workspace.specs.Of.{walls_of}
-use Rattle.workspace.proofs.Gaps.{within_slack_missing, within_slack_more, within_slack_start, within_slack_end}
+use Rattle.workspace.proofs.Gaps.{gap_missing_r}
+use Rattle.workspace.proofs.Over.{least_is, edge_of_r, slack_r_is, edge_r_is}
 use Rattle.workspace.proofs.slack_r.Goals as goal
-
-pub returns-then-n-gt8 : goal.returns-then-n-gt8
-unfolding of_bits div
-returns-then-n-gt8 c =
-    let s = c.args in
-    let long : length s.p ≡ 8 = search rules in
-    let m = within_slack_missing binary64 s.w.shape (walls_of s.w) s.r s.p s.n (omega arith) (omega arith) in
-    rw (m.0, m.1)
-
-pub loop-j-init : goal.loop-j-init
-loop-j-init c =
-    let s = c.args in
-    let e = c.edge_slack_r-edge.ensures in
-    let at_first = within_slack_start binary64 (walls_of s.w) s.p s.r s.w.shape in
-    let first = c.first_boxed-j.ensures in
-    record {
-      along = inr first;
-      from = rw first (le_refl (first_boxed s.w.shape));
-      so_far = rw first (ap (λ (d : Reckoned). d.value) e ∙ ap (λ (d : Checked Float). d.value) at_first, ap (λ (d : Reckoned). d.sound) e ∙ ap (λ (d : Checked Float). d.sound) at_first);
-    }
-
-pub loop-j-preserved : goal.loop-j-preserved
-loop-j-preserved c =
-    let l = c.loop-j in
-    let s = c.args in
-    let g = c.gap_r-g in
-    let m = within_slack_more binary64 (walls_of s.w) s.p s.r s.w.shape l.j l.invariant.from l.invariant.so_far (ap (λ (d : Reckoned). d.value) g.ensures) (ap (λ (d : Reckoned). d.sound) g.ensures) in
-    record { along = inl (omega arith); from = omega arith; so_far = (c.min-least.ensures ∙ m.0, m.1) }
 
 pub returns : goal.returns
 returns c =
-    let l = c.loop-j in
     let s = c.args in
-    let e = within_slack_end binary64 (walls_of s.w) s.p s.r s.w.shape l.j s.n (omega arith) l.invariant.along in
-    λ i. record { value = (l.invariant.so_far.0 ∙ ap (λ (d : Checked Float). d.value) e) i; sound = (l.invariant.so_far.1 ∙ ap (λ (d : Checked Float). d.sound) e) i }
+    let w = walls_of s.w in
+    let long : length s.p ≡ 8 = search rules in
+    let first = edge_r_is _ s.p (gap_r binary64 w s.r s.p) s.r (λ d e k. search rules) s.w.shape c.edge_slack-edge.result c.edge_slack-edge.ensures in
+    least_is s.w.shape c.edge_slack-edge.result _ s.n c.slack_over.result c.slack_over.ensures.few c.slack_over.ensures.all (edge_of_r binary64 s.w.shape s.r s.p) (gap_r binary64 w s.r s.p) first (λ j d b k. search rules) (λ j h. gap_missing_r binary64 w s.r s.p j (omega arith))
+    ∙ ap reckoned_from (slack_r_is binary64 w s.p s.n s.r s.w.shape)
