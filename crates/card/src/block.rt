@@ -15,13 +15,6 @@ pub struct Answered {
     pub next: u64,
 }
 
-// Room for as many slack entries as a forecast can have.
-fn entries() -> [f64; 4096]
-    ensures { 4096 ≡ length result }
-{
-    [0.0; 4096]
-}
-
 // Puts the line of record n, which starts at from, and answers the place after it.
 fn put_card(
     out: &mut [u8],
@@ -47,20 +40,18 @@ fn put_cards(out: &mut [u8], input: &[u8], first: u64, slack: &mut [f64]) -> usi
 {
     let whole = input.len() / 96;
     let mut at: usize = 0;
-    let mut k: usize = 0;
-    while k < whole {
+    for k in 0..whole {
         at = put_card(out, at, input, k * 96, first + k as u64, slack);
-        k += 1;
     }
     at
 }
 
-// Puts the lines of a block for which there is room.
+// Puts the lines of a block for which there is room. There is room for as many slack entries as a forecast can have.
 fn put_text(out: &mut [u8], input: &[u8], first: u64) -> usize
     requires { (97 * (length input.now / 96) + 97 ≤ length out.old) × (first + length input.now / 96 < 2 ^ 64) }
     ensures { Put out.old out.new 0 result (text first input.now) }
 {
-    let mut space = entries();
+    let mut space = [0.0; 4096];
     let slack: &mut [f64] = &mut space;
     let at = put_cards(out, input, first, slack);
     if input.len() % 96 == 0 {

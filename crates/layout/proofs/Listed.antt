@@ -1,16 +1,25 @@
--- The numbers from a place, listed, are the part there: the first stands at the place itself.
-use mathlib.Core.Path.{◌≡◌}
-use mathlib.Core.List.{List, [], ◌∷◌}
-use Prim.Native.Nat.{ℕ, ◌+◌}
-use native.Mathlib.Nat.{add-zero}
-use lib.Ieee.{Float}
-use Rattle.checked.specs.Each.{at, table}
+-- As many numbers as there are from a place on, copied as a slice, are the part there.
+use mathlib.Core.Path.{◌≡◌, sym, ◌∙◌}
+use mathlib.Core.List.{List}
+use Prim.Native.Nat.{ℕ, ◌+◌, ◌-◌, ◌≤◌, ◌<◌}
+use native.Mathlib.Omega.{arith}
+use lib.ListN.{length, take, drop}
+use lib.Ieee.{Float, nan}
+use Rattle.std.proofs.lemmas.List.{same_lists, length-take, length-drop, get_or-take, get_or-drop, get_or_default}
+use Rattle.checked.specs.Each.{at}
+use Rattle.checked.proofs.Each.{table_long, table_at}
 use Rattle.layout.specs.Places.{part}
 
-pub eight_listed : (l : List Float) (s : ℕ) → (at l s ∷ at l (s + 1) ∷ at l (s + 2) ∷ at l (s + 3) ∷ at l (s + 4) ∷ at l (s + 5) ∷ at l (s + 6) ∷ at l (s + 7) ∷ []) ≡ part l s 8
-unfolding table
-eight_listed l s = rw add-zero
-
-pub twelve_listed : (l : List Float) (s : ℕ) → (at l s ∷ at l (s + 1) ∷ at l (s + 2) ∷ at l (s + 3) ∷ at l (s + 4) ∷ at l (s + 5) ∷ at l (s + 6) ∷ at l (s + 7) ∷ at l (s + 8) ∷ at l (s + 9) ∷ at l (s + 10) ∷ at l (s + 11) ∷ []) ≡ part l s 12
-unfolding table
-twelve_listed l s = rw add-zero
+pub part_listed : (l : List Float) (s n : ℕ) → s + n ≤ length l → take (s + n - s) (drop s l) ≡ part l s n
+part_listed l s n h =
+    let g : ℕ → Float = λ (i : ℕ). at l (s + i) in
+    let cut : List Float = take (s + n - s) (drop s l) in
+    let long : length cut ≡ n = omega (arith, length-take (s + n - s) (drop s l), length-drop s l) in
+    same_lists cut (part l s n) (long ∙ sym (table_long g n))
+    (λ k d b.
+    let c : k < n = omega (arith, long, b) in
+    get_or-take (s + n - s) (drop s l) k d (omega arith)
+    ∙ get_or-drop s l k d
+    ∙ get_or_default l (s + k) d nan (omega arith)
+    ∙ sym (table_at g n k c)
+    ∙ get_or_default (part l s n) k nan d (omega (arith, table_long g n, c)))

@@ -1,9 +1,8 @@
 // The configuration: 53 numbers and 35 counts and codes. The calibration's two tables of 192 are lent as they are.
-ghost use Rattle.std.specs.Prelude.{◌≡◌, ◌+◌, ◌≤◌};
-ghost use Rattle.layout.specs.Places.{part};
+ghost use Rattle.std.specs.Prelude.{◌≡◌};
 ghost use Rattle.layout.specs.Config.{kind_of, clamp_of, absent_camera_of, shape_of, gripper_of, brake_kind_of, channel_of, limits_of, brake_of, zone_of, zones_of, norm_of, walls_of, gate_of, calibration_of, config_of, zone_held, zones_held, codes_fit, choices_fit, fields_fit, counts_fit, derived_flat};
 
-use crate::places::{to_u8, to_u16, to_u32};
+use crate::places::{part, to_u8, to_u16, to_u32};
 use conformal::{Calibration, GateSpec};
 use envelope::{
     AbsentCamera, ActionKind, Box, BrakeKind, BrakeModel, ClampMode, ControlSteps, Derived,
@@ -140,35 +139,19 @@ fn zones_of(n: &[f64; 53], c: &[u64; 35]) -> Zones
     Zones { count, list }
 }
 
-fn eight(n: &[f64; 53], start: usize) -> [f64; 8]
-    requires { start + 8 ≤ 53 }
-    ensures { result ≡ part n.now start 8 }
-{
-    [
-        n[start],
-        n[start + 1],
-        n[start + 2],
-        n[start + 3],
-        n[start + 4],
-        n[start + 5],
-        n[start + 6],
-        n[start + 7],
-    ]
-}
-
 fn norm_of(n: &[f64; 53]) -> Norm
     ensures { result ≡ norm_of n.now }
 {
-    let center = eight(n, 11);
-    let scale = eight(n, 19);
+    let center = part(n, 11);
+    let scale = part(n, 19);
     Norm { center, scale }
 }
 
 fn walls_of(n: &[f64; 53]) -> Box
     ensures { result ≡ walls_of n.now }
 {
-    let lo = eight(n, 27);
-    let hi = eight(n, 35);
+    let lo = part(n, 27);
+    let hi = part(n, 35);
     Box { lo, hi }
 }
 

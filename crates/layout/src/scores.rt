@@ -1,30 +1,9 @@
 // Scores: 25 numbers, f 12, z 12 and s; 2 counts, valid and fired.
-ghost use Rattle.std.specs.Prelude.{◌≡◌, ◌+◌, ◌≤◌};
-ghost use Rattle.layout.specs.Places.{part};
+ghost use Rattle.std.specs.Prelude.{◌≡◌};
 ghost use Rattle.layout.specs.Scores.{marks_fit, scores_of, scores_flat, marks_flat};
 
-use crate::places::to_u32;
+use crate::places::{part, to_u32};
 use conformal::Scores;
-
-fn twelve(l: &[f64; 25], start: usize) -> [f64; 12]
-    requires { start + 12 ≤ 25 }
-    ensures { result ≡ part l.now start 12 }
-{
-    [
-        l[start],
-        l[start + 1],
-        l[start + 2],
-        l[start + 3],
-        l[start + 4],
-        l[start + 5],
-        l[start + 6],
-        l[start + 7],
-        l[start + 8],
-        l[start + 9],
-        l[start + 10],
-        l[start + 11],
-    ]
-}
 
 // Each count fits its field.
 pub fn marks_fit(c: &[u64; 2]) -> bool
@@ -37,8 +16,8 @@ pub fn marks_fit(c: &[u64; 2]) -> bool
 pub fn scores_of(l: &[f64; 25], c: &[u64; 2]) -> Scores
     ensures { result ≡ scores_of l.now c.now }
 {
-    let f = twelve(l, 0);
-    let z = twelve(l, 12);
+    let f = part(l, 0);
+    let z = part(l, 12);
     let valid = to_u32(c[0]);
     let fired = to_u32(c[1]);
     Scores {

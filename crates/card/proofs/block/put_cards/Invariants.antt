@@ -1,6 +1,6 @@
 -- `card::block::put_cards` meets its contract: after k turns the lines of k records stand, in at most 97 k bytes.
 use mathlib.Core.Path.{◌≡◌}
-use Prim.Native.Nat.{ℕ, ◌≤◌, ◌-◌, ◌*◌}
+use Prim.Native.Nat.{ℕ, ◌≤◌, ◌*◌}
 use mathlib.Core.List.{List}
 use lib.ListN.{length}
 use lib.Ieee.{Float}
@@ -18,6 +18,3 @@ pub record Putting (out₀ input : List ℕ) (first : ℕ) (slack₀ : List Floa
 
 abbrev pub invariant-loop-k : goal.invariant-loop-k
 invariant-loop-k l = Putting l.initial.out l.input l.first l.initial.slack l.whole l.out l.slack l.at l.k
-
-abbrev pub decreases-loop-k : goal.decreases-loop-k
-decreases-loop-k l = l.whole - l.k

@@ -4,4 +4,4 @@ use Rattle.layout.proofs.config.norm_of.Goals as goal
 
 pub returns : goal.returns
 unfolding norm_of
-returns c = rw (c.eight-scale.ensures, c.eight-center.ensures)
+returns c = rw (c.part-scale.ensures, c.part-center.ensures)

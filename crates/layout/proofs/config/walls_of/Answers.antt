@@ -4,4 +4,4 @@ use Rattle.layout.proofs.config.walls_of.Goals as goal
 
 pub returns : goal.returns
 unfolding walls_of
-returns c = rw (c.eight-hi.ensures, c.eight-lo.ensures)
+returns c = rw (c.part-hi.ensures, c.part-lo.ensures)

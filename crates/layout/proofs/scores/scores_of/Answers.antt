@@ -4,4 +4,4 @@ use Rattle.layout.proofs.scores.scores_of.Goals as goal
 
 pub returns : goal.returns
 unfolding scores_of
-returns c = rw (c.twelve-f.ensures, c.twelve-z.ensures, c.to_u32-valid.ensures, c.to_u32-fired.ensures)
+returns c = rw (c.part-f.ensures, c.part-z.ensures, c.to_u32-valid.ensures, c.to_u32-fired.ensures)
