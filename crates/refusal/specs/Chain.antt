@@ -59,6 +59,15 @@ passed_as {A} n {y} answer e = go n e
     go zero w = refl
     go (suc n) w = absurd (true≢false (ap is_ok w))
 
+-- one test, by how it came out
+pub when_passed : (n : ℕ) (b : Bool) {y : ⊤} → ◌≡◌ {A = Result ⊤ Refusal} (Ok y) (if b then Err (refused_for n) else Ok tt) → b ≡ false
+when_passed n true e = absurd (true≢false (ap is_ok e))
+when_passed n false e = refl
+
+pub when_refused : (n : ℕ) (b : Bool) {r : Refusal} → ◌≡◌ {A = Result ⊤ Refusal} (Err r) (if b then Err (refused_for n) else Ok tt) → (b ≡ true) × (r ≡ refused_for n)
+when_refused n true e = (refl, ap refusal_in e)
+when_refused n false e = absurd (true≢false (sym (ap is_ok e)))
+
 -- what is judged by a number gives that number
 pub number_back : (n : ℕ) → number_given (judged_by n) ≡ n
 number_back zero = refl

@@ -2,7 +2,7 @@
 use Rattle.refusal.specs.declared.Refusal.{Refusal}
 use Rattle.std.specs.Prelude.{ℕ, Bool, not, ◌||◌, List, [], ◌∷◌, eqb, ltb, Float, if◌then◌else◌, Err, Ok, Result}
 use Rattle.std.specs.Float.{Format}
-use Rattle.refusal.specs.Order.{Judged, number_of, ◌when◌, size, not_finite, computed, refusal, refused_for}
+use Rattle.refusal.specs.Order.{Judged, number_of, ◌when◌, size, not_finite, computed, refusal, refused_for, answer_by}
 use Rattle.fmath.specs.Answer.{number_or, some_not_finite}
 use Rattle.checked.specs.Finite.{finite, all_finite}
 use Rattle.checked.specs.Checked.{Checked}
@@ -47,8 +47,8 @@ number_after n x = number_or (if eqb n 0 then (if finite x then 0 else number_of
 
 -- how many samples a trail holds
 unfoldable pub count_of : Trail → Result ℕ Refusal
-count_of t = if eqb (refusal (trail_reasons t)) 0 then Ok t.len else Err (refused_for (refusal (trail_reasons t)))
+count_of t = answer_by Err (Ok t.len) (refusal (trail_reasons t))
 
 -- whether a trail holds none
 unfoldable pub emptiness_of : Trail → Result Bool Refusal
-emptiness_of t = if eqb (refusal (trail_reasons t)) 0 then Ok (eqb t.len 0) else Err (refused_for (refusal (trail_reasons t)))
+emptiness_of t = answer_by Err (Ok (eqb t.len 0)) (refusal (trail_reasons t))

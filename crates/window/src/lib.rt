@@ -1,10 +1,10 @@
 // The K-of-N hit window and the fixed-size position trail.
 #![tactic(auto)]
 
-ghost use Rattle.std.specs.Prelude.{◌≡◌, min, ◌+◌, ◌≤◌, ◌<◌, length};
+ghost use Rattle.std.specs.Prelude.{◌≡◌, min, ◌+◌, ◌≤◌, ◌<◌, length, ℕ};
 ghost use Rattle.std.specs.Float.{binary64};
 ghost use Rattle.std.proofs.Math.Seq.{paste};
-ghost use Rattle.refusal.specs.Order.{refusal};
+ghost use Rattle.refusal.specs.Order.{judged_by, refusal};
 ghost use Rattle.fmath.specs.Norm.{dist};
 ghost use Rattle.window.specs.Rule.{hits_in, slot_back, sample_back, net, path};
 ghost use Rattle.window.specs.Answer.{mask_of, out_of_size, unfit, trail_reasons, push_reasons, number_after, net_of, path_of, count_of, emptiness_of};
@@ -143,17 +143,13 @@ fn path_of(buf: &[f64], head: u8, len: u8, d: usize, w: usize) -> f64
     acc
 }
 
-// A number after the checks before it: refused by theirs, or by 13 where it is not finite.
-fn number_after(number: u8, x: f64) -> Result<f64, Refusal>
-    ensures { result ≡ number_after number x }
+// A number after what is judged before it, and by 13 where it is not finite.
+fn number_after(judged: Result<(), Refusal>, x: f64) -> Result<f64, Refusal>
+    ensures { (n : ℕ) → judged ≡ judged_by n → result ≡ number_after n x }
 {
-    if number != 0 {
-        return Err(Refusal::of(number));
-    }
-    if fmath::finite(x) {
-        return Ok(x);
-    }
-    Err(Refusal::of(Refusal::COMPUTED))
+    judged?;
+    Refusal::when(Refusal::COMPUTED, !fmath::finite(x))?;
+    Ok(x)
 }
 
 impl Trail {
@@ -183,31 +179,21 @@ impl Trail {
         !fmath::all_finite(&buf, 256)
     }
 
-    // The number for a trail: 1 for its head and its count, 12 for its numbers.
-    fn trail_refusal(self) -> u8
-        ensures { result ≡ refusal (trail_reasons self) }
+    // Why a trail is refused: by 1 for its head and its count, by 12 for its numbers.
+    fn trail_refusal(self) -> Result<(), Refusal>
+        ensures { result ≡ judged_by (refusal (trail_reasons self)) }
     {
-        if self.out_of_size() {
-            return Refusal::SIZE;
-        }
-        if self.unfit() {
-            return Refusal::NOT_FINITE;
-        }
-        0
+        Refusal::when(Refusal::SIZE, self.out_of_size())?;
+        Refusal::when(Refusal::NOT_FINITE, self.unfit())
     }
 
     // The same with the numbers of a lent position.
-    fn push_refusal(self, p: &[f64]) -> u8
-        ensures { result ≡ refusal (push_reasons self p.now) }
+    fn push_refusal(self, p: &[f64]) -> Result<(), Refusal>
+        ensures { result ≡ judged_by (refusal (push_reasons self p.now)) }
     {
-        let number = self.trail_refusal();
-        if number != 0 {
-            return number;
-        }
-        if fmath::all_finite(p, p.len()) {
-            return 0;
-        }
-        Refusal::NOT_FINITE
+        self.trail_refusal()?;
+        let fit = fmath::all_finite(p, p.len());
+        Refusal::when(Refusal::NOT_FINITE, !fit)
     }
 
     // The position as the newest sample, in the slot at head; coordinates past those pushed keep what the slot held.
@@ -233,7 +219,7 @@ impl Trail {
     pub fn push(self, p: &[f64], d: usize) -> Recorded
         ensures { result ≡ push_of self p.now d }
     {
-        let number = self.push_refusal(p);
+        let number = Refusal::number_of(self.push_refusal(p));
         if number != 0 {
             return Recorded {
                 number,
@@ -264,23 +250,23 @@ impl Trail {
     pub fn net(self, d: usize, w: usize) -> Result<f64, Refusal>
         ensures { result ≡ net_of binary64 self d w }
     {
-        let number = self.trail_refusal();
-        number_after(number, self.displacement(d, w))
+        let judged = self.trail_refusal();
+        number_after(judged, self.displacement(d, w))
     }
 
     // The length of the way through the last w samples; 0.0 where w is below 2, over 32 or more than the samples held.
     pub fn path(self, d: usize, w: usize) -> Result<f64, Refusal>
         ensures { result ≡ path_of binary64 self d w }
     {
-        let number = self.trail_refusal();
-        number_after(number, self.travelled(d, w))
+        let judged = self.trail_refusal();
+        number_after(judged, self.travelled(d, w))
     }
 
     // No sample is held; the numbers stay.
     pub fn clear(self) -> Recorded
         ensures { result ≡ clear_of self }
     {
-        let number = self.trail_refusal();
+        let number = Refusal::number_of(self.trail_refusal());
         if number != 0 {
             return Recorded {
                 number,
@@ -302,10 +288,7 @@ impl Trail {
     pub fn len(self) -> Result<usize, Refusal>
         ensures { result ≡ count_of self }
     {
-        let number = self.trail_refusal();
-        if number != 0 {
-            return Err(Refusal::of(number));
-        }
+        self.trail_refusal()?;
         Ok(self.len as usize)
     }
 
@@ -313,10 +296,7 @@ impl Trail {
     pub fn is_empty(self) -> Result<bool, Refusal>
         ensures { result ≡ emptiness_of self }
     {
-        let number = self.trail_refusal();
-        if number != 0 {
-            return Err(Refusal::of(number));
-        }
+        self.trail_refusal()?;
         Ok(self.len == 0)
     }
 }

@@ -8,6 +8,7 @@ use Rattle.std.specs.Prelude.{if◌then◌else◌}
 use Rattle.window.specs.declared.Trail.{Trail}
 use Rattle.window.specs.declared.Recorded.{Recorded}
 use Rattle.window.specs.Answer.{trail_reasons}
+use Rattle.refusal.specs.Chain.{number_is}
 use Rattle.window.specs.Of.{cleared_of, clear_of}
 use Rattle.window.proofs.Trail.clear.Goals as goal
 
@@ -23,7 +24,7 @@ module _ (t : Trail) (n : ℕ) (is : n ≡ refusal (trail_reasons t)) where
   cleared z = sym (by_number ∙ rw (eq-eqb n 0 z))
 
 pub returns-then-number-ne0 : goal.returns-then-number-ne0
-returns-then-number-ne0 c = refused c.args.self _ c.trail_refusal-number.ensures c.if-number-ne0.true
+returns-then-number-ne0 c = refused c.args.self _ (c.number_of-number.ensures ∙ number_is c.trail_refusal.ensures) c.if-number-ne0.true
 
 pub returns : goal.returns
-returns c = cleared c.args.self _ c.trail_refusal-number.ensures c.if-number-ne0.false
+returns c = cleared c.args.self _ (c.number_of-number.ensures ∙ number_is c.trail_refusal.ensures) c.if-number-ne0.false

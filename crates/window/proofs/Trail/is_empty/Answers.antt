@@ -1,28 +1,16 @@
--- `Trail::is_empty` meets its contract, by the trail's number.
-use Prim.Native.Nat.{ℕ}
-use mathlib.Core.Path.{◌≡◌, sym, ap, ◌∙◌}
-use borrow.Author.Tests.{eq-eqb, ne_eqb}
+-- `Trail::is_empty` meets its contract, by what is judged of the trail.
+use native.Mathlib.Omega.{arith}
 use lib.Dec.{eqb}
-use Rattle.refusal.specs.declared.Refusal.{Refusal}
-use Rattle.refusal.specs.Order.{refusal, refused_for}
-use Rattle.std.specs.Prelude.{if◌then◌else◌, Err, Ok, Result, Bool}
-use Rattle.window.specs.declared.Trail.{Trail}
+use Rattle.std.specs.Prelude.{Ok}
+use Rattle.refusal.specs.Order.{refusal}
+use Rattle.refusal.specs.Chain.{refused_as, passed_as}
 use Rattle.window.specs.Answer.{trail_reasons, emptiness_of}
 use Rattle.window.proofs.Trail.is_empty.Goals as goal
 
-module _ (t : Trail) (n : ℕ) (is : n ≡ refusal (trail_reasons t)) where
-  by_number : emptiness_of t ≡ (if eqb n 0 then Ok (eqb t.len 0) else Err (refused_for n))
-  unfolding emptiness_of
-  by_number = ap (λ (k : ℕ). if◌then◌else◌ {A = (Result Bool Refusal)} (eqb k 0) (Ok (eqb t.len 0)) (Err (refused_for k))) (sym is)
-
-  refused : (r : Refusal) → r ≡ refused_for n → (n ≡ 0 → ⊥) → Err r ≡ emptiness_of t
-  refused r e some = rw e (sym (by_number ∙ rw (ne_eqb n 0 some)))
-
-  told : n ≡ 0 → Ok (eqb t.len 0) ≡ emptiness_of t
-  told z = sym (by_number ∙ rw (eq-eqb n 0 z))
-
-pub returns-then-number-ne0 : goal.returns-then-number-ne0
-returns-then-number-ne0 c = refused c.args.self _ c.trail_refusal-number.ensures _ c.of.ensures c.if-number-ne0.true
+pub returns-in_err-trail_refusal : goal.returns-in_err-trail_refusal
+unfolding emptiness_of
+returns-in_err-trail_refusal c = grind (arith, refused_as (refusal (trail_reasons c.args.self)) (Ok (eqb c.args.self.len 0)) c.in_err-trail_refusal.ensures, c.from_residual.ensures)
 
 pub returns : goal.returns
-returns c = told c.args.self _ c.trail_refusal-number.ensures c.if-number-ne0.false
+unfolding emptiness_of
+returns c = passed_as (refusal (trail_reasons c.args.self)) (Ok (eqb c.args.self.len 0)) c.in_ok-trail_refusal.ensures

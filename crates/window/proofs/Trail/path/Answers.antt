@@ -2,7 +2,7 @@
 use Rattle.std.specs.Prelude.{Result}
 use Rattle.refusal.specs.declared.Refusal.{Refusal}
 use Prim.Native.Nat.{ℕ}
-use mathlib.Core.Path.{◌≡◌, ap, ◌∙◌}
+use mathlib.Core.Path.{◌≡◌, refl, ap, ◌∙◌}
 use lib.Ieee.{Float, binary64}
 use Rattle.refusal.specs.Order.{refusal}
 use Rattle.window.specs.declared.Trail.{Trail}
@@ -20,4 +20,4 @@ answered t d w n x r en ex er =
 pub returns : goal.returns
 returns c =
     let a = c.args in
-    answered a.self a.d a.w _ _ _ c.trail_refusal-number.ensures c.travelled.ensures c.number_after.ensures
+    answered a.self a.d a.w _ _ _ refl c.travelled.ensures (c.number_after.ensures _ c.trail_refusal-judged.ensures)

@@ -14,6 +14,7 @@ use Rattle.checked.proofs.Each.{neither}
 use Rattle.window.specs.declared.Trail.{Trail}
 use Rattle.window.specs.declared.Recorded.{Recorded}
 use Rattle.window.specs.Answer.{out_of_size, unfit, push_reasons}
+use Rattle.refusal.specs.Chain.{number_is}
 use Rattle.window.specs.Of.{recorded_of, push_of}
 use Rattle.window.proofs.TrailJudged.{accepted_in_size}
 use Rattle.window.proofs.Trail.push.Goals as goal
@@ -36,10 +37,10 @@ module _ (t : Trail) (p : List Float) (d n : ℕ) (is : n ≡ refusal (push_reas
       (omega arith, ltb-false 32 t.len h.1)
 
 pub returns-then-number-ne0 : goal.returns-then-number-ne0
-returns-then-number-ne0 c = let a = c.args in refused a.self a.p.now a.d _ c.push_refusal-number.ensures c.if-number-ne0.true
+returns-then-number-ne0 c = let a = c.args in refused a.self a.p.now a.d _ (c.number_of-number.ensures ∙ number_is c.push_refusal.ensures) c.if-number-ne0.true
 
 pub recorded-trail-requires : goal.recorded-trail-requires
-recorded-trail-requires c = let a = c.args in in_size a.self a.p.now a.d _ c.push_refusal-number.ensures c.if-number-ne0.false
+recorded-trail-requires c = let a = c.args in in_size a.self a.p.now a.d _ (c.number_of-number.ensures ∙ number_is c.push_refusal.ensures) c.if-number-ne0.false
 
 pub returns : goal.returns
-returns c = let a = c.args in pushed a.self a.p.now a.d _ c.push_refusal-number.ensures _ c.recorded-trail.ensures c.if-number-ne0.false
+returns c = let a = c.args in pushed a.self a.p.now a.d _ (c.number_of-number.ensures ∙ number_is c.push_refusal.ensures) _ c.recorded-trail.ensures c.if-number-ne0.false
