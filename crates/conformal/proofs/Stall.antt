@@ -5,13 +5,13 @@ use mathlib.Core.Path.{◌≡◌, refl, ap, ◌∙◌}
 use mathlib.Core.Bool.{Bool, true, false, ◌||◌, false≢true}
 use mathlib.Core.List.{List}
 use native.Mathlib.Omega.{arith}
-use borrow.Author.Tests.{lt-leb, leb-true, eq-eqb, eqb-true, not-true, not-false, leb-false, ltb-true}
-use lib.Dec.{leb, ltb, eqb}
+use borrow.Author.Tests.{lt-leb, leb-true, eq-eqb, not-true, not-false, leb-false, ltb-true}
+use lib.Dec.{leb, ltb}
 use lib.ListN.{get_or}
 use lib.Ieee.{Float, Format}
-use Rattle.refusal.specs.Order.{size, withdrawn, among, refused_for}
+use Rattle.refusal.specs.Order.{size, withdrawn, among}
 use Rattle.refusal.specs.Exactly.{exactly_none}
-use Rattle.std.specs.Prelude.{if◌then◌else◌, Err, Ok, Result}
+use Rattle.std.specs.Prelude.{Err, Ok, Result}
 use Rattle.bits.specs.Bits.{bit}
 use Rattle.bits.proofs.Bits.{bit_where}
 use Rattle.checked.specs.Each.{at}
@@ -48,11 +48,8 @@ told (Err r) = false
 told (Ok b) = true
 
 answered : (n : ℕ) (b c : Bool) → verdict n b ≡ Ok c → n ≡ 0
-answered n b c e = go (eqb n 0) refl e
-  where
-    go : (none : Bool) → eqb n 0 ≡ none → (if none then Ok b else Err (refused_for n)) ≡ Ok c → n ≡ 0
-    go true z h = eqb-true n 0 z
-    go false z h = absurd (false≢true (ap told h))
+answered zero b c e = refl
+answered (suc n) b c e = absurd (false≢true (ap told e))
 
 module _ (cal : Calibration) (t : Tables) (sc : Scores) where
   accepted : (sound : Bool) → judged cal t sc sound ≡ 0 → NamesNoStall cal

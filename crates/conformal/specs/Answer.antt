@@ -2,7 +2,7 @@
 use Rattle.refusal.specs.declared.Refusal.{Refusal}
 use Rattle.std.specs.Prelude.{ℕ, Bool, true, not, [], ◌∷◌, List, eqb, Float, if◌then◌else◌, Err, Ok, Result}
 use Rattle.std.specs.Float.{Format}
-use Rattle.refusal.specs.Order.{Judged, size, number, steps, withdrawn, not_finite, computed, ◌when◌, refusal, refused_for}
+use Rattle.refusal.specs.Order.{Judged, size, number, steps, withdrawn, not_finite, computed, ◌when◌, refusal, refused_for, answer_by}
 use Rattle.checked.specs.Checked.{Checked}
 use Rattle.conformal.specs.Rule.{Tables, live, standards, aggregate, fired_bits, trips, bin_at}
 use Rattle.conformal.specs.Refusals.{sizes_ok, numbers_ok, features_ok, scores_ok}
@@ -46,7 +46,7 @@ aggregated cal t sc =
     (record { f = sc.f; z = sc.z; s = aggregate cal.gate (live_of cal sc) sc.z; valid = sc.valid; fired = fired_bits (live_of cal sc) cal.tau sc.z })
 
 abbrev pub verdict : ℕ → Bool → Result Bool Refusal
-verdict n b = if eqb n 0 then Ok b else Err (refused_for n)
+verdict n b = answer_by Err (Ok b) n
 
 unfoldable pub tripped : Calibration → Tables → Scores → Result Bool Refusal
 tripped cal t sc = verdict (judged cal t sc true) (trips cal.tau sc.s)

@@ -6,6 +6,7 @@ ghost use Rattle.std.specs.Float.{binary64};
 ghost use Rattle.std.specs.Float.Ieee.{is_nan};
 ghost use Rattle.checked.specs.Least.{lesser, greater};
 ghost use Rattle.bits.specs.Bits.{bit};
+ghost use Rattle.refusal.specs.Order.{judged_by};
 ghost use Rattle.conformal.specs.Rule.{live, standard, standards, aggregate, fired_bits};
 ghost use Rattle.conformal.specs.Refusals.{sizes_ok, numbers_ok, features_ok, scores_ok};
 ghost use Rattle.conformal.specs.Answer.{judged, scored, standardised, aggregated, tripped, time_bin_of};
@@ -181,25 +182,22 @@ pub fn scores_ok(scores: Scores) -> bool
     a & b & c
 }
 
-// The refusal of a calibration and scores, given whether all that was computed is finite; what is judged last comes first.
+// Why a calibration and scores are refused, given whether all that was computed is finite.
+#[tactic(auto, unfolding(crate::specs::Answer::judged))]
 fn judge(
     cal: Calibration,
     center: &[f64; 192],
     scale: &[f64; 192],
     scores: Scores,
     sound: bool,
-) -> u8
-    ensures { result ≡ judged cal (tables center.now scale.now) scores sound }
+) -> Result<(), Refusal>
+    ensures { result ≡ judged_by (judged cal (tables center.now scale.now) scores sound) }
 {
-    let a = sizes_ok(cal);
-    let b = numbers_ok(cal, center, scale);
-    let c = features_ok(cal);
-    let d = scores_ok(scores);
-    let of_computed = Refusal::when(Refusal::COMPUTED, !sound, 0);
-    let of_scores = Refusal::when(Refusal::NOT_FINITE, !d, of_computed);
-    let of_features = Refusal::when(Refusal::WITHDRAWN, !c, of_scores);
-    let of_numbers = Refusal::when(Refusal::NUMBER, !b, of_features);
-    Refusal::when(Refusal::SIZE, !a, of_numbers)
+    Refusal::when(Refusal::SIZE, !sizes_ok(cal))?;
+    Refusal::when(Refusal::NUMBER, !numbers_ok(cal, center, scale))?;
+    Refusal::when(Refusal::WITHDRAWN, !features_ok(cal))?;
+    Refusal::when(Refusal::NOT_FINITE, !scores_ok(scores))?;
+    Refusal::when(Refusal::COMPUTED, !sound)
 }
 
 // New scores where the number is 0, else the old ones.
@@ -285,7 +283,7 @@ pub fn standardise(
 {
     let x = scores.f;
     let new = standards(center, scale, bin, cal.mask, scores.valid, &x);
-    let number = judge(cal, center, scale, scores, new.sound);
+    let judged = judge(cal, center, scale, scores, new.sound);
     let z = new.z;
     let scored = Scores {
         f: x,
@@ -294,7 +292,7 @@ pub fn standardise(
         valid: scores.valid,
         fired: scores.fired,
     };
-    answer(number, scores, scored)
+    answer(Refusal::number_of(judged), scores, scored)
 }
 
 // ---- aggregate
@@ -373,7 +371,7 @@ pub fn aggregate(
 ) -> Scored
     ensures { result ≡ aggregated cal (tables center.now scale.now) scores }
 {
-    let number = judge(cal, center, scale, scores, true);
+    let judged = judge(cal, center, scale, scores, true);
     let gate = cal.gate;
     let x = scores.f;
     let z = scores.z;
@@ -386,7 +384,7 @@ pub fn aggregate(
         valid: scores.valid,
         fired,
     };
-    answer(number, scores, scored)
+    answer(Refusal::number_of(judged), scores, scored)
 }
 
 // ---- trip and the time bin
@@ -400,12 +398,8 @@ pub fn trip(
 ) -> Result<bool, Refusal>
     ensures { result ≡ tripped cal (tables center.now scale.now) scores }
 {
-    let number = judge(cal, center, scale, scores, true);
-    if number == 0 {
-        Ok(scores.s > cal.tau)
-    } else {
-        Err(Refusal::of(number))
-    }
+    judge(cal, center, scale, scores, true)?;
+    Ok(scores.s > cal.tau)
 }
 
 // How many ticks are over before tick t, where the first is numbered 1; none before tick 0 either.

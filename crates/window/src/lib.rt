@@ -288,7 +288,8 @@ impl Trail {
     pub fn len(self) -> Result<usize, Refusal>
         ensures { result ≡ count_of self }
     {
-        self.trail_refusal()?;
+        let trail = self.trail_refusal();
+        trail?;
         Ok(self.len as usize)
     }
 

@@ -6,10 +6,10 @@ use Rattle.refusal.specs.Chain.{refused_as, passed_as}
 use Rattle.window.specs.Answer.{trail_reasons, count_of}
 use Rattle.window.proofs.Trail.len.Goals as goal
 
-pub returns-in_err-trail_refusal : goal.returns-in_err-trail_refusal
+pub returns-in_err-trail : goal.returns-in_err-trail
 unfolding count_of
-returns-in_err-trail_refusal c = grind (arith, refused_as (refusal (trail_reasons c.args.self)) (Ok c.args.self.len) c.in_err-trail_refusal.ensures, c.from_residual.ensures)
+returns-in_err-trail c = grind (arith, refused_as (refusal (trail_reasons c.args.self)) (Ok c.args.self.len) c.in_err-trail.ensures, c.from_residual.ensures)
 
 pub returns : goal.returns
 unfolding count_of
-returns c = passed_as (refusal (trail_reasons c.args.self)) (Ok c.args.self.len) c.in_ok-trail_refusal.ensures
+returns c = passed_as (refusal (trail_reasons c.args.self)) (Ok c.args.self.len) c.in_ok-trail.ensures
