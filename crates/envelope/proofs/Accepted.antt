@@ -19,8 +19,8 @@ use Rattle.envelope.specs.declared.FuseConfig.{FuseConfig}
 
 -- ---- what is compiled
 
-pub compiled_number : {k m : Compiled} → k ≡ m → k.number ≡ m.number
-compiled_number = ap (λ (x : Compiled). x.number)
+pub compiled_judged : {k m : Compiled} → k ≡ m → k.judged ≡ m.judged
+compiled_judged = ap (λ (x : Compiled). x.judged)
 
 pub compiled_derived : {k m : Compiled} → k ≡ m → k.derived ≡ m.derived
 compiled_derived = ap (λ (x : Compiled). x.derived)

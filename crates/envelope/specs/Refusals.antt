@@ -3,7 +3,7 @@ use Rattle.envelope.specs.declared.Zone.{Zone}
 use Rattle.std.specs.Prelude.{ℕ, Bool, true, false, not, ◌&&◌, ◌||◌, List, [], ◌∷◌, leb, ltb, eqb, Float, None, Option, Some}
 use Rattle.std.specs.Float.{Format}
 use Rattle.std.specs.Float.Ieee.{lt}
-use Rattle.refusal.specs.Order.{Judged, size, number, steps, channels, shape, withdrawn, ◌when◌, refusal}
+use Rattle.refusal.specs.Order.{Judged, size, number, steps, channels, shape, withdrawn, ◌when◌, refusal, judged_by}
 use Rattle.checked.specs.Each.{at, all, every}
 use Rattle.checked.specs.Finite.{finite, above_zero, not_below_zero, all_finite, all_above_zero}
 use Rattle.conformal.specs.Refusals as calibration
@@ -167,4 +167,4 @@ config_judged f c t =
 
 -- the number that it is refused with, and what is derived from it
 abbrev pub compiled : Format → FuseConfig → Tables → Compiled
-compiled f c t = record { number = refusal (config_judged f c t); derived = derived f c }
+compiled f c t = record { judged = judged_by (refusal (config_judged f c t)); derived = derived f c }

@@ -3,11 +3,12 @@
 
 ghost use Rattle.std.specs.Prelude.{◌≡◌, ◌<◌, min};
 ghost use Rattle.std.specs.Float.{binary64};
+ghost use Rattle.refusal.specs.Order.{judged_by, refusal};
 ghost use Rattle.conformal.specs.Of.{tables};
 ghost use Rattle.envelope.specs.Derive.{kept, low_walls, high_walls, inverses, isotropic, derived};
 ghost use Rattle.envelope.specs.Steps.{substeps_in};
 ghost use Rattle.envelope.specs.Slots.{counted};
-ghost use Rattle.envelope.specs.Refusals.{sizes_ok, limits_ok, gains_ok, brake_ok, zone_ok, zones_ok, norm_ok, walls_finite, box_ok, scalars_ok, ordered, derived_ok, calibration_ok, numbers_from, counts_ok, steps_ok, channels_ok, same_pair, pair_is_own, zones_fit, features_ok, compiled};
+ghost use Rattle.envelope.specs.Refusals.{sizes_ok, limits_ok, gains_ok, brake_ok, zone_ok, zones_ok, norm_ok, walls_finite, box_ok, scalars_ok, ordered, derived_ok, calibration_ok, numbers_from, counts_ok, steps_ok, channels_ok, same_pair, pair_is_own, zones_fit, features_ok, config_judged, compiled};
 
 use conformal::Calibration;
 use refusal::Refusal;
@@ -169,10 +170,10 @@ pub struct Derived {
     pub norm_scale_iso: f64,
 }
 
-// The number of the table (R0) that a configuration is refused with, 0 where it is accepted, and what is derived from it.
+// Why a configuration is refused, if it is, and what is derived from it.
 #[derive(Clone, Copy)]
 pub struct Compiled {
-    pub number: u8,
+    pub judged: Result<(), Refusal>,
     pub derived: Derived,
 }
 
@@ -533,24 +534,23 @@ fn features_ok(c: FuseConfig) -> bool
 
 // ---- all of it, in one pass
 
-// Judges a configuration and derives from it, whether it is refused or not. What is judged last comes first.
+// Why a configuration is refused, given what is derived from it.
+fn judge(c: FuseConfig, d: Derived, center: &[f64; 192], scale: &[f64; 192]) -> Result<(), Refusal>
+    ensures { d ≡ derived binary64 c → result ≡ judged_by (refusal (config_judged binary64 c (tables center.now scale.now))) }
+{
+    Refusal::when(Refusal::SIZE, !sizes_ok(c))?;
+    Refusal::when(Refusal::NUMBER, !numbers_ok(c, d, center, scale))?;
+    Refusal::when(Refusal::STEPS, !steps_ok(c))?;
+    Refusal::when(Refusal::CHANNELS, !zones_fit(c.zones, c.aux_count))?;
+    Refusal::when(Refusal::SHAPE, !workspace::spans(c.shape, c.dim, c.pos_dim))?;
+    Refusal::when(Refusal::WITHDRAWN, !features_ok(c))
+}
+
+// Judges a configuration and derives from it, whether it is refused or not.
 pub fn compile(c: FuseConfig, center: &[f64; 192], scale: &[f64; 192]) -> Compiled
     ensures { result ≡ compiled binary64 c (tables center.now scale.now) }
 {
-    let zones = c.zones;
-    let shape = c.shape;
     let derived = derive(c);
-    let a = sizes_ok(c);
-    let b = numbers_ok(c, derived, center, scale);
-    let d = steps_ok(c);
-    let e = zones_fit(zones, c.aux_count);
-    let f = workspace::spans(shape, c.dim, c.pos_dim);
-    let g = features_ok(c);
-    let of_features = Refusal::when(Refusal::WITHDRAWN, !g, 0);
-    let of_shape = Refusal::when(Refusal::SHAPE, !f, of_features);
-    let of_channels = Refusal::when(Refusal::CHANNELS, !e, of_shape);
-    let of_steps = Refusal::when(Refusal::STEPS, !d, of_channels);
-    let of_numbers = Refusal::when(Refusal::NUMBER, !b, of_steps);
-    let number = Refusal::when(Refusal::SIZE, !a, of_numbers);
-    Compiled { number, derived }
+    let judged = judge(c, derived, center, scale);
+    Compiled { judged, derived }
 }
