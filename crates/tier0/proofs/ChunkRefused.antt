@@ -1,5 +1,5 @@
 -- A chunk: what is known where nothing that is lent is refused, and the whole answer in each case.
-use Rattle.std.specs.Prelude.{Err, Result}
+use Rattle.std.specs.Prelude.{⊤, Err, Result}
 use Prim.Native.Nat.{ℕ, ◌*◌, ◌≤◌, ◌<◌, min}
 use mathlib.Core.Path.{◌≡◌, refl, ap, ◌∙◌}
 use mathlib.Core.Bool.{Bool, true, false, not}
@@ -10,7 +10,7 @@ use borrow.Author.Tests.{ltb-false, eqb-true, not-false}
 use lib.Dec.{ltb, eqb}
 use lib.ListN.{length, replicate}
 use lib.Ieee.{Float, Format}
-use Rattle.refusal.specs.Order.{Judged, width, short, not_finite, computed, ◌when◌, refusal, or_later, refused_for}
+use Rattle.refusal.specs.Order.{Judged, width, short, not_finite, computed, ◌when◌, refusal, or_later, judged_by, refused_for}
 use Rattle.refusal.specs.Chain.{joined, both_pass, passes_at}
 use Rattle.refusal.proofs.Entry.{Answered, by_lent, by-computed}
 use Rattle.refusal.proofs.Entry as entry
@@ -79,7 +79,7 @@ module _ (f : Format) (c : FuseConfig) (t : Tables) (p aux rows : List Float) (k
   abbrev before : ℕ → List Judged
   before room = config_judged f c t ++ (sizes ++ lent room)
 
-  pub before_is : (room : ℕ) {n s q i r : ℕ} → n ≡ refusal (config_judged f c t) → s ≡ refusal sizes → q ≡ refusal (lent room) → i ≡ or_later s q → r ≡ or_later n i → r ≡ refusal (before room)
+  pub before_is : (room : ℕ) {n s q i r : Result ⊤ Refusal} → n ≡ judged_by (refusal (config_judged f c t)) → s ≡ judged_by (refusal sizes) → q ≡ judged_by (refusal (lent room)) → i ≡ or_later s q → r ≡ or_later n i → r ≡ judged_by (refusal (before room))
   before_is room en es eq ei er = joined (config_judged f c t) (sizes ++ lent room) en (joined sizes (lent room) es eq ei) er
 
   known_sizes : (room : ℕ) → c.dim ≤ 8 → Accepted k (length rows) → k.dim ≡ c.dim → brief room ≡ false → Sized c p rows h room

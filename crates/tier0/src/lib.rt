@@ -203,15 +203,10 @@ pub fn check_action(
     ensures { (result ≡ action_answer binary64 c (tables center.now scale.now) pos.now aux.now prev.now a.now (length out.old)) × (out.new ≡ action_out binary64 c (tables center.now scale.now) pos.now aux.now prev.now a.now out.old) }
 {
     let compiled = envelope::compile(c, center, scale);
-    let number = action_refusal(c, compiled.number, pos, aux, prev, a, out.len());
-    if number != 0 {
-        return Err(Refusal::of(number));
-    }
+    action_refusal(c, compiled.judged, pos, aux, prev, a, out.len())?;
     let s = checks_of(c, compiled.derived);
     let v = judge_action(s, pos, aux, prev, a);
-    if !v.sound {
-        return Err(Refusal::of(Refusal::COMPUTED));
-    }
+    Refusal::when(Refusal::COMPUTED, !v.sound)?;
     let at = v.at;
     fmath::put(&at, c.dim, out);
     Ok(Tier0Out {
@@ -283,17 +278,12 @@ pub fn check_chunk(
     ensures { (result ≡ chunk_answer binary64 c (tables center.now scale.now) pos.now aux.now rows.now header (length out.old)) × (out.new ≡ chunk_out binary64 c (tables center.now scale.now) pos.now aux.now rows.now header out.old) }
 {
     let compiled = envelope::compile(c, center, scale);
-    let number = chunk_refusal(c, compiled.number, pos, aux, rows, header, out.len());
-    if number != 0 {
-        return Err(Refusal::of(number));
-    }
+    chunk_refusal(c, compiled.judged, pos, aux, rows, header, out.len())?;
     let s = checks_of(c, compiled.derived);
     let h = header.horizon as usize;
     let mut all = [0.0; 512];
     let v = judge_chunk(s, pos, aux, rows, h, &mut all);
-    if !v.sound {
-        return Err(Refusal::of(Refusal::COMPUTED));
-    }
+    Refusal::when(Refusal::COMPUTED, !v.sound)?;
     fmath::put(&all, h * c.dim, out);
     Ok(Tier0Out {
         trips: v.trips,

@@ -1,7 +1,7 @@
-// The number that what is lent is refused with.
+// Why what is lent is refused.
 ghost use Rattle.std.specs.Prelude.{◌≡◌, [], ◌∷◌, ◌++◌, length};
 ghost use Rattle.std.specs.Float.{binary64};
-ghost use Rattle.refusal.specs.Order.{refusal};
+ghost use Rattle.refusal.specs.Order.{judged_by, refusal};
 ghost use Rattle.fmath.specs.Answer.{some_lent_not_finite};
 ghost use Rattle.chunk.specs.Refusals.{chunk_reasons};
 ghost use Rattle.conformal.specs.Rule.{Tables};
@@ -31,22 +31,35 @@ fn not_finite(pos: &[f64], aux: &[f64], prev: &[f64], a: &[f64]) -> bool
     !k | !l | !m | !n
 }
 
-// The number for what is lent: the configuration's own, then 11, then 12; 0 where there is none.
-pub(crate) fn action_refusal(
+// Why what is lent with an action is refused: by 11, then by 12.
+fn lent_refusal(
     c: FuseConfig,
-    number: u8,
     pos: &[f64],
     aux: &[f64],
     prev: &[f64],
     a: &[f64],
     room: usize,
-) -> u8
-    ensures { (t : Tables) → number ≡ refusal (config_judged binary64 c t) → result ≡ refusal (config_judged binary64 c t ++ lent_to_action c pos.now aux.now prev.now a.now room []) }
+) -> Result<(), Refusal>
+    ensures { result ≡ judged_by (refusal (lent_to_action c pos.now aux.now prev.now a.now room [])) }
 {
     let short = too_short(c.dim, c.pos_dim, pos.len(), prev.len(), a.len(), room);
-    let unfit = not_finite(pos, aux, prev, a);
-    let numbers = Refusal::when(Refusal::NOT_FINITE, unfit, 0);
-    Refusal::or_later(number, Refusal::when(Refusal::SHORT, short, numbers))
+    Refusal::when(Refusal::SHORT, short)?;
+    Refusal::when(Refusal::NOT_FINITE, not_finite(pos, aux, prev, a))
+}
+
+// Why an action is refused: by what is judged of its configuration, then by what is lent.
+pub(crate) fn action_refusal(
+    c: FuseConfig,
+    config: Result<(), Refusal>,
+    pos: &[f64],
+    aux: &[f64],
+    prev: &[f64],
+    a: &[f64],
+    room: usize,
+) -> Result<(), Refusal>
+    ensures { (t : Tables) → config ≡ judged_by (refusal (config_judged binary64 c t)) → result ≡ judged_by (refusal (config_judged binary64 c t ++ lent_to_action c pos.now aux.now prev.now a.now room [])) }
+{
+    Refusal::or_later(config, lent_refusal(c, pos, aux, prev, a, room))
 }
 
 // Whether the position is shorter than pos_dim, or the output than the chunk.
@@ -56,7 +69,7 @@ fn chunk_too_short(pos_dim: usize, pos: usize, size: usize, room: usize) -> bool
     (pos < pos_dim) | (room < size)
 }
 
-// The number for what is lent with a chunk: 10, then 11, then 12.
+// Why what is lent with a chunk is refused: by 10, then by 11, then by 12.
 fn rows_refusal(
     c: FuseConfig,
     pos: &[f64],
@@ -64,31 +77,30 @@ fn rows_refusal(
     rows: &[f64],
     header: Header,
     room: usize,
-) -> u8
-    ensures { result ≡ refusal (lent_to_chunk c pos.now aux.now rows.now header room []) }
+) -> Result<(), Refusal>
+    ensures { result ≡ judged_by (refusal (lent_to_chunk c pos.now aux.now rows.now header room [])) }
 {
     let h = header.horizon as usize;
     let d = header.dim as usize;
-    let short = chunk_too_short(c.pos_dim, pos.len(), h * d, room);
-    let unfit = fmath::some_not_finite(pos, aux, rows);
-    let numbers = Refusal::when(Refusal::NOT_FINITE, unfit, 0);
-    let lengths = Refusal::when(Refusal::SHORT, short, numbers);
-    Refusal::when(Refusal::WIDTH, d != c.dim, lengths)
+    Refusal::when(Refusal::WIDTH, d != c.dim)?;
+    let brief = chunk_too_short(c.pos_dim, pos.len(), h * d, room);
+    Refusal::when(Refusal::SHORT, brief)?;
+    Refusal::when(Refusal::NOT_FINITE, fmath::some_not_finite(pos, aux, rows))
 }
 
-// The number for a chunk: the configuration's own, then the sizes', then what is lent; 0 where there is none.
+// Why a chunk is refused: by what is judged of its configuration, then by its sizes, then by what is lent.
 pub(crate) fn chunk_refusal(
     c: FuseConfig,
-    number: u8,
+    config: Result<(), Refusal>,
     pos: &[f64],
     aux: &[f64],
     rows: &[f64],
     header: Header,
     room: usize,
-) -> u8
-    ensures { (t : Tables) → number ≡ refusal (config_judged binary64 c t) → result ≡ refusal (config_judged binary64 c t ++ (chunk_reasons header (length rows.now) ++ lent_to_chunk c pos.now aux.now rows.now header room [])) }
+) -> Result<(), Refusal>
+    ensures { (t : Tables) → config ≡ judged_by (refusal (config_judged binary64 c t)) → result ≡ judged_by (refusal (config_judged binary64 c t ++ (chunk_reasons header (length rows.now) ++ lent_to_chunk c pos.now aux.now rows.now header room []))) }
 {
     let sizes = chunk::chunk_refusal(header, rows.len());
     let lent = rows_refusal(c, pos, aux, rows, header, room);
-    Refusal::or_later(number, Refusal::or_later(sizes, lent))
+    Refusal::or_later(config, Refusal::or_later(sizes, lent))
 }
