@@ -68,6 +68,15 @@ pub when_refused : (n : ℕ) (b : Bool) {r : Refusal} → ◌≡◌ {A = Result 
 when_refused n true e = (refl, ap refusal_in e)
 when_refused n false e = absurd (true≢false (sym (ap is_ok e)))
 
+-- and the number that it gives, alone and before what is judged after it
+pub when_number : (n : ℕ) (b : Bool) {x : Result ⊤ Refusal} → x ≡ (if b then Err (refused_for n) else Ok tt) → number_given x ≡ (if b then n else 0)
+when_number n true e = ap number_given e
+when_number n false e = ap number_given e
+
+pub later_number : (n : ℕ) (b : Bool) (l : Result ⊤ Refusal) {x a : Result ⊤ Refusal} → x ≡ or_later a l → a ≡ (if b then Err (refused_for n) else Ok tt) → number_given x ≡ (if b then n else number_given l)
+later_number n true l e h = ap number_given (e ∙ ap (λ (y : Result ⊤ Refusal). or_later y l) h)
+later_number n false l e h = ap number_given (e ∙ ap (λ (y : Result ⊤ Refusal). or_later y l) h)
+
 -- what is judged by a number gives that number
 pub number_back : (n : ℕ) → number_given (judged_by n) ≡ n
 number_back zero = refl

@@ -151,7 +151,7 @@ impl Tier1Rt {
     pub fn reset(self) -> Cleared
         ensures { result ≡ reset_of self }
     {
-        let number = state_refusal(self);
+        let number = Refusal::number_of(state_refusal(self));
         let refusal = Refusal::of(number);
         if number != 0 {
             return Cleared { refusal, rt: self };
@@ -234,7 +234,8 @@ pub fn one_tick(
     ensures { result ≡ out_of (features_of binary64 c (tables center.now scale.now) pos.now ext.now there k rows.now rt sc) }
 {
     let compiled = envelope::compile(c, center, scale);
-    let number = features_refusal(c, compiled.number, rt, pos, ext, there, k, rows, sc);
+    let judged = features_refusal(c, compiled.judged, rt, pos, ext, there, k, rows, sc);
+    let number = Refusal::number_of(judged);
     if number != 0 {
         return unchanged(number, rt, sc);
     }
