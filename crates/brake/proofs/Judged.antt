@@ -9,8 +9,8 @@ use borrow.Author.Tests.{eqb-true, eqb-false, ne_eqb, ltb-false, not-false}
 use lib.Dec.{eqb, ltb}
 use lib.ListN.{length}
 use lib.Ieee.{Float, Format}
-use Rattle.refusal.specs.Order.{Judged, number_of, width, short, not_finite, computed, ◌when◌, refusal, or_later, refused_for}
-use Rattle.std.specs.Prelude.{if◌then◌else◌, Err, Result}
+use Rattle.refusal.specs.Order.{Judged, number_of, width, short, not_finite, computed, ◌when◌, refusal, or_later, judged_by, refused_for}
+use Rattle.std.specs.Prelude.{if◌then◌else◌, Err, Result, ⊤}
 use Rattle.refusal.specs.Chain.{chain, joined, first_refuses, first_passes, both_pass, passes_at}
 use Rattle.refusal.specs.declared.Refusal.{Refusal}
 use Rattle.fmath.specs.Answer.{some_lent_not_finite}
@@ -95,7 +95,7 @@ module _ (f : Format) (c : FuseConfig) (tabs : Tables) (p v rows : List Float) (
     abbrev before : List Judged
     before = config_judged f c tabs ++ (sizes ++ later)
 
-    pub before_is : {n s q i r : ℕ} → n ≡ refusal (config_judged f c tabs) → s ≡ refusal sizes → q ≡ refusal later → i ≡ or_later s q → r ≡ or_later n i → r ≡ refusal before
+    pub before_is : {n s q i r : Result ⊤ Refusal} → n ≡ judged_by (refusal (config_judged f c tabs)) → s ≡ judged_by (refusal sizes) → q ≡ judged_by (refusal later) → i ≡ or_later s q → r ≡ or_later n i → r ≡ judged_by (refusal before)
     before_is en es eq ei er = joined (config_judged f c tabs) (sizes ++ later) en (joined sizes later es eq ei) er
 
     -- what is known where nothing is refused yet

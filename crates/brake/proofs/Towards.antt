@@ -9,8 +9,8 @@ use borrow.Author.Tests.{ne_eqb, ltb-false, le-leb}
 use lib.Dec.{eqb, ltb}
 use lib.ListN.{length}
 use lib.Ieee.{Float, Format}
-use Rattle.refusal.specs.Order.{Judged, short, not_finite, computed, ◌when◌, refusal, or_later, refused_for}
-use Rattle.std.specs.Prelude.{if◌then◌else◌, Err, Result}
+use Rattle.refusal.specs.Order.{Judged, short, not_finite, computed, ◌when◌, refusal, or_later, judged_by, refused_for}
+use Rattle.std.specs.Prelude.{if◌then◌else◌, Err, Result, ⊤}
 use Rattle.refusal.specs.Chain.{chain, joined, first_refuses, first_passes, both_pass, passes_at}
 use Rattle.refusal.specs.declared.Refusal.{Refusal}
 use Rattle.refusal.proofs.Entry.{left_kept}
@@ -51,8 +51,8 @@ module _ (f : Format) (c : FuseConfig) (tabs : Tables) (a p v : List Float) (n :
     abbrev pub before : List Judged
     before = config_judged f c tabs ++ run_lent f c a p v n room
 
-    pub before_is : {k lent nums r : ℕ} {s u : Bool} → k ≡ refusal (config_judged f c tabs) → lent ≡ (if s then 11 else nums) → s ≡ brief → nums ≡ (if u then 12 else 0) → u ≡ unfit → r ≡ or_later k lent → r ≡ refusal before
-    before_is ek el es en eu er = joined (config_judged f c tabs) (run_lent f c a p v n room) ek (el ∙ rw (es, en, eu)) er
+    pub before_is : {k lent r : Result ⊤ Refusal} {s u : Bool} → k ≡ judged_by (refusal (config_judged f c tabs)) → lent ≡ judged_by (if s then 11 else (if u then 12 else 0)) → s ≡ brief → u ≡ unfit → r ≡ or_later k lent → r ≡ judged_by (refusal before)
+    before_is ek el es eu er = joined (config_judged f c tabs) (run_lent f c a p v n room) ek (el ∙ rw (es, eu)) er
 
     -- what is known where nothing is refused yet
     pub lends : refusal before ≡ 0 → Lends c (length a) (length p) (length v) n room

@@ -1,9 +1,9 @@
 // The brake's entries: the stopping forecast, a run under one setpoint, and the rows that brake and hold.
 #![tactic(auto)]
 
-ghost use Rattle.std.specs.Prelude.{◌≡◌, true, ◌++◌, suc, ◌≤◌, length};
+ghost use Rattle.std.specs.Prelude.{◌≡◌, true, ◌++◌, suc, ◌≤◌, length, if◌then◌else◌};
 ghost use Rattle.std.specs.Float.{binary64};
-ghost use Rattle.refusal.specs.Order.{refusal};
+ghost use Rattle.refusal.specs.Order.{judged_by, refusal};
 ghost use Rattle.chunk.specs.Refusals.{chunk_reasons};
 ghost use Rattle.conformal.specs.Rule.{Tables};
 ghost use Rattle.conformal.specs.Of.{tables};
@@ -211,7 +211,15 @@ fn too_short(pos_dim: usize, pos: usize, vel: usize, count: usize, room: usize) 
     (pos < pos_dim) | (vel < pos_dim) | (room < count)
 }
 
-// The number for what is lent: 10, then 11, then 12.
+// Why what is lent is refused: by 11 where it is too short, else by 12 where some number is not finite.
+fn lengths_and_numbers(short: bool, unfit: bool) -> Result<(), Refusal>
+    ensures { result ≡ judged_by (if short then 11 else (if unfit then 12 else 0)) }
+{
+    Refusal::when(Refusal::SHORT, short)?;
+    Refusal::when(Refusal::NOT_FINITE, unfit)
+}
+
+// Why what is lent with a forecast is refused: by 10, then by 11, then by 12.
 fn lent_refusal(
     c: FuseConfig,
     pos: &[f64],
@@ -220,33 +228,32 @@ fn lent_refusal(
     header: Header,
     from: usize,
     room: usize,
-) -> u8
-    ensures { result ≡ refusal (lent_judged binary64 c pos.now vel.now rows.now header from room) }
+) -> Result<(), Refusal>
+    ensures { result ≡ judged_by (refusal (lent_judged binary64 c pos.now vel.now rows.now header from room)) }
 {
     let count = entries(c.brake, from);
     let short = too_short(c.pos_dim, pos.len(), vel.len(), count, room);
     let unfit = fmath::some_not_finite(pos, vel, rows);
-    let numbers = Refusal::when(Refusal::NOT_FINITE, unfit, 0);
-    let lengths = Refusal::when(Refusal::SHORT, short, numbers);
-    Refusal::when(Refusal::WIDTH, header.dim as usize != c.dim, lengths)
+    let width = Refusal::when(Refusal::WIDTH, header.dim as usize != c.dim);
+    Refusal::or_later(width, lengths_and_numbers(short, unfit))
 }
 
-// The number before anything is computed: the configuration's own, then the sizes', then that of what is lent; 0 where there is none.
+// Why a forecast is refused before anything is computed: by what is judged of its configuration, then by the sizes, then by what is lent.
 fn forecast_refusal(
     c: FuseConfig,
-    number: u8,
+    config: Result<(), Refusal>,
     pos: &[f64],
     vel: &[f64],
     rows: &[f64],
     header: Header,
     from: usize,
     room: usize,
-) -> u8
-    ensures { (t : Tables) → number ≡ refusal (config_judged binary64 c t) → result ≡ refusal (config_judged binary64 c t ++ (chunk_reasons header (length rows.now) ++ lent_judged binary64 c pos.now vel.now rows.now header from room)) }
+) -> Result<(), Refusal>
+    ensures { (t : Tables) → config ≡ judged_by (refusal (config_judged binary64 c t)) → result ≡ judged_by (refusal (config_judged binary64 c t ++ (chunk_reasons header (length rows.now) ++ lent_judged binary64 c pos.now vel.now rows.now header from room))) }
 {
     let sizes = chunk::chunk_refusal(header, rows.len());
     let lent = lent_refusal(c, pos, vel, rows, header, from, room);
-    Refusal::or_later(number, Refusal::or_later(sizes, lent))
+    Refusal::or_later(config, Refusal::or_later(sizes, lent))
 }
 
 // Whether the arm can still stop inside its workspace: from row `from` through the committed rows and the braking after them. The slack
@@ -267,10 +274,7 @@ pub fn brake_feasible(
 {
     let compiled = envelope::compile(c, center, scale);
     let room = slack.len();
-    let number = forecast_refusal(c, compiled.number, pos, vel, rows, header, from, room);
-    if number != 0 {
-        return Err(Refusal::of(number));
-    }
+    forecast_refusal(c, compiled.judged, pos, vel, rows, header, from, room)?;
     let shape = c.shape;
     let w = workspace_of(shape, compiled.derived);
     forecast(c, w, pos, vel, rows, header, from, slack)
@@ -291,24 +295,22 @@ fn law_of(kind: BrakeKind) -> Law
     }
 }
 
-// The number before anything is computed: the configuration's own, then 11, then 12; 0 where there is none.
+// Why a run is refused before anything is computed: by what is judged of its configuration, then by 11, then by 12.
 fn run_refusal(
     c: FuseConfig,
-    number: u8,
+    config: Result<(), Refusal>,
     setpoint: &[f64],
     pos: &[f64],
     vel: &[f64],
     n: usize,
     room: usize,
-) -> u8
-    ensures { (t : Tables) → number ≡ refusal (config_judged binary64 c t) → result ≡ refusal (config_judged binary64 c t ++ run_lent binary64 c setpoint.now pos.now vel.now n room) }
+) -> Result<(), Refusal>
+    ensures { (t : Tables) → config ≡ judged_by (refusal (config_judged binary64 c t)) → result ≡ judged_by (refusal (config_judged binary64 c t ++ run_lent binary64 c setpoint.now pos.now vel.now n room)) }
 {
     let brief = too_short(c.pos_dim, pos.len(), vel.len(), n, room);
     let short = (setpoint.len() < c.dim) | brief;
     let unfit = fmath::some_not_finite(setpoint, pos, vel);
-    let numbers = Refusal::when(Refusal::NOT_FINITE, unfit, 0);
-    let lent = Refusal::when(Refusal::SHORT, short, numbers);
-    Refusal::or_later(number, lent)
+    Refusal::or_later(config, lengths_and_numbers(short, unfit))
 }
 
 // The run itself, where nothing that is lent is refused.
@@ -361,10 +363,7 @@ pub fn run_towards(
 {
     let compiled = envelope::compile(c, center, scale);
     let room = slack.len();
-    let number = run_refusal(c, compiled.number, setpoint, pos, vel, n, room);
-    if number != 0 {
-        return Err(Refusal::of(number));
-    }
+    run_refusal(c, compiled.judged, setpoint, pos, vel, n, room)?;
     let shape = c.shape;
     let w = workspace_of(shape, compiled.derived);
     let run = run_of(c, w, setpoint, pos, vel, n, slack);
@@ -545,15 +544,19 @@ fn last_unfit(gripper: Gripper, last: &[f64]) -> bool
     }
 }
 
-// The number for a row before it is computed: the configuration's own, then 11, then 12; 0 where there is none.
-fn row_refusal(c: FuseConfig, number: u8, unfit: bool, room: usize, given: usize) -> u8
-    ensures { (t : Tables) → number ≡ refusal (config_judged binary64 c t) → result ≡ refusal (config_judged binary64 c t ++ row_lent c unfit room given) }
+// Why a row is refused before it is computed: by what is judged of its configuration, then by 11, then by 12.
+fn row_refusal(
+    c: FuseConfig,
+    config: Result<(), Refusal>,
+    unfit: bool,
+    room: usize,
+    given: usize,
+) -> Result<(), Refusal>
+    ensures { (t : Tables) → config ≡ judged_by (refusal (config_judged binary64 c t)) → result ≡ judged_by (refusal (config_judged binary64 c t ++ row_lent c unfit room given)) }
 {
     let gripper = c.gripper;
     let short = (room < c.dim) | (takes_last(gripper) & (given < c.dim));
-    let numbers = Refusal::when(Refusal::NOT_FINITE, unfit, 0);
-    let lent = Refusal::when(Refusal::SHORT, short, numbers);
-    Refusal::or_later(number, lent)
+    Refusal::or_later(config, lengths_and_numbers(short, unfit))
 }
 
 // The row that brakes, written over the output's first dim numbers, and which walls moved it, on the first min(dim, pos_dim) axes. The last
@@ -574,18 +577,13 @@ pub fn brake_action(
     let gripper = c.gripper;
     let measured = !fmath::all_finite(pos, pos.len()) | !fmath::all_finite(vel, vel.len());
     let unfit = measured | last_unfit(gripper, last);
-    let number = row_refusal(c, compiled.number, unfit, out.len(), last.len());
-    if number != 0 {
-        return Err(Refusal::of(number));
-    }
+    row_refusal(c, compiled.judged, unfit, out.len(), last.len())?;
     let shape = c.shape;
     let w = workspace_of(shape, compiled.derived);
     let kind = c.kind;
     let made = brake_row(kind, c.limits.a_max, c.limits.dt, w, pos, vel, c.dim);
     let row = sent_row(gripper, kind, c.pos_dim, last, made, c.dim);
-    if !row.sound {
-        return Err(Refusal::of(Refusal::COMPUTED));
-    }
+    Refusal::when(Refusal::COMPUTED, !row.sound)?;
     let at = row.at;
     fmath::put(&at, c.dim, out);
     Ok(sent_masks(c, w, pos))
@@ -605,18 +603,13 @@ pub fn hold_action(
     let compiled = envelope::compile(c, center, scale);
     let gripper = c.gripper;
     let unfit = !fmath::all_finite(pos, pos.len()) | last_unfit(gripper, last);
-    let number = row_refusal(c, compiled.number, unfit, out.len(), last.len());
-    if number != 0 {
-        return Err(Refusal::of(number));
-    }
+    row_refusal(c, compiled.judged, unfit, out.len(), last.len())?;
     let shape = c.shape;
     let w = workspace_of(shape, compiled.derived);
     let kind = c.kind;
     let made = hold_row(kind, w, pos, c.dim);
     let held = sent_row(gripper, kind, c.pos_dim, last, made, c.dim);
-    if !held.sound {
-        return Err(Refusal::of(Refusal::COMPUTED));
-    }
+    Refusal::when(Refusal::COMPUTED, !held.sound)?;
     let row = held.at;
     fmath::put(&row, c.dim, out);
     Ok(sent_masks(c, w, pos))

@@ -13,4 +13,4 @@ unfolding run_short
 returns c t e =
     let g = c.args in
     let short = ap (λ (b : Bool). ltb (length g.setpoint.now) g.c.dim || b) c.too_short-brief.ensures in
-    before_is binary64 g.c t g.setpoint.now g.pos.now g.vel.now g.n g.room e c.when-lent.ensures short c.when-numbers.ensures c.some_not_finite-unfit.ensures c.or_later.ensures
+    before_is binary64 g.c t g.setpoint.now g.pos.now g.vel.now g.n g.room e c.lengths_and_numbers.ensures short c.some_not_finite-unfit.ensures c.or_later.ensures
