@@ -155,7 +155,7 @@ module _ (w : Walls) (p : List Float) (n : ℕ) {m : WallMasks} where
   position_masks = by_position (λ (k : ActionKind). m ≡ setpoint_masks w p n → m ≡ sent_masks k w p n) (λ e. e) (λ e. e) (λ e. e)
 
 -- the masks that are sent are those at the derived walls
-pub masks_are_sent : (f : Format) (c : FuseConfig) (p : List Float) {w : Workspace} {m : WallMasks} → w ≡ workspace_for f c → m ≡ sent_masks c.kind (walls_of w) p (live c) → Ok m ≡ Ok (masks_sent f c p)
+pub masks_are_sent : (f : Format) (c : FuseConfig) (p : List Float) {w : Workspace} {m : WallMasks} → w ≡ workspace_for f c → m ≡ sent_masks c.kind (walls_of w) p (live c) → ◌≡◌ {A = Result WallMasks Refusal} (Ok m) (Ok (masks_sent f c p))
 unfolding masks_sent
 masks_are_sent f c p ew em = rw (em, ew)
 

@@ -22,7 +22,7 @@ use Rattle.envelope.specs.declared.Box.{Box}
 use Rattle.envelope.specs.declared.BrakeModel.{BrakeModel}
 use Rattle.envelope.specs.declared.FuseConfig.{FuseConfig}
 use Rattle.workspace.specs.declared.Shape.TheVariants as shapes
-use Rattle.brake.specs.Answer.{forecast_answer, forecast_slacks, forecast_with}
+use Rattle.brake.specs.Answer.{forecast_answer, forecast_slacks}
 use Rattle.brake.specs.declared.BrakeOut.{BrakeOut}
 use Rattle.card.specs.declared.record.Card.{Card}
 use Rattle.card.specs.declared.desk.Answer.{Answer}

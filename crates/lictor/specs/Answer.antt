@@ -1,9 +1,6 @@
 -- What C is given of an answer: the number of the table (R0), 0 for an accepted call, and each place as it stands at exit. A refusal leaves the places as they were.
 use Rattle.workspace.specs.declared.WallMasks.{WallMasks}
-use Rattle.tier0.specs.Refusals.{passed_with}
 use Rattle.refusal.specs.declared.Refusal.{Refusal}
-use Rattle.brake.specs.Towards.{ran_with}
-use Rattle.brake.specs.Answer.{forecast_with}
 use Rattle.std.specs.Prelude.{ℕ, ◌≡◌, Bool, List, [], ◌∷◌, eqb, Float, if◌then◌else◌, Err, Ok, Result}
 use Rattle.chunk.specs.declared.Filled.{Filled}
 use Rattle.window.specs.declared.Recorded.{Recorded}

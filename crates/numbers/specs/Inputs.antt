@@ -1,6 +1,4 @@
 -- The inputs of the numbers on the wall that are proved (R10.7), and the whole answers that the definitions give for them. A float stands as its bits.
-use Rattle.tier0.specs.Refusals.{passed_with}
-use Rattle.brake.specs.Answer.{forecast_with}
 use Rattle.std.specs.Prelude.{ℕ, Bool, false, List, [], ◌∷◌, ◌++◌, map, replicate, Float, if◌then◌else◌, Err, Ok, Result}
 use Rattle.std.specs.Float.{binary64}
 use Rattle.std.specs.Float.Ieee.{to_bits}

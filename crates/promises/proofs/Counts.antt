@@ -10,7 +10,7 @@ use lib.Dec.{leb, ltb, eqb}
 use lib.Ieee.{Float}
 use Rattle.refusal.specs.Order.{refusal}
 use Rattle.std.specs.Prelude.{if◌then◌else◌}
-use Rattle.checked.specs.Each.{at, all, every, every_from}
+use Rattle.checked.specs.Each.{all, every, every_from}
 use Rattle.checked.proofs.Each.{and_left, and_right, all_at, all_same, all_fails, all_fails_at, every_at}
 use Rattle.chunk.specs.declared.Header.{Header}
 use Rattle.chunk.specs.Refusals.{held_reasons}
