@@ -1,10 +1,9 @@
 // Module 8: scores held against a calibration. Standardise, aggregate over the gate, trip strictly; and the time bin.
 #![tactic(auto)]
 
-ghost use Rattle.std.specs.Prelude.{◌≡◌, not, ◌<◌, ◌-◌, min, if◌then◌else◌};
+ghost use Rattle.std.specs.Prelude.{◌≡◌, not, ◌<◌, ◌-◌, min};
 ghost use Rattle.std.specs.Float.{binary64};
 ghost use Rattle.std.specs.Float.Ieee.{is_nan};
-ghost use Rattle.checked.specs.Least.{lesser, greater};
 ghost use Rattle.bits.specs.Bits.{bit};
 ghost use Rattle.refusal.specs.Order.{judged_by};
 ghost use Rattle.conformal.specs.Rule.{live, standard, standards, aggregate, fired_bits};
@@ -126,9 +125,9 @@ fn counted_terms(gate: GateSpec) -> Counted
     let n = gate.n_terms as usize;
     let mut named = true;
     let mut without_stall = true;
-    for i in 0..8 {
-        let stall = bit(gate.terms[i], Feat::STALL);
-        named = named & ((n <= i) | (gate.terms[i] < 4096));
+    for (i, &bits) in gate.terms.iter().enumerate() {
+        let stall = bit(bits, Feat::STALL);
+        named = named & ((n <= i) | (bits < 4096));
         without_stall = without_stall & ((n <= i) | !stall);
     }
     Counted {
@@ -245,7 +244,7 @@ fn standard(live: bool, x: f64, center: f64, scale: f64) -> Reckoned
 fn last_bin(bin: usize) -> usize
     ensures { result ≡ min bin 15 }
 {
-    if bin < 15 { bin } else { 15 }
+    bin.min(15)
 }
 
 // z of all features in a time bin.
@@ -297,24 +296,6 @@ pub fn standardise(
 
 // ---- aggregate
 
-// The least with z, where its feature is named.
-fn lesser_where(named: bool, least: f64, z: f64) -> f64
-    ensures { result ≡ (if named then lesser least z else least) }
-{
-    if named { fmath::min(least, z) } else { least }
-}
-
-// The greatest with a term's least, where the term counts.
-fn greater_where(counts: bool, most: f64, least: f64) -> f64
-    ensures { result ≡ (if counts then greater most least else most) }
-{
-    if counts {
-        fmath::max(most, least)
-    } else {
-        most
-    }
-}
-
 // Whether a term is live, and the least z of its features.
 fn term(bits: u32, mask: u32, valid: u32, z: &[f64; 12]) -> Joined
     ensures { result ≡ term_from (live mask valid) z.now bits }
@@ -327,7 +308,9 @@ fn term(bits: u32, mask: u32, valid: u32, z: &[f64; 12]) -> Joined
         let live = bit(mask, j) & bit(valid, j);
         some = some | named;
         every = every & (!named | live);
-        least = lesser_where(named, least, z[j]);
+        if named {
+            least = fmath::min(least, z[j]);
+        }
     }
     Joined {
         live: some & every,
@@ -341,9 +324,11 @@ fn greatest(gate: GateSpec, mask: u32, valid: u32, z: &[f64; 12]) -> f64
 {
     let n = gate.n_terms as usize;
     let mut s = -(1.0 / 0.0);
-    for i in 0..8 {
-        let t = term(gate.terms[i], mask, valid, z);
-        s = greater_where((i < n) & t.live, s, t.least);
+    for (i, &bits) in gate.terms.iter().enumerate() {
+        let t = term(bits, mask, valid, z);
+        if (i < n) & t.live {
+            s = fmath::max(s, t.least);
+        }
     }
     s
 }
@@ -406,7 +391,7 @@ pub fn trip(
 fn ticks_before(t: u32) -> u32
     ensures { result ≡ t - 1 }
 {
-    if t == 0 { 0 } else { t - 1 }
+    t.saturating_sub(1)
 }
 
 // The time bin of tick t, of 16 over the horizon. Ticks are numbered from 1; tick 0, which has no chunk, is in the first bin too.

@@ -1,5 +1,4 @@
--- norm and dist: they tell of each number on the way, they are a NaN where a coordinate is missing, and the loops that sum up end in them. A distance is a number of
--- the format.
+-- norm and dist: they tell of each number on the way, and they are a NaN where a coordinate is missing. A distance is a number of the format.
 use Prim.Native.Nat.{ℕ, ◌≤◌, ◌<◌}
 use mathlib.Core.Path.{◌≡◌, refl, sym, ap, ◌∙◌}
 use mathlib.Core.Bool.{Bool, true, false≢true}
@@ -9,7 +8,6 @@ use native.Mathlib.Decide.{dec_le}
 use lib.Dec.{T}
 use lib.ListN.{length, get_or-eq_default}
 use lib.Ieee.{Float, Format, nan, lt, sub, fits}
-use Rattle.root.specs.Root.{root_of}
 use Rattle.checked.specs.Each.{at}
 use Rattle.checked.specs.Finite.{finite, +0}
 use Rattle.checked.specs.Checked.{sum_from}
@@ -91,12 +89,3 @@ module _ (f : Format) where
           go' : Dec (n ≤ m) → n ≤ m
           go' (yes h) = h
           go' (no h) = absurd (false≢true (sym (ap (lt most) (e ∙ missing (lt_of_not-le h)) ∙ below_nan most) ∙ t))
-
-  -- the root at the end of a loop
-  pub norm_done : (v : List Float) (n i : ℕ) (s r : Float) → s ≡ (sum_from f +0 (square_at f v) i).value → i ≡ n → r ≡ root_of f s → r ≡ (norm f v n).value
-  unfolding norm
-  norm_done v n i s r e h g = rw (g, e, h)
-
-  pub dist_done : (a b : List Float) (n i : ℕ) (s r : Float) → s ≡ (sum_from f +0 (squared_gap f a b) i).value → i ≡ n → r ≡ root_of f s → r ≡ (dist f a b n).value
-  unfolding dist
-  dist_done a b n i s r e h g = rw (g, e, h)

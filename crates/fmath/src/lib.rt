@@ -1,11 +1,11 @@
 // The helpers on the decision path, for floats: tests, least, greatest, clamp, root, norm and dist; for counts and rows: fewer, put and padded.
 #![tactic(auto)]
 
-ghost use Rattle.std.specs.Prelude.{min, ◌≡◌, [], ◌∷◌, length};
+ghost use Rattle.std.specs.Prelude.{min, ◌≡◌, ◌<◌, ℕ, [], ◌∷◌, length};
 ghost use Rattle.std.specs.Float.{binary64};
 ghost use Rattle.checked.specs.Each.{at, over};
 ghost use Rattle.checked.specs.Row.{padded};
-ghost use Rattle.fmath.specs.Norm.{norm, dist};
+ghost use Rattle.fmath.specs.Norm.{norm, dist, RootOfSquares};
 ghost use Rattle.fmath.specs.Answer.{some_lent_not_finite, sqrt_answer, norm_answer, dist_answer};
 ghost use Rattle.checked.specs.Finite.{finite, above_zero, not_below_zero, all_finite, all_above_zero};
 ghost use Rattle.checked.specs.Least.{lesser, greater};
@@ -67,7 +67,7 @@ pub fn some_not_finite(a: &[f64], b: &[f64], c: &[f64]) -> bool
 }
 
 // Each of the first n numbers is there, is finite and is above zero. Each test has its own running answer, which is what
-// lets the compiled loop be quick.
+// lets the compiled loop be quick: one function for this and `all_finite`, over a closure, was tried, and slower than this form.
 pub fn all_above_zero(v: &[f64], n: usize) -> bool
     ensures { result ≡ all_above_zero v.now n }
 {
@@ -87,7 +87,7 @@ pub fn all_above_zero(v: &[f64], n: usize) -> bool
 pub fn fewer(a: usize, b: usize) -> usize
     ensures { result ≡ min a b }
 {
-    if b < a { b } else { a }
+    a.min(b)
 }
 
 // Writes the first n numbers of from over the first of out, as many as both have; the rest of out stays.
@@ -152,6 +152,19 @@ pub fn sqrt(x: f64) -> Result<f64, Refusal>
     Err(Refusal::of(Refusal::COMPUTED))
 }
 
+// The root of the squares of n numbers, summed in their order.
+fn root_of_squares<F: Fn(usize) -> f64>(n: usize, side: F) -> f64
+    requires { (j : ℕ) → j < n → F.pre side j }
+    ensures { RootOfSquares (F.post side) n result }
+{
+    let mut s = 0.0;
+    for j in 0..n {
+        let d = side(j);
+        s += d * d;
+    }
+    root::sqrt(s)
+}
+
 // The length of the first n coordinates. It is finite exactly where each number on the way to it is, and a NaN where there are fewer.
 pub fn magnitude(v: &[f64], n: usize) -> f64
     ensures { result ≡ (norm binary64 v.now n).value }
@@ -159,11 +172,7 @@ pub fn magnitude(v: &[f64], n: usize) -> f64
     if v.len() < n {
         return 0.0 / 0.0;
     }
-    let mut s = 0.0;
-    for c in 0..n {
-        s += v[c] * v[c];
-    }
-    root::sqrt(s)
+    root_of_squares(n, |j| v[j])
 }
 
 // The distance over the first n coordinates, likewise.
@@ -176,12 +185,7 @@ pub fn distance(a: &[f64], b: &[f64], n: usize) -> f64
     if b.len() < n {
         return 0.0 / 0.0;
     }
-    let mut s = 0.0;
-    for j in 0..n {
-        let d = a[j] - b[j];
-        s += d * d;
-    }
-    root::sqrt(s)
+    root_of_squares(n, |j| a[j] - b[j])
 }
 
 // The length of the first n coordinates; 11 where there are fewer, 12 where any number of the slice is not finite, 13 where a computed one is not.

@@ -14,4 +14,4 @@ abbrev pub SoFar : (ℕ → Bool) → GateSpec → ℕ → ℕ → Bool
 SoFar p gate n i = all (λ (k : ℕ). leb n k || p (term_at gate k)) i
 
 abbrev pub invariant-loop-i : goal.invariant-loop-i
-invariant-loop-i l = (l.named ≡ SoFar named l.gate l.n l.i) × (l.without_stall ≡ SoFar without_stall_of l.gate l.n l.i)
+invariant-loop-i l = (l.named ≡ SoFar named l.fn.gate l.n l.i) × (l.without_stall ≡ SoFar without_stall_of l.fn.gate l.n l.i)
