@@ -133,12 +133,9 @@ fn slowest(dt: f64, absent_camera: AbsentCamera, zones: Zones, pos: &[f64], aux:
     let list = zones.list;
     let n = envelope::counted(zones);
     let mut found = no_zone();
-    for k in 0..n {
-        let slot = list[k];
-        let contact = slot.contact;
-        let z = zone_in(dt, absent_camera, contact, pos, aux);
-        let next = slower(found, z);
-        found = next;
+    for slot in &list[..n] {
+        let z = zone_in(dt, absent_camera, slot.contact, pos, aux);
+        found = slower(found, z);
     }
     found
 }

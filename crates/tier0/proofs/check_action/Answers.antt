@@ -17,8 +17,5 @@ judge_action-v-requires c = let g = c.args in sized_checks binary64 g.c g.a.now 
 pub returns-then-not-v : goal.returns-then-not-v
 returns-then-not-v c = let g = c.args in not_sound binary64 g.c (tables g.center.now g.scale.now) g.pos.now g.aux.now g.prev.now g.a.now g.out.now (sym (c.action_refusal-number.ensures _ (compiled_number c.compile-compiled.ensures)) ∙ c.if-number-ne0.false) (checks_are binary64 g.c c.checks_of-s.ensures (compiled_derived c.compile-compiled.ensures)) c.judge_action-v.ensures (not-true _ c.if-not-v.true) c.of-then-not-v.ensures
 
-pub slice_bounds-put-end : goal.slice_bounds-put-end
-slice_bounds-put-end c = let ok = c.judge_action-v.type_inv in search rules
-
 pub returns : goal.returns
 returns c = let g = c.args in let w = passes binary64 g.c (tables g.center.now g.scale.now) g.pos.now g.aux.now g.prev.now g.a.now g.out.now (sym (c.action_refusal-number.ensures _ (compiled_number c.compile-compiled.ensures)) ∙ c.if-number-ne0.false) (checks_are binary64 g.c c.checks_of-s.ensures (compiled_derived c.compile-compiled.ensures)) c.judge_action-v.ensures (not-false _ c.if-not-v.false) c.put.ensures (let ok = c.judge_action-v.type_inv in search rules) in (c.found.ensures ∙ w.0, w.1)
