@@ -1,12 +1,12 @@
 -- An action: what is known where nothing that is lent is refused, and the whole answer in each case.
 use Rattle.std.specs.Prelude.{Err, Result}
-use Prim.Native.Nat.{ℕ, ◌≤◌, ◌<◌, min}
+use Prim.Native.Nat.{ℕ, ◌≤◌, min}
 use mathlib.Core.Path.{◌≡◌, refl, ap, ◌∙◌}
-use mathlib.Core.Bool.{Bool, true, false, not, ◌&&◌, ◌||◌}
+use mathlib.Core.Bool.{Bool, true, false, not, ◌||◌}
 use mathlib.Core.List.{List, [], ◌∷◌, ◌++◌}
 use native.Mathlib.Nat.{le_trans}
-use borrow.Author.Tests.{ltb-true, ltb-false}
-use lib.Dec.{leb, ltb}
+use borrow.Author.Tests.{ltb-false}
+use lib.Dec.{ltb}
 use lib.ListN.{length}
 use lib.Ieee.{Float, Format}
 use Rattle.refusal.specs.Order.{Judged, short, not_finite, computed, ◌when◌, refusal, refused_for}
@@ -18,7 +18,7 @@ use Rattle.fmath.specs.Answer.{some_lent_not_finite}
 use Rattle.checked.specs.Each.{at, over}
 use Rattle.checked.proofs.Copy.{all_put}
 use Rattle.checked.specs.Checked.{Checked}
-use Rattle.checked.proofs.Each.{and_left, and_right, neither}
+use Rattle.checked.proofs.Each.{neither}
 use Rattle.conformal.specs.Rule.{Tables}
 use Rattle.workspace.specs.Shape.{spans}
 use Rattle.envelope.specs.Derive.{derived}
@@ -30,14 +30,9 @@ use Rattle.envelope.proofs.Accepted.{accepted, dim_most}
 use Rattle.tier0.specs.declared.Tier0Out.{Tier0Out}
 use Rattle.tier0.specs.declared.Checks.{Checks}
 use Rattle.tier0.specs.declared.JudgedAction.{JudgedAction}
-use Rattle.tier0.specs.Rule.{Judgement, seen, check_action}
+use Rattle.tier0.specs.Rule.{Judgement, check_action}
 use Rattle.tier0.specs.Refusals.{too_short, passed_for, passed_with}
 use Rattle.tier0.specs.Of.{checks_from, checks_of, judged_action_from, lent_to_action, action_ruling, action_refusal, action_answer, action_out}
-
-pub seen_parts : (p aux : List Float) (i j : ℕ) → seen p aux i j ≡ true → (i < length aux) × (j < length aux)
-seen_parts p aux i j e =
-    let t = and_right (leb 2 (length p)) (ltb i (length aux) && ltb j (length aux)) e in
-    (ltb-true _ _ (and_left (ltb i (length aux)) _ t), ltb-true _ _ (and_right (ltb i (length aux)) _ t))
 
 -- ---- what is known of an accepted call
 

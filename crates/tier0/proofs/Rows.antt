@@ -4,7 +4,6 @@ use mathlib.Core.Path.{◌≡◌, refl, sym, ap, ◌∙◌}
 use mathlib.Core.Bool.{Bool, true, false, ◌&&◌, ◌||◌, and-true}
 use mathlib.Core.List.{List}
 use native.Mathlib.Numerals.{add-one}
-use native.Mathlib.Nat.{mul-le-mul_right}
 use native.Mathlib.Omega.{arith}
 use borrow.Author.Tests.{ne_eqb}
 use lib.Bits.{bit_or}
@@ -21,7 +20,6 @@ use Rattle.checked.proofs.Each.{all_more, some_more}
 use Rattle.checked.proofs.Extremes.{greatest_more}
 use Rattle.checked.proofs.Told.{Tells, implied}
 use Rattle.fmath.proofs.Lengths.{dist_tells, norm_tells}
-use Rattle.chunk.proofs.Rows.{row_fits}
 use Rattle.workspace.specs.declared.WallMasks.{WallMasks}
 use Rattle.envelope.specs.declared.ClampMode.{ClampMode}
 use Rattle.envelope.specs.declared.ClampMode.TheVariants as M
@@ -40,10 +38,6 @@ use Rattle.tier0.specs.Of.{slow_of, zone_from, steps_from, run_from, moved_rows_
 use Rattle.checked.specs.Of.{row_from, test_from}
 
 -- ---- one row
-
--- every row before one that lies in the rows lies in them
-pub earlier_fits : (i j n len : ℕ) → i ≤ j → j * n + n ≤ len → i * n + n ≤ len
-earlier_fits i j n len l b = let w = mul-le-mul_right {m = i} {n = j} n l in omega arith
 
 pub put_turn : (r l m : List Float) (k i : ℕ) → m ≡ put_row r l k i → set m (k + i) (at r i) ≡ put_row r l k (i + 1)
 unfolding put_row
@@ -102,14 +96,11 @@ exceeds_is f g n inv most {d} {v} {k} ed ev ek =
 
 -- ---- loops over the rows
 
--- one turn of a loop over a checked test, and its end
+-- one turn of a loop over a checked test
 pub some_turn : (g : ℕ → Checked Bool) (i : ℕ) (b k : Bool) (t : Test) → (b ≡ (some_of g i).value) × (k ≡ (some_of g i).sound) → t ≡ test_from (g i)
     → ((b || t.holds) ≡ (some_of g (i + 1)).value) × ((k && t.sound) ≡ (some_of g (i + 1)).sound)
 unfolding some_of
 some_turn g i b k t h e = (some_more (λ (j : ℕ). (g j).value) i b t.holds h.0 (ap (λ (x : Test). x.holds) e), all_more (λ (j : ℕ). (g j).sound) i k t.sound h.1 (ap (λ (x : Test). x.sound) e))
-
-pub some_found : (g : ℕ → Checked Bool) {i n : ℕ} {b k : Bool} → i ≡ n → (b ≡ (some_of g i).value) × (k ≡ (some_of g i).sound) → ◌≡◌ {A = Test} (record { holds = b; sound = k }) (test_from (some_of g n))
-some_found g e h = rw (← e, h.0, h.1)
 
 pub trips_some : (d : Difference) → 0 < trip_of d
 trips_some D.Accel = omega arith
@@ -124,17 +115,10 @@ module _ (f : Format) (s : Checks) (d : Difference) (q rows : List Float) (h : �
   unfolding too_large
   large_on e g u = rw (sym e ∙ g) u
 
--- a difference reads few rows, and all that it reads lie in the rows
+-- a difference reads few rows
 pub reads_few : (d : Difference) → further d ≤ 2
 reads_few D.Accel = omega arith
 reads_few D.Jerk = omega arith
-
-module _ {d : Difference} (i n len : ℕ) (few : i + further d < 64) (b : (i + further d) * n + n ≤ len) where
-  pub accel_fits : d ≡ D.Accel → (i < 63) × (i * n + n ≤ len) × ((i + 1) * n + n ≤ len)
-  accel_fits e = let l = rw e at few in let w = rw e at b in (omega arith, earlier_fits i (i + 1) n len (omega arith) w, w)
-
-  pub jerk_fits : d ≡ D.Jerk → (i < 62) × (i * n + n ≤ len) × ((i + 1) * n + n ≤ len) × ((i + 2) * n + n ≤ len)
-  jerk_fits e = let l = rw e at few in let w = rw e at b in (omega arith, earlier_fits i (i + 2) n len (omega arith) w, earlier_fits (i + 1) (i + 2) n len (omega arith) w, w)
 
 -- what the loop over the projected rows keeps
 pub record Kept (x : Checked Run) (q out : List Float) (mask : ℕ) (ok : Bool) : Type 0 where
@@ -171,10 +155,6 @@ module _ (f : Format) (s : Checks) (z : Slow) (p rows q₀ l₀ : List Float) wh
         all = value_turn i x _ h.all (rw (ek, em, er, ea));
         flag = sound_turn i x ok r.sound h.all h.flag (rw (er, ea, and-true));
       }
-
-  pub ran : {h i : ℕ} {q l : List Float} {mask : ℕ} {ok : Bool} → i ≡ h → Kept (run i) q l mask ok
-      → (◌≡◌ {A = MovedRows} (record { mask = mask; sound = ok }) (run_from (run h))) × (l ≡ (run h).value.out)
-  ran e k = (rw (← e, ← k.all, ← k.flag), rw (← e, ← k.all))
 
 -- what the loop over the steps keeps
 pub record Strode (f : Format) (s : Checks) (slow : Float) (q rows : List Float) (i : ℕ) (peak : Float) (fast close out told ok : Bool) : Type 0 where
@@ -260,7 +240,3 @@ pub judge_chunk_is : (f : Format) (s : Checks) (p aux rows l : List Float) (h : 
     (judged_chunk_from (check_chunk f s p aux rows l h))) × (m ≡ (check_chunk f s p aux rows l h).value.after.rows)
 unfolding check_chunk
 judge_chunk_is f s p aux rows l h ez eq et ek eb ej e1 ef es ew ec em = (rw (em, ew, ec.0, ef, e1, ej, eb, es, ek, et, eq, ez, and-true), ec.1 ∙ rw (eq, ez))
-
--- the first row lies in the rows
-pub first_fits : (h n len : ℕ) → 0 < h → h * n ≤ len → n ≤ len
-first_fits h n len l b = let w = row_fits 0 h n len l b in omega arith

@@ -10,7 +10,6 @@ use borrow.Author.Tests.{not-true, not-false}
 use lib.Ieee.{Float, Format, mul, lt, le}
 use Rattle.checked.specs.Each.{at}
 use Rattle.checked.specs.Finite.{finite, +0}
-use Rattle.checked.specs.Least.{lesser}
 use Rattle.checked.specs.Row.{padded}
 use Rattle.checked.specs.Checked.{pure}
 use Rattle.fmath.specs.Norm.{dist}
@@ -95,17 +94,6 @@ module _ (f : Format) (dt : Float) (choice : AbsentCamera) (z : Option Zone) (p 
     unfolding zone_in
     zone_outside h = rw (e, sym (ap (λ (x : Test). x.holds) is) ∙ h, ap (λ (x : Test). x.sound) is, and-true)
 
--- two findings together
-module _ (a b : SlowZone) where
-  pub slower_outside : a.inside ≡ false → ◌≡◌ {A = SlowZone} (record { inside = b.inside; step = b.step; sound = a.sound && b.sound }) (slower_of a b)
-  slower_outside e = rw e
-
-  pub slower_both : a.inside ≡ true → b.inside ≡ true → {m : Float} → m ≡ lesser a.step b.step → ◌≡◌ {A = SlowZone} (record { inside = true; step = m; sound = a.sound && b.sound }) (slower_of a b)
-  slower_both e h q = rw (e, h, q)
-
-  pub slower_first : a.inside ≡ true → b.inside ≡ false → ◌≡◌ {A = SlowZone} (record { inside = true; step = a.step; sound = a.sound && b.sound }) (slower_of a b)
-  slower_first e h = rw (e, h)
-
 -- one turn of the loop over the zones
 module _ (f : Format) (dt : Float) (choice : AbsentCamera) (zone : ℕ → Option Zone) (p aux : List Float) where
   pub none_asked : {z : SlowZone} → z ≡ zone_from (pure clear) → z ≡ zone_from (slowest f dt choice zone p aux 0)
@@ -148,13 +136,6 @@ module _ (f : Format) (s : Checks) (z : Slow) (prev a : List Float) {k : Bool} (
   leashed_on h p q = rw (ap (λ (b : Bool). b || z.inside) (sym e) ∙ h) (rw (p, e) at q)
 
 -- ---- the three moves
-
-module _ (f : Format) (s : Checks) (z : Slow) (p q a : List Float) {l : Row} (el : l ≡ row_from (leashed f s z q a)) {t : Bool} where
-  pub first_row : t ≡ true → {r : Row} → r ≡ row_from (reached f s p l.at) → ◌≡◌ {A = Row} (record { at = r.at; sound = l.sound && r.sound }) (row_from (pulls f s z p t q a))
-  first_row e er = rw (e, er, el)
-
-  pub later_row : t ≡ false → l ≡ row_from (pulls f s z p t q a)
-  later_row e = rw (e, el, and-true)
 
 module _ (f : Format) (s : Checks) (z : Slow) (p q a : List Float) (t : Bool) {b r : Row} (eb : b ≡ row_from (moved_inside f s a)) (er : r ≡ row_from (pulls f s z p t q b.at)) where
   pub moved_row : ◌≡◌ {A = Row} (record { at = r.at; sound = b.sound && r.sound }) (row_from (moves f s z p t q a))

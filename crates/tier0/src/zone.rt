@@ -130,8 +130,8 @@ fn slowest(dt: f64, absent_camera: AbsentCamera, zones: Zones, pos: &[f64], aux:
     let list = zones.list;
     let n = envelope::counted(zones);
     let mut found = no_zone();
-    for k in 0..n {
-        let z = zone_in(dt, absent_camera, list[k], pos, aux);
+    for slot in &list[..n] {
+        let z = zone_in(dt, absent_camera, *slot, pos, aux);
         found = slower(found, z);
     }
     found

@@ -28,18 +28,8 @@ use Rattle.tier1.proofs.Tells.{Shows, Tell, shown, pure_shows, finite_neg, plus_
 -- ---- features that are there or not
 
 module _ (x : Checked Float) {t : Bool} {r : Reckoned} where
-  pub not_there : t ≡ false → r ≡ reckoned_from (pure +0) → r ≡ reckoned_from (if_there t x)
-  not_there e h = rw e h
-
   pub is_there : t ≡ true → r ≡ reckoned_from x → r ≡ reckoned_from (if_there t x)
   is_there e h = rw e h
-
-module _ (x y : Checked Float) {t : Bool} {r : Pair} where
-  pub neither_there : t ≡ false → r ≡ pair_from (pure +0) (pure +0) → r ≡ pair_from (if_there t x) (if_there t y)
-  neither_there e h = rw e h
-
-  pub both_there : t ≡ true → r ≡ pair_from x y → r ≡ pair_from (if_there t x) (if_there t y)
-  both_there e h = rw e h
 
 a_feature : (x : Checked Float) {v : Float} {k : Bool} → v ≡ x.value → k ≡ x.sound → ◌≡◌ {A = Reckoned} (record { value = v; sound = k }) (reckoned_from x)
 a_feature x e h = rw (e, h)

@@ -9,7 +9,6 @@ use lib.Dec.{leb, ltb, eqb}
 use lib.Ieee.{Float, Format}
 use Rattle.std.specs.Prelude.{if◌then◌else◌}
 use Rattle.checked.specs.Each.{at}
-use Rattle.checked.specs.Finite.{+0}
 use Rattle.bits.specs.Bits.{bit, bits_where}
 use Rattle.envelope.specs.Derive.{kept}
 use Rattle.window.specs.declared.Trail.{Trail}
@@ -70,9 +69,6 @@ module _ (held len ext j : ℕ) where
   valid_lent g h i = rw (le-ltb j 6 g, le-ltb j 7 h, le-ltb j 8 i)
 
 module _ (held : List Float) (ineff : Float) (ext : List Float) (j : ℕ) (on : Bool) where
-  pub not_valid : on ≡ false → +0 ≡ kept on (value_at held ineff ext j)
-  not_valid e = rw e
-
   module _ (e : on ≡ true) where
     pub value_held : j < 6 → at held j ≡ kept on (value_at held ineff ext j)
     unfolding value_at

@@ -15,9 +15,7 @@ use Rattle.fmath.specs.Norm.{dist}
 use Rattle.checked.proofs.Each.{all_more}
 use Rattle.checked.proofs.Extremes.{greatest_more}
 use Rattle.fmath.proofs.Lengths.{dist_tells}
-use Rattle.checked.specs.declared.Reckoned.{Reckoned}
 use Rattle.tier1.specs.Rule.{row, sum_rows, stride, peak}
-use Rattle.checked.specs.Of.{reckoned_from}
 
 -- what is left from where a row starts is at least as long as the row
 pub row_long : (i d : ℕ) (l : List Float) {r : List Float} → i * d + d ≤ length l → r ≡ drop (i * d) l → d ≤ length r
@@ -49,6 +47,3 @@ module _ (f : Format) (d : ℕ) (q b : List Float) where
     g ∙ greatest_more +0 (λ (j : ℕ). (stride f d q b j).value) (i + 1) m x w.0 (e ∙ (later i).0),
     all_more (λ (j : ℕ). (stride f d q b j).sound) (i + 1) k t w.1 (h ∙ ap finite e ∙ sym (dist_tells f (row b d (i + 1)) (row b d i) d) ∙ (later i).1),
   )
-
-  pub peak_is : (i h : ℕ) {m : Float} {k : Bool} → i ≡ h → Peaks i m k → ◌≡◌ {A = Reckoned} (record { value = m; sound = k }) (reckoned_from (peak f d q b h))
-  peak_is i h e w = rw (← e, w.0, w.1)

@@ -1,5 +1,5 @@
 -- The state after a chunk and the whole answer, from their parts.
-use Prim.Native.Nat.{ℕ, zero, suc, ◌*◌, ◌≤◌, ◌<◌}
+use Prim.Native.Nat.{ℕ, zero, suc, ◌≤◌}
 use mathlib.Core.Path.{◌≡◌, refl, sym, ap, ◌∙◌}
 use mathlib.Core.Bool.{Bool, true, false, not, ◌&&◌, ◌||◌, and-true}
 use mathlib.Core.List.{List, [], ◌∷◌}
@@ -84,13 +84,6 @@ module _ (fm : Format) (m : Manifest) (p : List Float) (k : Header) (rows : List
           }
       go true = refl
       go false = refl
-
-  -- what the features of a chunk ask for
-  pub chunk_fits : m.dim ≤ 8 → (refusal (lent_reasons rows k) ≡ 0) × (k.dim ≡ m.dim) → (m.dim ≤ 8) × ((0 < k.horizon) × ((k.horizon ≤ 64) × (k.horizon * m.dim ≤ length rows)))
-  chunk_fits n w =
-      let a = (lent_accepted rows k w.0).0 in
-      let e : length rows ≡ k.horizon * m.dim = rw w.1 at a.all_there in
-      (n, (a.some_rows, (a.not_long, omega arith)))
 
 -- the manifest reads what is derived
 pub manifest_is : (fm : Format) (c : FuseConfig) {d : Derived} {m : Manifest} → m ≡ manifest_from c d → d ≡ derived fm c → m ≡ manifest_of fm c

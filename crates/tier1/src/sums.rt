@@ -1,8 +1,8 @@
 // Sums over rows, in the units of the calibration, and the steps of rows as they came.
-ghost use Rattle.std.specs.Prelude.{◌≡◌, ◌+◌, ◌*◌, ◌≤◌, ◌<◌, min, pos, length};
+ghost use Rattle.std.specs.Prelude.{◌≡◌, ◌+◌, ◌*◌, ◌≤◌, ◌<◌, ℕ, Float, min, pos, length};
 ghost use Rattle.std.specs.Float.{binary64};
-ghost use Rattle.std.specs.Float.Ieee.{of_int};
-ghost use Rattle.checked.specs.Checked.{sum_from};
+ghost use Rattle.std.specs.Float.Ieee.{mul, of_int};
+ghost use Rattle.checked.specs.Checked.{Checked, sum_from};
 ghost use Rattle.checked.specs.Finite.{+0};
 ghost use Rattle.tier1.specs.Rule.{row, sum_rows, gap, gaps, jolt, jolts, step_length, start_row, peak};
 ghost use Rattle.checked.specs.Of.{reckoned_from};
@@ -28,19 +28,29 @@ fn row(rows: &[f64], d: usize, i: usize) -> &[f64]
     &rows[from..]
 }
 
+// The squares of the numbers of the first n coordinates, added to a sum so far.
+fn add_squares<F: Fn(usize) -> f64>(from: f64, n: usize, number: F) -> f64
+    requires { (c : ℕ) → c < n → F.pre number c }
+    ensures { (g : ℕ → Checked Float) → ((c : ℕ) (x : Float) → c < n → F.post number c x → mul binary64 x x ≡ (g c).value) → result ≡ (sum_from binary64 from g n).value }
+{
+    let mut s = from;
+    for c in 0..n {
+        let x = number(c);
+        s += x * x;
+    }
+    s
+}
+
 // The squared differences of two rows, added to a sum so far.
 fn row_gaps(m: Manifest, from: f64, a: &[f64], b: &[f64]) -> f64
     requires { (m.dim ≤ 8) × (m.dim ≤ length a.now) × (m.dim ≤ length b.now) }
     ensures { result ≡ (sum_from binary64 from (gap binary64 m a.now b.now) m.dim).value }
 {
-    let d = m.dim;
-    let mut s = from;
-    for c in 0..d {
+    add_squares(from, m.dim, |c| {
         let x = (a[c] - m.center[c]) * m.inverse[c];
         let y = (b[c] - m.center[c]) * m.inverse[c];
-        s += (x - y) * (x - y);
-    }
-    s
+        x - y
+    })
 }
 
 // The same for the first n rows of b and as many of a, from row k on.
@@ -67,17 +77,13 @@ fn row_jolts(
     requires { (m.dim ≤ 8) × (m.dim ≤ length third.now) × (m.dim ≤ length second.now) × (m.dim ≤ length next.now) × (m.dim ≤ length here.now) }
     ensures { result ≡ (sum_from binary64 from (jolt binary64 m third.now second.now next.now here.now) m.dim).value }
 {
-    let d = m.dim;
-    let mut s = from;
-    for c in 0..d {
+    add_squares(from, m.dim, |c| {
         let x = (third[c] - m.center[c]) * m.inverse[c];
         let y = (second[c] - m.center[c]) * m.inverse[c];
         let z = (next[c] - m.center[c]) * m.inverse[c];
         let w = (here[c] - m.center[c]) * m.inverse[c];
-        let v = ((x - 3.0 * y) + 3.0 * z) - w;
-        s += v * v;
-    }
-    s
+        ((x - 3.0 * y) + 3.0 * z) - w
+    })
 }
 
 // The same for the first n rows, each with the three after it.

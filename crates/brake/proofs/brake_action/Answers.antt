@@ -1,6 +1,6 @@
 -- `brake::brake_action` meets its contract: refused before the row is computed, refused by a computed number, or written.
 use Rattle.std.specs.Prelude.{Ok}
-use mathlib.Core.Path.{◌≡◌, sym, ap, ◌∙◌, refl}
+use mathlib.Core.Path.{◌≡◌, ap, ◌∙◌, refl}
 use mathlib.Core.Bool.{Bool, not, ◌||◌}
 use borrow.Author.Tests.{not-true, not-false}
 use native.Mathlib.Omega.{arith}

@@ -28,8 +28,5 @@ returns-in_err-when c =
     let w = not_sound binary64 g.c (tables g.center.now g.scale.now) g.pos.now g.aux.now g.prev.now g.a.now g.out.now (passes_by (c.action_refusal.ensures _ (compiled_judged c.compile-compiled.ensures)) c.in_ok-action_refusal.was) (checks_are binary64 g.c c.checks_of-s.ensures (compiled_derived c.compile-compiled.ensures)) c.judge_action-v.ensures (not-true _ r.0) r.1 in
     (grind (arith, w.0, c.from_residual-in_err-when.ensures), w.1)
 
-pub slice_bounds-put-end : goal.slice_bounds-put-end
-slice_bounds-put-end c = let ok = c.judge_action-v.type_inv in search rules
-
 pub returns : goal.returns
 returns c = let g = c.args in let w = passes binary64 g.c (tables g.center.now g.scale.now) g.pos.now g.aux.now g.prev.now g.a.now g.out.now (passes_by (c.action_refusal.ensures _ (compiled_judged c.compile-compiled.ensures)) c.in_ok-action_refusal.was) (checks_are binary64 g.c c.checks_of-s.ensures (compiled_derived c.compile-compiled.ensures)) c.judge_action-v.ensures (not-false _ (when_passed 13 (not c.judge_action-v.result.sound) c.in_ok-when.ensures)) c.put.ensures (let ok = c.judge_action-v.type_inv in search rules) in (w.0, w.1)

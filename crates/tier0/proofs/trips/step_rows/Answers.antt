@@ -2,19 +2,12 @@
 use native.Mathlib.Nat.{le_antisymm}
 use native.Mathlib.Omega.{arith}
 use lib.Ieee.{binary64, of_bits}
-use Rattle.chunk.proofs.Rows.{row_fits}
 use Rattle.tier0.proofs.Rows.{set_out, stride, strides_are}
 use Rattle.tier0.proofs.trips.step_rows.Goals as goal
 
 pub loop-i-init : goal.loop-i-init
 unfolding of_bits
 loop-i-init c = let w = c.requires in (omega arith, (w.1, set_out binary64 _ _ _ _))
-
-pub raw_row-a-requires : goal.raw_row-a-requires
-raw_row-a-requires c = let w = c.requires in (w.0, omega (arith, c.loop-i-test.true, w.1), row_fits _ _ _ _ c.loop-i-test.true w.2)
-
-pub row_before-b-requires : goal.row_before-b-requires
-row_before-b-requires c = let w = c.requires in (w.0, omega (arith, c.loop-i-test.true, w.1), row_fits _ _ _ _ c.loop-i-test.true w.2)
 
 pub loop-i-preserved : goal.loop-i-preserved
 loop-i-preserved c = let l = c.loop-i in (omega (arith, c.loop-i-test.true), (l.invariant.1.0, stride binary64 _ _ _ _ _ _ _ _ _ _ _ l.invariant.1.1 c.raw_row-a.ensures c.row_before-b.ensures c.distance-n.ensures c.max-peak.ensures c.out_of_workspace-beyond.ensures c.finite-sound.ensures))

@@ -4,11 +4,8 @@ use mathlib.Core.Path.{ap, ◌∙◌}
 use borrow.Author.Tests.{not-true, not-false}
 use lib.Ieee.{binary64}
 use Rattle.tier0.specs.Rule.{arms}
-use Rattle.tier0.proofs.Rows.{trips_some, large_off, large_on}
+use Rattle.tier0.proofs.Rows.{large_off, large_on}
 use Rattle.tier0.proofs.trips.too_large.Goals as goal
-
-pub armed-requires : goal.armed-requires
-armed-requires c = rw c.trip_of.ensures (trips_some c.args.d)
 
 pub returns-then-not-armed : goal.returns-then-not-armed
 returns-then-not-armed c = large_off binary64 _ _ _ _ _ (c.armed.ensures ∙ ap (arms _) c.trip_of.ensures) (not-true _ (ap not c.if-not-armed.true))

@@ -1,11 +1,7 @@
 -- `tier0::zone::inside_zone` meets its contract, seen or not.
 use lib.Ieee.{binary64}
 use Rattle.tier0.proofs.Steps.{zone_seen, zone_unseen}
-use Rattle.tier0.proofs.Refused.{seen_parts}
 use Rattle.tier0.proofs.zone.inside_zone.Goals as goal
-
-pub inside_seen-requires : goal.inside_seen-requires
-inside_seen-requires c = let g = c.args in seen_parts g.pos.now g.aux.now g.i g.j c.if-pos-i.true
 
 pub returns-then-pos-i : goal.returns-then-pos-i
 returns-then-pos-i c = zone_seen binary64 _ _ _ _ _ _ c.if-pos-i.true c.inside_seen.ensures

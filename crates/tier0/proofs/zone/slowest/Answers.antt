@@ -1,26 +1,23 @@
 -- `tier0::zone::slowest` meets its contract: the loop keeps what the zones so far say together.
-use mathlib.Core.Path.{◌≡◌}
+use mathlib.Core.Path.{ap, ◌∙◌}
 use native.Mathlib.Omega.{arith}
 use lib.Ieee.{binary64}
+use Rattle.std.proofs.lemmas.List.{get_or-take, length-take}
+use Rattle.std.specs.Prelude.{Option}
+use Rattle.envelope.specs.declared.Zone.{Zone}
+use Rattle.tier0.specs.Rule.{zone_in}
+use Rattle.tier0.specs.Of.{zone_from}
 use Rattle.tier0.proofs.Steps.{none_asked, one_more_asked}
 use Rattle.tier0.proofs.zone.slowest.Goals as goal
 
-pub loop-k-init : goal.loop-k-init
-loop-k-init c = (omega arith, (rw c.counted-n.ensures (omega arith), none_asked binary64 _ _ _ _ _ c.no_zone-found.ensures))
+pub loop-slot-init : goal.loop-slot-init
+loop-slot-init c = none_asked binary64 _ _ _ _ _ c.no_zone-found.ensures
 
-pub offset_bounds-list-k : goal.offset_bounds-list-k
-offset_bounds-list-k c = omega arith
-
-pub bounds-list-k : goal.bounds-list-k
-bounds-list-k c = omega arith
-
-pub loop-k-preserved : goal.loop-k-preserved
-loop-k-preserved c =
-    let l = c.loop-k in
-    (omega arith, (l.invariant.1.0, one_more_asked binary64 _ _ _ _ _ l.k l.invariant.1.1 c.zone_in-z.ensures c.slower-found.ensures))
-
-pub returns : goal.returns
-returns c =
-    let l = c.loop-k in
-    let e : l.k ≡ c.counted-n.result = omega arith in
-    rw (e, c.counted-n.ensures) at l.invariant.1.1
+pub loop-slot-preserved : goal.loop-slot-preserved
+loop-slot-preserved c =
+    let l = c.loop-slot in
+    let s = c.args in
+    let n = c.counted-n.result in
+    let same = get_or-take n s.zones.list _ _ (omega (arith, length-take n s.zones.list)) in
+    let z = c.zone_in-z.ensures ∙ ap (λ (z : Option Zone). zone_from (zone_in binary64 s.dt s.absent_camera z s.pos.now s.aux.now)) same in
+    one_more_asked binary64 _ _ _ _ _ l.slot-index l.invariant z c.slower-found.ensures

@@ -1,12 +1,10 @@
 -- `tier0::zone::slowest` meets its contract: the loop keeps what the zones so far say together.
-use Rattle.std.specs.Prelude.{None}
-use Prim.Native.Nat.{ℕ, ◌≤◌}
 use mathlib.Core.Path.{◌≡◌}
-use lib.ListN.{get_or}
 use lib.Ieee.{binary64}
+use Rattle.envelope.specs.Slots.{zone_at}
 use Rattle.tier0.specs.Rule.{slowest}
 use Rattle.tier0.specs.Of.{zone_from}
 use Rattle.tier0.proofs.zone.slowest.Given as goal
 
-abbrev pub invariant-loop-k : goal.invariant-loop-k
-invariant-loop-k l = (l.k ≤ l.n) × ((l.n ≤ 4) × (l.found ≡ zone_from (slowest binary64 l.dt l.absent_camera (λ (m : ℕ). get_or l.list m None) l.pos l.aux l.k)))
+abbrev pub invariant-loop-slot : goal.invariant-loop-slot
+invariant-loop-slot l = l.found ≡ zone_from (slowest binary64 l.dt l.absent_camera (zone_at l.fn.zones) l.pos l.aux l.slot-index)

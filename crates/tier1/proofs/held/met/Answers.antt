@@ -1,16 +1,9 @@
 -- `tier1::held::met` meets its contract: rows that overlap lie in both chunks.
 use Prim.Native.Nat.{◌+◌, ◌-◌, ◌≤◌}
-use mathlib.Core.Path.{sym, ap, ◌∙◌}
 use native.Mathlib.Nat.{le_trans, mul-le-mul_right}
 use native.Mathlib.Omega.{arith}
-use borrow.Author.Tests.{lt-leb, le-leb}
-use lib.Dec.{leb}
-use Rattle.tier1.proofs.Found.{neither_there, both_there}
 use Rattle.tier1.proofs.Meeting.{overlapping}
 use Rattle.tier1.proofs.held.met.Goals as goal
-
-pub returns-then-l-lt2 : goal.returns-then-l-lt2
-returns-then-l-lt2 c = neither_there _ _ (ap (leb 2) (sym c.overlap-l.ensures) ∙ lt-leb 2 _ c.if-l-lt2.true) c.absent_pair.ensures
 
 pub overflow_sub-s : goal.overflow_sub-s
 overflow_sub-s c = let g = c.args in (overlapping g.k g.t g.h g.m.dim (rw c.overlap-l.ensures at c.if-l-lt2.false)).emitted
@@ -26,6 +19,3 @@ matched-requires c =
     let s = g.t - g.k.t_emit in
     let i : s + l ≤ g.k.horizon = rw e o.inside in
     (w.0, omega (arith, c.if-l-lt2.false), le_trans i v.0, le_trans (mul-le-mul_right {m = s + l} {n = g.k.horizon} g.m.dim i) (rw o.wide at v.1), le_trans (mul-le-mul_right {m = l} {n = g.h} g.m.dim (rw e o.of_new)) w.1)
-
-pub returns : goal.returns
-returns c = both_there _ _ (ap (leb 2) (sym c.overlap-l.ensures) ∙ le-leb 2 _ c.if-l-lt2.false) (rw c.overlap-l.ensures at c.matched.ensures)

@@ -2,14 +2,11 @@
 use mathlib.Core.Bool.{not}
 use mathlib.Core.Path.{ap}
 use borrow.Author.Tests.{not-true, not-false}
-use Rattle.tier1.proofs.Meeting.{apart, not_earlier, all_past, shares}
+use Rattle.tier1.proofs.Meeting.{apart, all_past, shares}
 use Rattle.tier1.proofs.held.overlap.Goals as goal
 
 pub returns-then-not-k-d : goal.returns-then-not-k-d
 returns-then-not-k-d c = let g = c.args in apart g.k g.t g.h g.d (not-true _ (ap not c.if-not-k-d.true))
-
-pub overflow_sub-s : goal.overflow_sub-s
-overflow_sub-s c = let g = c.args in not_earlier g.k g.t 0 g.d (not-false _ (ap not c.if-not-k-d.false))
 
 pub returns-then-k-s : goal.returns-then-k-s
 returns-then-k-s c = let g = c.args in all_past g.k g.t g.h g.d (not-false _ (ap not c.if-not-k-d.false)) c.if-k-s.true

@@ -1,24 +1,9 @@
--- `tier1::sums::row_jolts` meets its contract: the loop adds one coordinate a turn.
-use mathlib.Core.Path.{refl}
-use native.Mathlib.Nat.{le_antisymm}
-use native.Mathlib.Omega.{arith}
-use lib.Ieee.{binary64, of_bits}
-use Rattle.checked.specs.Checked.{sum_from}
-use Rattle.checked.proofs.Sums.{sum_more}
-use Rattle.tier1.specs.Rule.{normal, jolt}
+-- `tier1::sums::row_jolts` meets its contract: on each coordinate the third difference of the rows is squared.
 use borrow.Author.Rules.{rules}
+use lib.Ieee.{binary64, of_bits}
+use Rattle.tier1.specs.Rule.{normal, jolt}
 use Rattle.tier1.proofs.sums.row_jolts.Goals as goal
 
-pub loop-c-init : goal.loop-c-init
-unfolding sum_from
-loop-c-init c = (search rules, refl)
-
-pub loop-c-preserved : goal.loop-c-preserved
-unfolding jolt normal of_bits
-loop-c-preserved c =
-    let l = c.loop-c in
-    let g = c.args in
-    (omega arith, sum_more binary64 g.from (jolt binary64 g.m g.third.now g.second.now g.next.now g.here.now) l.c _ _ l.invariant.1 refl)
-
 pub returns : goal.returns
-returns c = rw (le_antisymm c.loop-c.invariant.0 c.loop-c-test.false) at c.loop-c.invariant.1
+unfolding jolt normal of_bits
+returns c = let g = c.args in c.add_squares.ensures (jolt binary64 g.m g.third.now g.second.now g.next.now g.here.now) (λ i x l p. search rules)

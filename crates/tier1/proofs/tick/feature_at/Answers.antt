@@ -2,15 +2,11 @@
 use mathlib.Core.Bool.{not}
 use mathlib.Core.Path.{ap}
 use mathlib.Core.Path.{refl, sym}
-use borrow.Author.Tests.{not-true, not-false}
+use borrow.Author.Tests.{not-false}
 use lib.Ieee.{nan, div, of_bits}
 use lib.ListN.{get_or-eq_default}
-use Rattle.tier1.proofs.Masks.{not_valid, value_held, value_trail, value_lent}
+use Rattle.tier1.proofs.Masks.{value_held, value_trail, value_lent}
 use Rattle.tier1.proofs.tick.feature_at.Goals as goal
-
-pub returns-then-not-on : goal.returns-then-not-on
-unfolding of_bits
-returns-then-not-on c = let g = c.args in not_valid g.held.now g.ineff g.ext.now g.j g.on (not-true _ (ap not c.if-not-on.true))
 
 pub returns-then-j-lt-PATH_INEFF : goal.returns-then-j-lt-PATH_INEFF
 returns-then-j-lt-PATH_INEFF c = let g = c.args in value_held g.held.now g.ineff g.ext.now g.j g.on (not-false _ (ap not c.if-not-on.false)) c.if-j-lt-PATH_INEFF.true

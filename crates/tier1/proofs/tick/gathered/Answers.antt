@@ -1,11 +1,10 @@
 -- `tier1::tick::gathered` meets its contract: the loop takes one feature more a turn.
-use mathlib.Core.Path.{◌≡◌, refl, ◌∙◌}
+use mathlib.Core.Path.{refl, ◌∙◌}
 use native.Mathlib.Omega.{arith}
 use borrow.Author.Rules.{rules}
-use lib.Pow.{pow_pos}
 use lib.ListN.{length, length-set}
 use Rattle.checked.specs.Each.{table}
-use Rattle.checked.proofs.Each.{table_more, table_all}
+use Rattle.checked.proofs.Each.{table_more}
 use Rattle.bits.specs.Bits.{bits_where}
 use Rattle.bits.proofs.Bits.{Turned, turn}
 use Rattle.tier1.specs.Rule.{valid_at}
@@ -22,17 +21,11 @@ loop-j-init c =
       so_far = refl;
     }
 
-pub valid_at-on-requires : goal.valid_at-on-requires
-valid_at-on-requires c = let l = c.loop-j in (rw l.invariant.weighs (pow_pos l.j), l.invariant.weighs)
-
 turned : (c : goal.After-weight-valid) → let l = c.loop-j in let a = c.args in Turned (valid_at a.held_valid a.len (length a.ext.now)) l.j l.valid l.w c.weight-valid.result
 turned c = let l = c.loop-j in turn _ l.j l.valid l.w _ (omega arith) l.invariant.bits-so-far l.invariant.weighs c.valid_at-on.ensures c.weight-valid.ensures.0
 
 pub overflow_add-valid : goal.overflow_add-valid
 overflow_add-valid c = let z = turned c in omega arith
-
-pub overflow_mul-w : goal.overflow_mul-w
-overflow_mul-w c = let z = turned c in omega arith
 
 pub loop-j-preserved : goal.loop-j-preserved
 loop-j-preserved c =
@@ -44,9 +37,3 @@ loop-j-preserved c =
       wide = simp length-set l.invariant.wide;
       so_far = table_more _ _ _ _ (omega arith) l.invariant.so_far (c.feature_at.ensures ∙ rw c.valid_at-on.ensures);
     }
-
-pub returns : goal.returns
-returns c =
-    let l = c.loop-j in
-    let e : l.j ≡ 12 = omega arith in
-    rw (table_all _ 12 l.j l.f e l.invariant.wide l.invariant.so_far, rw e at l.invariant.bits-so-far)

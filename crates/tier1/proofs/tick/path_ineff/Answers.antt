@@ -1,12 +1,9 @@
 -- `tier1::tick::path_ineff` meets its contract: the way has a test of its own, since a quotient by it hides an infinity.
-use borrow.Author.Tests.{lt-leb, le-leb}
+use borrow.Author.Tests.{le-leb}
 use lib.Ieee.{binary64, of_bits}
 use Rattle.tier1.specs.Rule.{net_length, path_length, path_ineff}
-use Rattle.tier1.proofs.Found.{not_there, is_there, ineff_is}
+use Rattle.tier1.proofs.Found.{is_there, ineff_is}
 use Rattle.tier1.proofs.tick.path_ineff.Goals as goal
-
-pub returns-then-t-lt-PE_WINDOW : goal.returns-then-t-lt-PE_WINDOW
-returns-then-t-lt-PE_WINDOW c = let g = c.args in not_there (path_ineff binary64 g.m g.t) (lt-leb 20 g.t.len c.if-t-lt-PE_WINDOW.true) c.absent.ensures
 
 pub returns : goal.returns
 unfolding of_bits net_length path_length
