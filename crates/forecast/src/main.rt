@@ -35,20 +35,6 @@ enum End {
     NumbersEnded,
 }
 
-// 682 records of 96 bytes.
-fn input_buffer() -> [u8; 65472]
-    ensures { 65472 ≡ length result }
-{
-    [0; 65472]
-}
-
-// 683 lines of at most 97 bytes: one for each record, and one for a rest.
-fn output_buffer() -> [u8; 66251]
-    ensures { 66251 ≡ length result }
-{
-    [0; 66251]
-}
-
 // Reads a block, answers it and writes the lines.
 fn turn<R: io::Read, W: io::Write>(
     from: &mut R,
@@ -126,11 +112,12 @@ fn say(to: &impl Eprint, e: End) {
     };
 }
 
+// There is room for 682 records of 96 bytes, and for 683 lines of at most 97: one for each record, and one for a rest.
 fn main(rt: HostRuntime) {
     let mut stdin = rt.stdin();
     let mut stdout = rt.stdout();
-    let mut input_space = input_buffer();
-    let mut output_space = output_buffer();
+    let mut input_space = [0u8; 65472];
+    let mut output_space = [0u8; 66251];
     let input: &mut [u8] = &mut input_space;
     let out: &mut [u8] = &mut output_space;
     let t = run(&mut stdin, &mut stdout, input, out);

@@ -184,43 +184,30 @@ fn joined(a: Tally, b: Tally, wrote: bool) -> Tally {
     }
 }
 
-fn put(to: &impl Print, text: &str) -> bool {
-    to.print(text).is_ok()
-}
-
-fn put_number(to: &impl Print, n: u64) -> bool {
-    to.print(n).is_ok()
-}
-
 fn put_counts(to: &impl Print, name: &str, t: Tally) -> bool {
-    put(to, name)
-        & put(to, ": ")
-        & put_number(to, t.seen)
-        & put(to, " replayed, ")
-        & put_number(to, t.agreed)
-        & put(to, " agree")
+    print!(to; "{name}: {} replayed, {} agree", t.seen, t.agreed).is_ok()
 }
 
 fn put_first(to: &impl Print, t: Tally) -> bool {
     if t.first == 0 {
         return true;
     }
-    put(to, ", the first difference in record ") & put_number(to, t.first)
+    print!(to; ", the first difference in record {}", t.first).is_ok()
 }
 
 fn put_input(to: &impl Print, t: Tally) -> bool {
     if t.failed {
-        return put(to, ", a read failed");
+        return to.print(", a read failed").is_ok();
     }
     if t.ended {
-        return put(to, ", the input ended");
+        return to.print(", the input ended").is_ok();
     }
     true
 }
 
 // The line of an entry; whether it was written.
 fn say(to: &impl Print, name: &str, t: Tally) -> bool {
-    put_counts(to, name, t) & put_first(to, t) & put_input(to, t) & put(to, "\n")
+    put_counts(to, name, t) & put_first(to, t) & put_input(to, t) & to.print("\n").is_ok()
 }
 
 // Replays an entry, says its line, and gives the tally of all entries so far.

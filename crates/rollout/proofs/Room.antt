@@ -1,4 +1,4 @@
--- What is known of a course that has room, and of a leg.
+-- What is known of a course that has room.
 use mathlib.Core.Path.{◌≡◌}
 use mathlib.Core.Bool.{true}
 use Prim.Native.Nat.{ℕ, ◌≤◌}
@@ -7,12 +7,8 @@ use Rattle.checked.proofs.Each.{every_at}
 use Rattle.envelope.specs.Steps.{substeps_in}
 use Rattle.course.specs.declared.Course.{Course}
 use Rattle.course.specs.Of.{left_of, shaped}
-use Rattle.rollout.specs.Of.{roomy, leg_roomy}
+use Rattle.rollout.specs.Of.{roomy}
 
 pub room_of : (c : Course) (len room : ℕ) → roomy c len room ≡ true → (shaped c len ≡ true) × (substeps_in (left_of c) c.brake c.per ≤ room) × (1 ≤ c.live)
 unfolding roomy
 room_of c len room h = (every_at _ 0 h, leb-true _ _ (every_at _ 2 h), leb-true _ _ (every_at _ 3 h))
-
-pub leg_room_of : (n len count room : ℕ) → leg_roomy n len count room ≡ true → (1 ≤ n) × (n ≤ 8) × (n ≤ len) × (count ≤ room)
-unfolding leg_roomy
-leg_room_of n len count room h = (leb-true _ _ (every_at _ 0 h), leb-true _ _ (every_at _ 1 h), leb-true _ _ (every_at _ 2 h), leb-true _ _ (every_at _ 3 h))

@@ -4,7 +4,6 @@ use mathlib.Core.Bool.{true, false}
 use mathlib.Core.List.{List}
 use Prim.Native.Nat.{ℕ, zero, suc, ◌+◌, ◌≤◌, ◌<◌}
 use native.Mathlib.Nat.{le_refl}
-use native.Mathlib.Numerals.{add-one}
 use native.Mathlib.Omega.{arith}
 use lib.ListN.{length, set}
 use lib.Ieee.{Float, Format}
@@ -29,11 +28,6 @@ use Rattle.rollout.proofs.Told.{put, untouched, length_kept, substep_at, substep
 use Rattle.rollout.proofs.Along.{turn_fails, turn_advances}
 
 -- ---- two plants joined
-
--- one turn of a loop over the axes
-pub joined_more : (moved still r : Plant) (j : ℕ) → r ≡ joined_of moved still j → ◌≡◌ {A = Plant} (record { p = set r.p j (at moved.p j); v = set r.v j (at moved.v j) }) (joined_of moved still (j + 1))
-unfolding over
-joined_more moved still r j e = rw (add-one, e)
 
 pub joined_itself : (q : Plant) (n : ℕ) → joined_of q q n ≡ q
 joined_itself q n = λ i. record { p = over_itself (at q.p) q.p n (λ j b. refl) i; v = over_itself (at q.v) q.v n (λ j b. refl) i }

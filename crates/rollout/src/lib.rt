@@ -97,10 +97,8 @@ fn joined(moved: Plant, still: Plant, n: usize) -> Plant
     ensures { result ≡ joined_of moved still n }
 {
     let mut r = still;
-    for j in 0..n {
-        r.p[j] = moved.p[j];
-        r.v[j] = moved.v[j];
-    }
+    fmath::put(&moved.p, n, &mut r.p);
+    fmath::put(&moved.v, n, &mut r.v);
     r
 }
 

@@ -9,15 +9,6 @@ use brake::BrakeOut;
 use refusal::Refusal;
 use std::io;
 
-fn put(to: &impl Print, text: &str) -> bool {
-    to.print(text).is_ok()
-}
-
-// A number, with a space before it.
-fn put_number(to: &impl Print, n: u64) -> bool {
-    print!(to; " {n}").is_ok()
-}
-
 // The bits of a slack, with a space before them.
 fn put_slack(to: &impl Print, x: f64) -> bool {
     let bits = words::pattern(x);
@@ -32,11 +23,9 @@ fn put_slacks(to: &impl Print, slacks: &[f64], count: u64) -> bool {
 
 // The line of record n; whether all of it was written.
 fn put_line(to: &impl Print, n: u64, number: u64, count: u64, slacks: &[f64]) -> bool {
-    to.print(n).is_ok()
-        & put_number(to, number)
-        & put_number(to, count)
+    print!(to; "{n} {number} {count}").is_ok()
         & put_slacks(to, slacks, count)
-        & put(to, "\n")
+        & to.print("\n").is_ok()
 }
 
 // The line of a whole record. There is room for as many slacks as a forecast can have.

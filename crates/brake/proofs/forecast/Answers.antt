@@ -8,9 +8,6 @@ use Rattle.brake.proofs.ByKind.{second_order_is, closed_is, other_of}
 use Rattle.brake.proofs.Room.{second_order_room, closed_room}
 use Rattle.brake.proofs.forecast.Goals as goal
 
-pub start_of-start-requires : goal.start_of-start-requires
-start_of-start-requires c = c.requires.0.narrow
-
 pub second_order-requires : goal.second_order-requires
 second_order-requires c =
     let s = c in

@@ -6,7 +6,7 @@ use mathlib.Core.List.{List}
 use native.Mathlib.Omega.{arith}
 use lib.Ieee.{Float}
 use Rattle.checked.specs.declared.Row.{Row}
-use Rattle.checked.proofs.Each.{◌&&≡◌, and_left, over_more}
+use Rattle.checked.proofs.Each.{◌&&≡◌, over_more}
 use Rattle.envelope.specs.declared.ActionKind.{ActionKind}
 use Rattle.envelope.specs.declared.ActionKind.TheVariants.{EePosition}
 use Rattle.envelope.specs.declared.Gripper.{Gripper}
@@ -30,13 +30,6 @@ loop-j-init c =
     let s = c.args in
     let few : c.fewer-j.result ≤ s.pos_dim = omega (arith, c.fewer-j.ensures) in
     (omega (arith, c.fewer-j.ensures), omega (arith, c.fewer-j.ensures), sym (row_within_lem LastCommand EePosition s.pos_dim s.last.now s.row.at c.fewer-j.result few))
-
-pub bounds-last-j : goal.bounds-last-j
-bounds-last-j c =
-    let b = c in
-    let s = b.args in
-    let written = writes s.gripper s.kind b.takes_last.ensures b.is_position.ensures b.if-not-keeps.false in
-    omega (arith, c.loop-j-test, b.requires.1 (and_left _ _ written))
 
 pub loop-j-preserved : goal.loop-j-preserved
 unfolding sent_row

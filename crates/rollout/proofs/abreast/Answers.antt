@@ -41,12 +41,6 @@ loop-substep-init c =
           (subst (λ (q : Plant). CameAlong t stand l k (first q s.run.margin s.run.done) s.slack.now) (sym (joined_itself s.run.plant s.n)) h);
     }
 
-pub substep-next-requires : goal.substep-next-requires
-substep-next-requires c = (omega arith, search rules)
-
-pub shape_of-slack-then-not-room : goal.shape_of-slack-then-not-room
-shape_of-slack-then-not-room c = c.loop-substep.invariant.same
-
 pub returns-then-not-room : goal.returns-then-not-room
 returns-then-not-room c =
     let s = c in
@@ -67,21 +61,6 @@ returns-then-not-room c =
           (s.args.count - i._substep - 1)),
     )
 
-pub offset_bounds-slack-at : goal.offset_bounds-slack-at
-offset_bounds-slack-at c =
-    let i = c.loop-substep in
-    let e : i.at < length c.args.slack.now = omega (arith, i.invariant.written, c.loop-substep-test.true, c.requires.2) in
-    search (rules, e, c.well_formed.1.1.1.1.1.1.0)
-
-pub bounds-slack-at : goal.bounds-slack-at
-bounds-slack-at c = let i = c.loop-substep in omega (arith, i.invariant.same, i.invariant.written, c.loop-substep-test.true, c.requires.2)
-
-pub overflow_add-at : goal.overflow_add-at
-overflow_add-at c =
-    let i = c.loop-substep in
-    let e : i.at < length c.args.slack.now = omega (arith, i.invariant.written, c.loop-substep-test.true, c.requires.2) in
-    search (rules, e, c.well_formed.1.1.1.1.1.1.0)
-
 pub loop-substep-preserved : goal.loop-substep-preserved
 loop-substep-preserved c =
     let s = c in
@@ -99,9 +78,6 @@ loop-substep-preserved c =
           (legged_next binary64 _ t stand l k s.args.count i._substep (first s.args.run.plant s.args.run.margin s.args.run.done) (running i.moved s.args.run.plant s.args.n i.margin i.at) s.args.slack.now i.slack h go (i.invariant.comes t stand l k go h) (omega arith))
           s.requires.0 s.requires.3 i.invariant.places i.invariant.rates (search rules) (search rules) (taken_in s.args.n s.args.a.now s.requires.0 s.requires.1 c.padded-aim.ensures) c.substep-next.result c.substep-next.ensures c.slack_abreast-room.result c.slack_abreast-room.ensures (not-false _ c.if-not-room.false) _ c.min-margin.ensures);
     }
-
-pub shape_of-slack : goal.shape_of-slack
-shape_of-slack c = c.loop-substep.invariant.same
 
 pub returns : goal.returns
 returns c =

@@ -1,7 +1,6 @@
 -- `rollout::follow` meets its contract: the loop holds one row a turn, and row i is what its substeps go towards (`Rows`).
 use Prim.Native.Nat.{ℕ, ◌+◌, ◌*◌, ◌<◌}
 use mathlib.Core.Path.{◌≡◌, refl, sym, ap, ◌∙◌}
-use native.Mathlib.Nat.{zero-mul}
 use native.Mathlib.Omega.{arith}
 use lib.ListN.{length}
 use lib.Ieee.{binary64}
@@ -16,20 +15,6 @@ use Rattle.course.proofs.Room.{shape_of}
 use Rattle.rollout.proofs.Along.{aimed_step}
 use Rattle.rollout.proofs.Rows.{row_more, aims_row}
 use Rattle.rollout.proofs.follow.Goals as goal
-
-pub loop-i-init : goal.loop-i-init
-loop-i-init c =
-    let s = c in record {
-      turns = omega arith;
-      rows_left = c.rows_left-left.ensures;
-      substeps = refl;
-      same = refl;
-      written = omega (arith, zero-mul s.args.c.per.0);
-      comes = λ q l h. along_at (forecast binary64 (task_of s.args.g s.args.w s.args.c q s.args.rows.now)) (after binary64 (task_of s.args.g s.args.w s.args.c q s.args.rows.now)) l (0 * s.args.c.per.0) s.args.run s.args.slack.now 0 (sym (zero-mul s.args.c.per.0)) h;
-    }
-
-pub overflow_add-c : goal.overflow_add-c
-overflow_add-c c = let i = c.loop-i in omega (arith, i.invariant.rows_left, c.loop-i-test.true, c.well_formed.1.1.0)
 
 pub hold-next-requires : goal.hold-next-requires
 hold-next-requires c =
@@ -61,9 +46,6 @@ loop-i-preserved c =
           (λ _ j b. aimed_step binary64 t (i.i * per + j) _ (aims_row binary64 t i.i j (still c) b ∙ ap pure (sym c.action-a.ensures)))
           (i.invariant.comes q l h));
     }
-
-pub shape_of-slack : goal.shape_of-slack
-shape_of-slack c = c.loop-i.invariant.same
 
 pub returns : goal.returns
 returns c =

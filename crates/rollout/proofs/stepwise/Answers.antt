@@ -1,23 +1,11 @@
 -- `rollout::stepwise` meets its contract: the loop comes along one entry a turn.
 use Prim.Native.Nat.{ℕ, ◌+◌}
-use mathlib.Core.Path.{◌≡◌, refl, ap, ◌∙◌}
+use mathlib.Core.Path.{◌≡◌, ap, ◌∙◌}
 use native.Mathlib.Omega.{arith}
 use lib.Ieee.{binary64}
 use Rattle.rollout.proofs.Along.{legged_next}
-use Rattle.course.proofs.Along.{along_zero, along_sum, along_at}
+use Rattle.course.proofs.Along.{along_sum, along_at}
 use Rattle.rollout.proofs.stepwise.Goals as goal
-
-pub loop-init : goal.loop-init
-loop-init c =
-    record {
-      turns = omega arith;
-      same = refl;
-      written = omega arith;
-      comes = λ t stand l k go h. along_zero t stand l k _ _ h;
-    }
-
-pub advance-r-requires : goal.advance-r-requires
-advance-r-requires c = let s = c in (s.requires.0, s.requires.1, omega (arith, s.requires.2))
 
 pub loop-preserved : goal.loop-preserved
 loop-preserved c =
@@ -33,9 +21,6 @@ loop-preserved c =
           (legged_next binary64 _ t stand l k s.args.count i.counter s.args.run i.r s.args.slack.now i.slack h go (i.invariant.comes t stand l k go h) (omega arith))
           (i.invariant.comes t stand l k go h));
     }
-
-pub shape_of-slack : goal.shape_of-slack
-shape_of-slack c = c.loop.invariant.same
 
 pub returns : goal.returns
 returns c =

@@ -1,5 +1,5 @@
 -- `rollout::substep` meets its contract: the loop takes one axis a turn.
-use mathlib.Core.Path.{◌≡◌, refl, ap, ◌∙◌}
+use mathlib.Core.Path.{refl, ap, ◌∙◌}
 use native.Mathlib.Omega.{arith}
 use borrow.Author.Rules.{rules}
 use lib.ListN.{length-set}
@@ -34,10 +34,3 @@ loop-j-preserved c =
       rates = length-set l.r.v l.j m.v ∙ l.invariant.rates;
       so_far = substep_more binary64 (gains_of s.g) s.a.now (state_of s.s) l.j (state_of l.r) (motion_of m) l.invariant.so_far (ap motion_of c.axis-m.ensures);
     }
-
-pub returns : goal.returns
-returns c =
-    let l = c.loop-j in
-    let s = c.args in
-    let e : l.j ≡ s.n = omega arith in
-    rw e at l.invariant.so_far

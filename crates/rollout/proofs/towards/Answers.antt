@@ -3,7 +3,6 @@ use Prim.Native.Nat.{◌+◌}
 use mathlib.Core.Path.{◌≡◌, refl}
 use mathlib.Core.Bool.{true, false}
 use native.Mathlib.Nat.{zero-add}
-use native.Mathlib.Omega.{arith}
 use lib.ListN.{length}
 use lib.Ieee.{binary64, of_bits, div}
 use Rattle.checked.specs.Each.{every, every_from}
@@ -11,7 +10,6 @@ use Rattle.course.specs.Of.{state_of, CameAlong}
 use Rattle.course.proofs.Along.{along_start, along_at, run_is, written_is}
 use Rattle.rollout.specs.Leg.{reached, leg}
 use Rattle.rollout.specs.Of.{leg_of, leg_roomy}
-use Rattle.rollout.proofs.Room.{leg_room_of}
 use Rattle.rollout.proofs.towards.Goals as goal
 
 pub returns-then-not-roomy : goal.returns-then-not-roomy
@@ -20,13 +18,6 @@ returns-then-not-roomy c =
     let s = c.args in
     let roomless : leg_roomy s.n (length s.a.now) s.count (length s.slack.now) ≡ false = c.if-not-roomy.true in
     rw roomless (record { value = refl; slack_after = refl })
-
-pub hold-requires : goal.hold-requires
-unfolding leg_roomy every every_from
-hold-requires c =
-    let s = c.args in
-    let r = leg_room_of s.n (length s.a.now) s.count (length s.slack.now) c.if-not-roomy.false in
-    (r.1, r.2, omega (arith, r.3), r.0)
 
 pub returns : goal.returns
 unfolding of_bits div leg_roomy every every_from reached

@@ -1,29 +1,15 @@
 -- `stopping::follow` meets its contract: the loop takes one row a turn.
 use Prim.Native.Nat.{suc, ◌+◌}
-use mathlib.Core.Path.{◌≡◌, refl, sym, ap, ◌∙◌}
+use mathlib.Core.Path.{◌≡◌, sym, ap, ◌∙◌}
 use native.Mathlib.Omega.{arith}
 use lib.ListN.{length}
 use lib.Ieee.{binary64}
 use Rattle.chunk.proofs.Rows.{row_long}
-use Rattle.course.specs.Of.{left_of}
 use Rattle.course.proofs.Along.{along_at}
 use Rattle.course.proofs.Room.{shape_of}
 use Rattle.stopping.specs.Rule.{stand, forecast}
 use Rattle.stopping.specs.Of.{task_of}
 use Rattle.stopping.proofs.follow.Goals as goal
-
-pub loop-i-init : goal.loop-i-init
-loop-i-init c =
-    record {
-      turns = omega arith;
-      rows_left = c.rows_left-left.ensures;
-      same = refl;
-      written = omega arith;
-      comes = λ ticks q l u h. h;
-    }
-
-pub overflow_add-c : goal.overflow_add-c
-overflow_add-c c = let i = c.loop-i in omega (arith, i.invariant.rows_left, c.loop-i-test.true, c.well_formed.1.1.0)
 
 pub row-next-requires : goal.row-next-requires
 row-next-requires c =
@@ -48,13 +34,3 @@ loop-i-preserved c =
           along_at (forecast binary64 t) (stand binary64 t) l (suc (i.i + 1)) call.result _ (suc i.i + 1) (omega arith)
           (call.ensures.1 ticks q s.args.rows.now l i.i u (i.invariant.comes ticks q l u h) (λ _. sym c.action-a.ensures));
     }
-
-pub shape_of-slack : goal.shape_of-slack
-shape_of-slack c = c.loop-i.invariant.same
-
-pub returns : goal.returns
-returns c =
-    let s = c in
-    let i = c.loop-i in
-    let e : i.i ≡ (left_of s.args.c).0 = omega (arith, i.invariant.rows_left) in
-    (omega (arith, i.invariant.written, e), λ ticks q l u h. let t = task_of s.args.arm ticks s.args.w s.args.c q s.args.rows.now in along_at (forecast binary64 t) (stand binary64 t) l (suc (left_of s.args.c).0) _ _ (suc i.i) (ap suc e) (i.invariant.comes ticks q l u h))

@@ -1,13 +1,8 @@
 -- `stopping::roomy` meets its contract: its tests are the definition's.
-use native.Mathlib.Omega.{arith}
 use Rattle.checked.specs.Each.{every}
-use Rattle.chunk.proofs.Rows.{place_small}
 use Rattle.course.specs.Of.{shaped}
 use Rattle.stopping.specs.Of.{roomy}
 use Rattle.stopping.proofs.roomy.Goals as goal
-
-pub overflow_mul-shape : goal.overflow_mul-shape
-overflow_mul-shape c = let s = c in omega (arith, place_small {k = s.args.c.horizon} {d = s.args.c.dim} (omega (arith, s.well_formed.0)) (omega (arith, s.well_formed.0)))
 
 pub returns : goal.returns
 unfolding shaped roomy every

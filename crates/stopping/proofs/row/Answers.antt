@@ -28,12 +28,6 @@ returns-then-not-r-gap c = rw c.halted.ensures (
       (c.if-not-r-gap.true),
 )
 
-pub offset_bounds-slack-at : goal.offset_bounds-slack-at
-offset_bounds-slack-at c = let s = c in let y = c.slice_known-1.given in search rules
-
-pub overflow_add-result : goal.overflow_add-result
-overflow_add-result c = let s = c in let y = c.slice_known-1.given in search rules
-
 pub returns : goal.returns
 returns c = (
   omega arith,

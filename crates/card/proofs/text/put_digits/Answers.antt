@@ -1,11 +1,8 @@
 -- `card::text::put_digits` meets its contract: digits from the last to the first; what is left to write always gives the whole.
-use mathlib.Core.Path.{refl, sym, ap, ◌∙◌}
+use mathlib.Core.Path.{sym, ap, ◌∙◌}
 use Prim.Native.Nat.{ℕ, ◌+◌}
 use Rattle.card.proofs.Digits.{turned, written, digits_length}
 use Rattle.card.proofs.text.put_digits.Goals as goal
-
-pub loop-i-init : goal.loop-i-init
-loop-i-init c = refl
 
 pub loop-i-preserved : goal.loop-i-preserved
 loop-i-preserved c = turned c.args.base c.loop-i.i c.loop-i.rest c.args.at c.glyph.result c.loop-i.out c.loop-i-test.true c.glyph.ensures ∙ c.loop-i.invariant

@@ -1,17 +1,7 @@
 -- `card::text::width` meets its contract: what is counted and what is left to count make the whole.
-use borrow.Author.Rules.{rules}
 use Rattle.card.proofs.Digits.{going, ended, counted}
 use native.Mathlib.Omega.{arith}
 use Rattle.card.proofs.text.width.Goals as goal
-
-pub loop-left-init : goal.loop-left-init
-loop-left-init c = (search rules, search rules)
-
-pub overflow_sub-left : goal.overflow_sub-left
-overflow_sub-left c = (going c.loop-left.left c.loop-left.rest c.loop-left-test.true).0
-
-pub loop-left-smaller : goal.loop-left-smaller
-loop-left-smaller c = let g = going c.loop-left.left c.loop-left.rest c.loop-left-test.true in omega (arith, g.0)
 
 pub loop-left-preserved : goal.loop-left-preserved
 loop-left-preserved c = let g = going c.loop-left.left c.loop-left.rest c.loop-left-test.true in (omega arith, omega (arith, g.0, c.loop-left.invariant, counted c.loop-left.left c.loop-left.rest g.0 g.1))
