@@ -25,6 +25,7 @@ ghost use Rattle.lictor.specs.Environment.{environment};
 
 use chunk::Header;
 use conformal::{Calibration, GateSpec};
+use refusal::Refusal;
 use window::Window;
 
 mod answer;
@@ -113,7 +114,7 @@ pub fn lictor_fill(
         dim,
         exec_steps,
     };
-    let number = chunk::lent_refusal(rows, k);
+    let number = Refusal::number_of(chunk::lent_refusal(rows, k));
     answer::put_lent(number == 0, k, rows, numbers, header);
     number as u64
 }
@@ -235,7 +236,7 @@ pub fn lictor_derive(
     let fits = layout::config::counts_fit(counts);
     let c = layout::config::config_of(numbers, counts);
     let compiled = envelope::compile(c, center, scale);
-    let number = answer::fitting(fits, compiled.number);
+    let number = answer::fitting(fits, Refusal::number_of(compiled.judged));
     answer::put_derived(number, compiled.derived, out)
 }
 

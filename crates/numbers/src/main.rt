@@ -2,6 +2,7 @@
 #![tactic(auto)]
 
 use card::Card;
+use refusal::Refusal;
 
 // The bin of tick t on a horizon of 200, or 16 where there is none.
 fn bin_of(t: u32) -> u64 {
@@ -34,7 +35,7 @@ fn number_of(brake_steps: u16) -> u64 {
     };
     let unread = [1.0; 192];
     let compiled = envelope::compile(card::configure(card), &unread, &unread);
-    compiled.number as u64
+    Refusal::number_of(compiled.judged) as u64
 }
 
 // One line: what is asked, and the number.

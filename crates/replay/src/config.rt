@@ -2,6 +2,7 @@
 use crate::record::{Numbers, Words, part};
 use envelope::FuseConfig;
 use fmath::put;
+use refusal::Refusal;
 use sample::agrees;
 
 // The numbers of a flat configuration: limits, brake and the first zone, then the norm, then the box; tau, the further zones and the disc are not in the record and stay 0.
@@ -33,8 +34,8 @@ pub(crate) fn config(w: &Words, x: &Numbers) -> FuseConfig {
 }
 
 // Whether a configuration is accepted, and these are the numbers kept as derived from it.
-fn is_derived(refusal: u8, derived: &[f64; 29], x: &Numbers) -> bool {
-    (refusal == 0) & agrees(part(x, 57, 29), derived)
+fn is_derived(judged: Result<(), Refusal>, derived: &[f64; 29], x: &Numbers) -> bool {
+    judged.is_ok() & agrees(part(x, 57, 29), derived)
 }
 
 pub(crate) fn derive_agrees(w: &Words, x: &Numbers) -> bool {
@@ -42,5 +43,5 @@ pub(crate) fn derive_agrees(w: &Words, x: &Numbers) -> bool {
     let compiled = envelope::compile(c, &UNREAD, &UNREAD);
     let mut derived = [0.0; 29];
     layout::config::put_derived(compiled.derived, &mut derived);
-    is_derived(compiled.number, &derived, x)
+    is_derived(compiled.judged, &derived, x)
 }
