@@ -4,7 +4,7 @@ use Rattle.std.specs.Prelude.{ℕ, ◌+◌, ◌*◌, ◌≡◌, Bool, true, fals
 use Rattle.std.proofs.Math.Seq.{paste}
 use Rattle.std.specs.Borrow.{Bor, MutBor}
 use Rattle.checked.specs.Finite.{+0}
-use Rattle.refusal.specs.Order.{refusal, refused_for, answer_by}
+use Rattle.refusal.specs.Order.{refusal, answer_by}
 use Rattle.chunk.specs.declared.ChunkBuf.{ChunkBuf}
 use Rattle.chunk.specs.declared.ChunkView.{ChunkView}
 use Rattle.chunk.specs.declared.Filled.{Filled}

@@ -10,8 +10,9 @@ use lib.Dec.{eqb, ltb}
 use lib.Ieee.{Float, Format, binary64}
 use lib.ListN.{length}
 use Rattle.refusal.specs.declared.Refusal.{Refusal}
-use Rattle.refusal.specs.Order.{Reason, Judged, size, steps, short, not_finite, computed, ◌when◌, number_of, order, among, given, refusal, refused_for, ◌or◌}
+use Rattle.refusal.specs.Order.{Reason, Judged, size, steps, short, not_finite, computed, ◌when◌, number_of, order, among, given, refusal, refused_for, answer_by, judged_by, number_given, ◌or◌}
 use Rattle.std.specs.Prelude.{if◌then◌else◌, Err, Ok, Result}
+use Rattle.refusal.specs.Chain.{number_back}
 use Rattle.refusal.specs.Exactly.{First, here, later, exactly_first, exactly_none}
 use Rattle.checked.specs.Checked.{root}
 use Rattle.fmath.specs.Norm.{norm, dist}
@@ -58,6 +59,11 @@ chosen : {A : Type 0} (told : A → ℕ) (n : ℕ) (a b : A) → told a ≡ 0 �
 chosen told zero a b p q = p
 chosen told (suc k) a b p q = rw (ne_eqb (suc k) 0 (λ z. omega arith)) q
 
+-- the same of an answer by what is judged
+chosen_by : {A : Type 0} (told : Result A Refusal → ℕ) (n : ℕ) (a : A) → told (Ok a) ≡ 0 → ((r : Refusal) → told (Err r) ≡ r.number) → told (answer_by Err (Ok a) n) ≡ n
+chosen_by told zero a p q = p
+chosen_by told (suc k) a p q = q (refused_for (suc k))
+
 -- ---- fmath (R1)
 
 number_told_lem : (n : ℕ) (x : Float) → number_in (number_or n x) ≡ n
@@ -76,8 +82,8 @@ dist_exactly f a b n = exactly _ (number_told_lem _ _)
 
 -- ---- chunk (R2)
 
-pub chunk_refusal_exactly : (k : Header) (n : ℕ) → Exactly (refusal (chunk_reasons k n)) (among (chunk_reasons k n))
-chunk_refusal_exactly k n = exactly _ refl
+pub chunk_refusal_exactly : (k : Header) (n : ℕ) → Exactly (number_given (judged_by (refusal (chunk_reasons k n)))) (among (chunk_reasons k n))
+chunk_refusal_exactly k n = exactly _ (number_back _)
 
 held_number : (b : ChunkBuf) → held_refusal_of b ≡ given (prev_judged b)
 unfolding held_refusal_of
@@ -90,8 +96,8 @@ held_number b = go b.filled
     go true = refl
     go false = refl
 
-pub held_refusal_exactly : (b : ChunkBuf) → Exactly (held_refusal_of b) (prev_judged b)
-held_refusal_exactly b = exactly _ (held_number b)
+pub held_refusal_exactly : (b : ChunkBuf) → Exactly (number_given (judged_by (held_refusal_of b))) (prev_judged b)
+held_refusal_exactly b = exactly _ (number_back _ ∙ held_number b)
 
 pub chunk_clear_exactly : (b : ChunkBuf) → Exactly (chunk_clear_of b).number (prev_judged b)
 unfolding chunk_clear_of
@@ -104,7 +110,7 @@ holding_number (Err r) = r.number
 
 pub is_filled_exactly : (b : ChunkBuf) → Exactly (holding_number (holding_of b)) (prev_judged b)
 unfolding holding_of
-is_filled_exactly b = exactly _ (chosen holding_number (held_refusal_of b) _ _ refl refl ∙ held_number b)
+is_filled_exactly b = exactly _ (chosen_by holding_number (held_refusal_of b) b.filled refl (λ r. refl) ∙ held_number b)
 
 pub fill_exactly : (b : ChunkBuf) (k : Header) (l : List Float) → Exactly (fill_of b k l).number (among (lent_reasons l k))
 unfolding fill_of
@@ -134,11 +140,11 @@ path_exactly f t d w = exactly _ (number_told_lem _ _)
 
 pub len_exactly : (t : Trail) → Exactly (count_number (count_of t)) (among (trail_reasons t))
 unfolding count_number count_of
-len_exactly t = exactly _ (chosen count_number (refusal (trail_reasons t)) _ _ refl refl)
+len_exactly t = exactly _ (chosen_by count_number (refusal (trail_reasons t)) t.len refl (λ r. refl))
 
 pub is_empty_exactly : (t : Trail) → Exactly (emptiness_number (emptiness_of t)) (among (trail_reasons t))
 unfolding emptiness_number emptiness_of
-is_empty_exactly t = exactly _ (chosen emptiness_number (refusal (trail_reasons t)) _ _ refl refl)
+is_empty_exactly t = exactly _ (chosen_by emptiness_number (refusal (trail_reasons t)) (eqb t.len 0) refl (λ r. refl))
 
 -- ---- envelope (R4)
 
@@ -257,7 +263,7 @@ aggregate_exactly cal tabs sc = exactly _ refl
 
 pub trip_exactly : (cal : Calibration) (tabs : Tables) (sc : Scores) → Exactly (verdict_number (tripped cal tabs sc)) (among (scores_judged cal tabs sc true))
 unfolding verdict_number tripped judged
-trip_exactly cal tabs sc = exactly _ (chosen verdict_number (refusal (scores_judged cal tabs sc true)) _ _ refl refl)
+trip_exactly cal tabs sc = exactly _ (chosen_by verdict_number (refusal (scores_judged cal tabs sc true)) (trips cal.tau sc.s) refl (λ r. refl))
 
 pub time_bin_exactly : (t horizon : ℕ) → Exactly (bin_number (time_bin_of t horizon)) (among (steps when eqb horizon 0 ∷ []))
 unfolding bin_number time_bin_of

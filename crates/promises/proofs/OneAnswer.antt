@@ -91,6 +91,7 @@ use Rattle.bits.proofs.weight.Reads as weight
 use Rattle.refusal.proofs.Refusal.of.Reads as refusal-of
 use Rattle.refusal.proofs.Refusal.when.Reads as refusal-when
 use Rattle.refusal.proofs.Refusal.or_later.Reads as refusal-or-later
+use Rattle.refusal.proofs.Refusal.number_of.Reads as refusal-number-of
 use Rattle.refusal.proofs.Refusal.earlier.Reads as refusal-earlier
 use Rattle.words.proofs.pair.Reads as pair
 use Rattle.words.proofs.word.Reads as word
@@ -445,6 +446,9 @@ one_refusal_when l a r s x y = unique
 
 pub one_refusal_or_later : One refusal-or-later.Post (λ r x. r)
 one_refusal_or_later l a r s x y = unique
+
+pub one_refusal_number_of : One refusal-number-of.Post (λ r x. r)
+one_refusal_number_of l a r s x y = unique
 
 pub one_refusal_earlier : One refusal-earlier.Post (λ r x. r)
 one_refusal_earlier l a r s x y = unique
