@@ -1,10 +1,11 @@
 // Trips: which limits the rows as they came exceed.
-ghost use Rattle.std.specs.Prelude.{◌≡◌, ◌+◌, ◌-◌, ◌*◌, ◌≤◌, ◌<◌, ℕ, Float, length, replicate};
+ghost use Rattle.std.specs.Prelude.{◌≡◌, ◌+◌, ◌-◌, ◌*◌, ◌≤◌, ◌<◌, length, replicate};
 ghost use Rattle.std.specs.Float.{binary64};
-ghost use Rattle.checked.specs.Checked.{Checked, each};
-ghost use Rattle.checked.specs.Finite.{finite, +0};
+ghost use Rattle.checked.specs.Checked.{each};
+ghost use Rattle.checked.specs.Finite.{+0};
 ghost use Rattle.tier0.specs.Rule.{out_of_workspace, out_of_reach, trip_bits};
-ghost use Rattle.tier0.specs.Chunk.{some_of, large_at, further, trip_of, too_large};
+ghost use Rattle.tier0.specs.Chunk.{bends, jolts, some_of, large_at, further, trip_of, too_large};
+ghost use Rattle.tier0.specs.declared.Difference.TheVariants.{Accel, Jerk};
 ghost use Rattle.checked.specs.Of.{row_from, test_from};
 ghost use Rattle.tier0.specs.Of.{steps_from};
 
@@ -103,56 +104,84 @@ pub(crate) fn step_rows(s: Checks, slow: f64, q: [f64; 8], rows: &[f64], h: usiz
     }
 }
 
-// A difference on each of the first n coordinates.
-fn each_coordinate<F: Fn(usize) -> f64>(n: usize, difference: F) -> Row
-    requires few { n ≤ 8 }
-    requires told { (i : ℕ) → i < n → F.pre difference i }
-    ensures { (g : ℕ → Checked Float) → ((i : ℕ) → (g i).sound ≡ finite (g i).value) → ((i : ℕ) (x : Float) → i < n → F.post difference i x → x ≡ (g i).value) → result ≡ row_from (each g (replicate 8 +0) n) }
+// next - 2 here + before, on each of the first n coordinates.
+// `bent` and `jolted` as one function over a closure were tried, and slower: a tenth more for a chunk with ACCEL and JERK armed.
+fn bent(next: &[f64; 8], here: &[f64; 8], before: &[f64; 8], n: usize) -> Row
+    requires { n ≤ 8 }
+    ensures { result ≡ row_from (each (bends binary64 next.now here.now before.now) (replicate 8 +0) n) }
 {
-    let mut at = [0.0; 8];
+    let mut r = [0.0; 8];
     let mut sound = true;
     for i in 0..n {
-        let x = difference(i);
-        at[i] = x;
+        let x = (next[i] - 2.0 * here[i]) + before[i];
+        r[i] = x;
         sound = sound & fmath::finite(x);
     }
-    Row { at, sound }
+    Row { at: r, sound }
 }
 
-// A difference at row i exceeds its limit: next - 2 here + before, or second - 3 next + 3 here - before.
-fn large_at(s: Checks, d: Difference, q: [f64; 8], rows: &[f64], i: usize) -> Test
-    requires { (s.dim ≤ 8) × (i + further d < 64) × ((i + further d) * s.dim + s.dim ≤ length rows.now) }
-    ensures { result ≡ test_from (large_at binary64 s d q rows.now i) }
+// second - 3 next + 3 here - before, likewise.
+fn jolted(second: &[f64; 8], next: &[f64; 8], here: &[f64; 8], before: &[f64; 8], n: usize) -> Row
+    requires { n ≤ 8 }
+    ensures { result ≡ row_from (each (jolts binary64 second.now next.now here.now before.now) (replicate 8 +0) n) }
+{
+    let mut r = [0.0; 8];
+    let mut sound = true;
+    for i in 0..n {
+        let x = ((second[i] - 3.0 * next[i]) + 3.0 * here[i]) - before[i];
+        r[i] = x;
+        sound = sound & fmath::finite(x);
+    }
+    Row { at: r, sound }
+}
+
+// ACCEL at row i.
+fn bent_at(s: Checks, q: [f64; 8], rows: &[f64], i: usize) -> Test
+    requires { (s.dim ≤ 8) × (i < 63) × (i * s.dim + s.dim ≤ length rows.now) × ((i + 1) * s.dim + s.dim ≤ length rows.now) }
+    ensures { result ≡ test_from (large_at binary64 s Accel q rows.now i) }
 {
     let next = raw_row(rows, s.dim, i + 1);
     let here = raw_row(rows, s.dim, i);
     let before = row_before(q, rows, s.dim, i);
+    let d = bent(&next, &here, &before, s.dim);
+    let at = d.at;
+    let v = fmath::magnitude(&at, s.dim);
+    let w = v * s.inv_dt2;
+    let fine = fmath::finite(w);
+    Test {
+        holds: s.a_max < w,
+        sound: d.sound & fine,
+    }
+}
+
+// JERK at row i.
+fn jolted_at(s: Checks, q: [f64; 8], rows: &[f64], i: usize) -> Test
+    requires { (s.dim ≤ 8) × (i < 62) × (i * s.dim + s.dim ≤ length rows.now) × ((i + 1) * s.dim + s.dim ≤ length rows.now) × ((i + 2) * s.dim + s.dim ≤ length rows.now) }
+    ensures { result ≡ test_from (large_at binary64 s Jerk q rows.now i) }
+{
+    let second = raw_row(rows, s.dim, i + 2);
+    let next = raw_row(rows, s.dim, i + 1);
+    let here = raw_row(rows, s.dim, i);
+    let before = row_before(q, rows, s.dim, i);
+    let d = jolted(&second, &next, &here, &before, s.dim);
+    let at = d.at;
+    let v = fmath::magnitude(&at, s.dim);
+    let w = v * s.inv_dt3;
+    let fine = fmath::finite(w);
+    Test {
+        holds: s.j_max < w,
+        sound: d.sound & fine,
+    }
+}
+
+// A difference at row i exceeds its limit. The clause of `too_large` is over these two cases, and names `large_at`, `further` and `trip_of`.
+fn large_at(s: Checks, d: Difference, q: [f64; 8], rows: &[f64], i: usize) -> Test
+    requires { (s.dim ≤ 8) × (i + further d < 64) × ((i + further d) * s.dim + s.dim ≤ length rows.now) }
+    ensures { result ≡ test_from (large_at binary64 s d q rows.now i) }
+{
     match d {
-        Difference::Accel => {
-            let bent = each_coordinate(s.dim, |c| (next[c] - 2.0 * here[c]) + before[c]);
-            let at = bent.at;
-            let v = fmath::magnitude(&at, s.dim);
-            let w = v * s.inv_dt2;
-            let fine = fmath::finite(w);
-            Test {
-                holds: s.a_max < w,
-                sound: bent.sound & fine,
-            }
-        }
-        Difference::Jerk => {
-            let second = raw_row(rows, s.dim, i + 2);
-            let jolted = each_coordinate(s.dim, |c| {
-                ((second[c] - 3.0 * next[c]) + 3.0 * here[c]) - before[c]
-            });
-            let at = jolted.at;
-            let v = fmath::magnitude(&at, s.dim);
-            let w = v * s.inv_dt3;
-            let fine = fmath::finite(w);
-            Test {
-                holds: s.j_max < w,
-                sound: jolted.sound & fine,
-            }
-        }
+        Difference::Accel => bent_at(s, q, rows, i),
+        Difference::Jerk => jolted_at(s, q, rows, i),
     }
 }
 
