@@ -1,4 +1,5 @@
 // Computed numbers: a value, and whether each number computed on the way to it is finite. Refusal 13 is given where it is not.
+// `sound` stands beside the value, and no Option in its place, since each contract gives the value also where it is false (`specs/Checked`).
 #![tactic(auto)]
 
 // A number.

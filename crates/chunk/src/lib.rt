@@ -19,7 +19,8 @@ pub struct Header {
     pub exec_steps: u16,
 }
 
-// The numbers of a chunk in row-major order: row i starts at i x dim.
+// The numbers of a chunk in row-major order: row i starts at i x dim. `filled` stands beside them, since `clear` promises that all else is kept, and C
+// lays both out.
 #[derive(Clone, Copy)]
 pub struct ChunkBuf {
     pub data: [f64; 512],

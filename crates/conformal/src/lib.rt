@@ -15,7 +15,7 @@ ghost use Rattle.conformal.specs.Of.{tables, counted_from, standards_from, term_
 use checked::Reckoned;
 use refusal::Refusal;
 
-// The bits of the twelve features.
+// The bits of the twelve features: places in the arrays and in the words of bits that C shares, so they are numbers.
 #[derive(Clone, Copy)]
 pub struct Feat {}
 
@@ -72,7 +72,8 @@ impl GateSpec {
     };
 }
 
-// Its two tables are lent beside it: center and scale of feature j in time bin b stand at b * 12 + j.
+// Its two tables are lent beside it: center and scale of feature j in time bin b stand at b * 12 + j. A struct of both references would cost each entry its plain
+// reading, on which the theorems `one-NAME` rest.
 #[derive(Clone, Copy)]
 pub struct Calibration {
     pub mask: u32,
@@ -94,7 +95,7 @@ struct Counted {
     without_stall: bool,
 }
 
-// The z of all features; `sound` says that each number computed on the way is finite.
+// The z of all features; `sound` says that each number computed on the way is finite, and z is given in either case (`standards_from`).
 #[derive(Clone, Copy)]
 struct AllZ {
     z: [f64; 12],

@@ -25,7 +25,8 @@ pub struct Course {
     pub per: Substeps,
 }
 
-// How far a run has come: the plant, the least slack, the entries written, and whether each number so far is finite.
+// How far a run has come: the plant, the least slack, the entries written, and whether each number so far is finite. The first three are promised also
+// of a run that stopped (`CameAlong`), so `sound` stands beside them.
 #[derive(Clone, Copy)]
 pub struct Run {
     pub plant: Plant,

@@ -82,7 +82,7 @@ pub struct ControlSteps(pub u16);
 #[derive(Clone, Copy)]
 pub struct Substeps(pub u16);
 
-// The bits of the checks.
+// The bits of the checks, as C lends and is given them.
 #[derive(Clone, Copy)]
 pub struct TripMask {}
 
@@ -135,7 +135,8 @@ pub struct BrakeModel {
     pub react_ticks: u16,
 }
 
-// The raw configuration. Where `calibrated` is clear, `calib`, its tables and `horizon_ticks` are not judged.
+// The raw configuration. Where `calibrated` is clear, `calib`, its tables and `horizon_ticks` are not judged; they stand here in either case, since
+// `layout::config_of` promises them so.
 #[derive(Clone, Copy)]
 pub struct FuseConfig {
     pub kind: ActionKind,

@@ -13,7 +13,7 @@ ghost use Rattle.fmath.specs.Clamp.{sided};
 
 use refusal::Refusal;
 
-// A number between two walls, and which of them moved it: -1 where lo raised it, 1 where hi lowered it, 0 where neither did.
+// A number between two walls, and which of them moved it: -1 where lo raised it, 1 where hi lowered it, 0 where neither did, as `lictor_clamp_side` gives C.
 #[derive(Clone, Copy)]
 pub struct Sided {
     pub value: f64,

@@ -10,7 +10,7 @@ ghost use Rattle.input.specs.Reads.{answer, given, after, Read, reads_on, Fills,
 
 use std::io;
 
-// How many bytes a block holds, how many of them the last read gave, and whether it failed.
+// How many bytes a block holds, how many of them the last read gave, and whether it failed: the bytes are promised then, too (`Fills`).
 #[derive(Clone, Copy)]
 pub struct Filled {
     pub n: usize,

@@ -11,7 +11,7 @@ use envelope::{
 use workspace::Shape;
 
 // ---- codes: one that is none gives the last kind, of the choices for an absent camera the slow one, of the shapes the box, and of the modes
-// of the gripper the Rust's
+// of the gripper the Rust's. A `From` of these numbers would have to stand in the crates of the kinds, which know nothing of C's codes.
 
 fn kind_of(k: u64) -> ActionKind
     ensures { result ≡ kind_of k }

@@ -1,4 +1,5 @@
-// Why a call is refused: a number of the table (R0) and, for a computed number that isn't finite, its place.
+// Why a call is refused: a number of the table (R0), as C is given it and the theorems `NAME-exactly` state it, and, for a computed number that isn't
+// finite, its place.
 #![tactic(auto)]
 
 ghost use Rattle.std.specs.Prelude.{◌≡◌, Ok, Err, if◌then◌else◌};

@@ -59,7 +59,7 @@ pub struct Checks {
 }
 
 // Whether the position is inside a slow zone, or one of some, and the least step that is then allowed. In each struct below, `sound` says that
-// each number computed on the way is finite.
+// each number computed on the way is finite; the contracts give the rest also where it is false, so it stands beside it.
 #[derive(Clone, Copy)]
 pub struct SlowZone {
     pub inside: bool,

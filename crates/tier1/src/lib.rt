@@ -23,7 +23,8 @@ mod refusals;
 mod sums;
 mod tick;
 
-// What is held between ticks: the chunk before, the trail of positions, and the features of the last chunk, bits 0 to 5.
+// What is held between ticks: the chunk before, the trail of positions, and the features of the last chunk, bits 0 to 5. C lays `have_prev` out beside a
+// chunk that is kept in either case.
 #[derive(Clone, Copy)]
 pub struct Tier1Rt {
     pub prev: ChunkBuf,
@@ -43,7 +44,7 @@ pub struct Manifest {
     pub iso: f64,
 }
 
-// Two features, likewise.
+// Two features. In each struct below, `sound` says that each number computed on the way is finite; the features are promised also where it is false.
 #[derive(Clone, Copy)]
 pub struct Pair {
     pub first: f64,
@@ -51,7 +52,7 @@ pub struct Pair {
     pub sound: bool,
 }
 
-// The features of a chunk and their bits, likewise.
+// The features of a chunk and their bits.
 #[derive(Clone, Copy)]
 pub struct SixFeatures {
     pub held: [f64; 6],
@@ -59,7 +60,7 @@ pub struct SixFeatures {
     pub sound: bool,
 }
 
-// All twelve features of a tick and their bits, likewise.
+// All twelve features of a tick and their bits.
 #[derive(Clone, Copy)]
 pub struct AllFeatures {
     pub f: [f64; 12],
@@ -218,7 +219,8 @@ fn held_after(
     boundary(m, kept, &rt.prev.data, pos, k.t_emit, h, rows)
 }
 
-// What a tick finds: the features of `features`, without the chunk that is kept.
+// What a tick finds: the features of `features`, without the chunk that is kept. `there` stands beside the lent chunk, and no Option of a view in their place:
+// of a contract whose argument holds a reference the prover makes no plain reading, on which `one_one_tick` and `one_features` rest.
 pub fn one_tick(
     c: FuseConfig,
     center: &[f64; 192],
