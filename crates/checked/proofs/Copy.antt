@@ -1,4 +1,4 @@
--- One turn of a loop that copies a list over another, from a place on; a copy of what both lists have; a row of eight.
+-- A copy of what both lists have; a row of eight.
 use Prim.Native.Nat.{ℕ, zero, suc, ◌+◌, ◌<◌, ◌≤◌, min}
 use mathlib.Core.Path.{◌≡◌, sym, ap, ◌∙◌}
 use mathlib.Core.List.{List, ◌++◌}
@@ -12,9 +12,6 @@ use Rattle.checked.specs.Each.{at, over}
 use Rattle.checked.specs.Finite.{+0}
 use Rattle.checked.specs.Row.{padded, eight}
 use Rattle.checked.proofs.Each.{over_at, over_keeps, length_over}
-
-pub copy_more : (l₀ l r : List Float) (at j : ℕ) → at + j < length l₀ → j < length r → l ≡ paste l₀ at r j → set l (at + j) (get_or r j nan) ≡ paste l₀ at r (j + 1)
-copy_more l₀ l r at j hl hr e = ap (λ (x : List Float). set x (at + j) (get_or r j nan)) e ∙ paste-suc l₀ at r j nan hl hr ∙ ap (paste l₀ at r) (sym (add-one j))
 
 -- what `put` writes where both have n numbers
 pub all_put : (l₀ r : List Float) {l : List Float} {n a b : ℕ} → n ≤ a → n ≤ b → l ≡ over (at r) l₀ (min n (min a b)) → l ≡ over (at r) l₀ n
