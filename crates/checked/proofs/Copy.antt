@@ -1,12 +1,11 @@
 -- A copy of what both lists have; a row of eight.
-use Prim.Native.Nat.{ℕ, zero, suc, ◌+◌, ◌<◌, ◌≤◌, min}
+use Prim.Native.Nat.{ℕ, zero, suc, ◌<◌, ◌≤◌, min}
 use mathlib.Core.Path.{◌≡◌, sym, ap, ◌∙◌}
 use mathlib.Core.List.{List, ◌++◌}
 use native.Mathlib.Nat.{zero-add, le_refl}
-use native.Mathlib.Numerals.{add-one}
 use native.Mathlib.Omega.{arith}
 use lib.Ieee.{Float, nan}
-use lib.ListN.{length, get_or, take, drop, set, replicate, get_or-replicate}
+use lib.ListN.{length, take, drop, set, replicate, get_or-replicate}
 use lib.Seq.{paste, paste-zero, paste-suc}
 use Rattle.checked.specs.Each.{at, over}
 use Rattle.checked.specs.Finite.{+0}
