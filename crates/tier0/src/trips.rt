@@ -105,7 +105,7 @@ pub(crate) fn step_rows(s: Checks, slow: f64, q: [f64; 8], rows: &[f64], h: usiz
 }
 
 // next - 2 here + before, on each of the first n coordinates.
-// `bent` and `jolted` as one function over a closure were tried, and slower: a tenth more for a chunk with ACCEL and JERK armed.
+// `bent` and `jolted` as one function over a closure were tried, and slower: about a tenth more for a chunk with ACCEL and JERK armed.
 fn bent(next: &[f64; 8], here: &[f64; 8], before: &[f64; 8], n: usize) -> Row
     requires { n ≤ 8 }
     ensures { result ≡ row_from (each (bends binary64 next.now here.now before.now) (replicate 8 +0) n) }
@@ -174,7 +174,7 @@ fn jolted_at(s: Checks, q: [f64; 8], rows: &[f64], i: usize) -> Test
     }
 }
 
-// A difference at row i exceeds its limit. The clause of `too_large` is over these two cases, and names `large_at`, `further` and `trip_of`.
+// A difference at row i exceeds its limit. The rule `too_large` is over these two cases, and names `large_at`, `further` and `trip_of`.
 fn large_at(s: Checks, d: Difference, q: [f64; 8], rows: &[f64], i: usize) -> Test
     requires { (s.dim ≤ 8) × (i + further d < 64) × ((i + further d) * s.dim + s.dim ≤ length rows.now) }
     ensures { result ≡ test_from (large_at binary64 s d q rows.now i) }
