@@ -31,6 +31,16 @@ use Rattle.tier1.specs.declared.Tier1Rt.{Tier1Rt}
 use Rattle.tier1.specs.Refusals.{none, new_judged, prev_judged, state_judged, some_not_finite_in, lent_judged}
 use Rattle.tier1.specs.Of.{judged}
 
+-- ---- a new chunk
+
+module _ (there : Bool) (k : Header) (n dim : ℕ) where
+  pub none_new : there ≡ false → 0 ≡ given (new_judged there k n dim)
+  none_new e = rw e
+
+  pub new_is : there ≡ true → {s w r : ℕ} → s ≡ refusal (chunk_reasons k n) → w ≡ (if not (eqb k.dim dim) then 10 else 0) → r ≡ earlier s w → r ≡ given (new_judged there k n dim)
+  new_is e es ew er =
+      rw e (er ∙ rw (es, ew) (sym (given_or (among (chunk_reasons k n)) (among ((width when not (eqb k.dim dim)) ∷ [])))))
+
 -- ---- the state
 
 prev_number : (b : ChunkBuf) → held_refusal_of b ≡ given (prev_judged b)
