@@ -30,7 +30,7 @@ use Rattle.chunk.specs.declared.Header.{Header}
 use Rattle.conformal.specs.declared.Calibration.{Calibration}
 use Rattle.conformal.specs.declared.Scores.{Scores}
 use Rattle.conformal.specs.Answer.{scores_judged, judged, standards_of, standardised, aggregated, tripped, time_bin_of}
-use Rattle.conformal.specs.Rule.{Tables}
+use Rattle.conformal.specs.Rule.{trips, Tables}
 use Rattle.envelope.specs.Refusals.{config_judged}
 use Rattle.envelope.specs.declared.FuseConfig.{FuseConfig}
 use Rattle.tier0.specs.Rule.{Judgement}
