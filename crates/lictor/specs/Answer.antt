@@ -27,6 +27,11 @@ fitting fits n = if fits then n else 255
 abbrev pub written : {A : Type 0} → ℕ → A → A → A
 written n new old = if eqb n 0 then new else old
 
+-- an accepted answer is given as `given` relates it to what its place holds then, and 0 is returned; of a refusal its number is
+unfoldable pub Given : {A B : Type 0} → (A → B → Type 0) → Result A Refusal → ℕ → B → B → Type 0
+Given given (Ok x) r old new = (r ≡ 0) × given x new
+Given given (Err e) r old new = (r ≡ e.number) × (new ≡ old)
+
 -- ---- fmath (R1): a number
 
 unfoldable pub number_of : Result Float Refusal → ℕ

@@ -3,7 +3,7 @@
 ghost use Rattle.std.specs.Prelude.{◌≡◌, true, if◌then◌else◌};
 ghost use Rattle.layout.specs.Chunk.{header_from};
 ghost use Rattle.lictor.specs.Asked.{rows_over};
-ghost use Rattle.lictor.specs.Answer.{fitting, NumberGiven, MaskGiven, RecordedGiven, CountGiven, EmptinessGiven, DerivedGiven, CheckPut, ClearedGiven, ForecastPut, RanPut, SentPut, ScoredGiven, VerdictGiven, BinGiven};
+ghost use Rattle.lictor.specs.Answer.{fitting, Given, NumberGiven, MaskGiven, RecordedGiven, CountGiven, EmptinessGiven, DerivedGiven, CheckPut, ClearedGiven, ForecastPut, RanPut, SentPut, ScoredGiven, VerdictGiven, BinGiven};
 
 use brake::{BrakeOut, Ran};
 use chunk::Header;
@@ -22,16 +22,24 @@ pub(crate) fn fitting(fits: bool, number: u8) -> u64
     if fits { number as u64 } else { 255 }
 }
 
-pub(crate) fn put_number(a: Result<f64, Refusal>, value: &mut f64) -> u64
-    ensures { NumberGiven a result value.old value.new }
+// Puts what an accepted answer gives where C reads it, and returns the number.
+fn put<T, U: Copy, F: Fn(T) -> U>(a: Result<T, Refusal>, place: &mut U, given: F) -> u64
+    requires { F.IsAlwaysCallable given }
+    ensures { Given (F.post given) a result place.old place.new }
 {
     match a {
         Ok(x) => {
-            *value = x;
+            *place = given(x);
             0
         }
         Err(r) => r.number as u64,
     }
+}
+
+pub(crate) fn put_number(a: Result<f64, Refusal>, value: &mut f64) -> u64
+    ensures { NumberGiven a result value.old value.new }
+{
+    put(a, value, |x| x)
 }
 
 // Puts a chunk's numbers over the first ones of a buffer that has room for them.
@@ -62,13 +70,7 @@ pub(crate) fn put_lent(
 pub(crate) fn put_mask(a: Result<u64, Refusal>, mask: &mut u64) -> u64
     ensures { MaskGiven a result mask.old mask.new }
 {
-    match a {
-        Ok(m) => {
-            *mask = m;
-            0
-        }
-        Err(r) => r.number as u64,
-    }
+    put(a, mask, |m| m)
 }
 
 pub(crate) fn put_recorded(a: Recorded, numbers: &mut [f64; 256], marks: &mut [u64; 2]) -> u64
@@ -84,25 +86,13 @@ pub(crate) fn put_recorded(a: Recorded, numbers: &mut [f64; 256], marks: &mut [u
 pub(crate) fn put_count(a: Result<usize, Refusal>, len: &mut u64) -> u64
     ensures { CountGiven a result len.old len.new }
 {
-    match a {
-        Err(r) => r.number as u64,
-        Ok(n) => {
-            *len = n as u64;
-            0
-        }
-    }
+    put(a, len, |n| n as u64)
 }
 
 pub(crate) fn put_emptiness(a: Result<bool, Refusal>, empty: &mut u64) -> u64
     ensures { EmptinessGiven a result empty.old empty.new }
 {
-    match a {
-        Err(r) => r.number as u64,
-        Ok(b) => {
-            *empty = b as u64;
-            0
-        }
-    }
+    put(a, empty, |b| b as u64)
 }
 
 pub(crate) fn put_derived(number: u64, d: Derived, derived: &mut [f64; 29]) -> u64
@@ -230,23 +220,11 @@ pub(crate) fn put_verdict(fits: bool, a: Result<bool, Refusal>, trips: &mut u64)
     if !fits {
         return 255;
     }
-    match a {
-        Err(r) => r.number as u64,
-        Ok(b) => {
-            *trips = b as u64;
-            0
-        }
-    }
+    put(a, trips, |b| b as u64)
 }
 
 pub(crate) fn put_bin(a: Result<usize, Refusal>, bin: &mut u64) -> u64
     ensures { BinGiven a result bin.old bin.new }
 {
-    match a {
-        Err(r) => r.number as u64,
-        Ok(b) => {
-            *bin = b as u64;
-            0
-        }
-    }
+    put(a, bin, |b| b as u64)
 }

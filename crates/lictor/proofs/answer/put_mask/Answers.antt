@@ -1,12 +1,12 @@
--- `lictor::answer::put_mask` meets its contract: by the cases of the answer.
+-- `lictor::answer::put_mask` meets its contract: what is put is given.
 use mathlib.Core.Path.{refl}
+use borrow.Author.Rules.{rules}
 use Rattle.lictor.specs.Answer.{mask_number, mask_value}
+use Rattle.lictor.proofs.Put.{given_tells}
 use Rattle.lictor.proofs.answer.put_mask.Goals as goal
 
-pub returns-in-Ok : goal.returns-in-Ok
+pub returns : goal.returns
 unfolding mask_number mask_value
-returns-in-Ok c = rw c.in-Ok.is (record { number = refl; value = refl })
-
-pub returns-in-Err : goal.returns-in-Err
-unfolding mask_number mask_value
-returns-in-Err c = rw c.in-Err.is (record { number = refl; value = refl })
+returns c =
+    let w = given_tells mask_number mask_value c.args.a c.put.ensures (λ x y old e. (refl, search rules)) (λ e old. (refl, refl)) in
+    record { number = w.0; value = w.1 }

@@ -1,12 +1,12 @@
--- `put_number` meets its contract: by the two cases of the answer.
+-- `lictor::answer::put_number` meets its contract: what is put is given.
 use mathlib.Core.Path.{refl}
+use borrow.Author.Rules.{rules}
 use Rattle.lictor.specs.Answer.{number_of, value_of}
+use Rattle.lictor.proofs.Put.{given_tells}
 use Rattle.lictor.proofs.answer.put_number.Goals as goal
 
-pub returns-in-Ok : goal.returns-in-Ok
+pub returns : goal.returns
 unfolding number_of value_of
-returns-in-Ok c = rw c.in-Ok.is (record { number = refl; value = refl })
-
-pub returns-in-Err : goal.returns-in-Err
-unfolding number_of value_of
-returns-in-Err c = rw c.in-Err.is (record { number = refl; value = refl })
+returns c =
+    let w = given_tells number_of value_of c.args.a c.put.ensures (λ x y old e. (refl, search rules)) (λ e old. (refl, refl)) in
+    record { number = w.0; value = w.1 }
