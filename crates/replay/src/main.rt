@@ -38,23 +38,21 @@ enum Entry {
     Features,
 }
 
-// A record; whether all of it was there, and whether a read failed.
+// Why a record is not there: the input ended before it or inside it, or a read failed.
 #[derive(Clone, Copy)]
-struct Next {
-    record: Record,
-    whole: bool,
-    failed: bool,
+enum Cut {
+    Ended,
+    Failed,
 }
 
-// How many records were replayed, how many of them agreed, and the number of the first that did not, 0 where there is none; whether the
-// input ended before the last, or a read failed; and whether all lines were written.
+// How many records were replayed, how many of them agreed, and the number of the first that did not; what cut them short; and whether all
+// lines were written.
 #[derive(Clone, Copy)]
 struct Tally {
     seen: u64,
     agreed: u64,
-    first: u64,
-    ended: bool,
-    failed: bool,
+    first: Option<u64>,
+    cut: Option<Cut>,
     wrote: bool,
 }
 
@@ -99,9 +97,8 @@ fn start() -> Tally {
     Tally {
         seen: 0,
         agreed: 0,
-        first: 0,
-        ended: false,
-        failed: false,
+        first: None,
+        cut: None,
         wrote: true,
     }
 }
@@ -112,8 +109,8 @@ fn told(t: Tally, ok: bool) -> Tally {
     u.seen = t.seen.wrapping_add(1);
     if ok {
         u.agreed = t.agreed.wrapping_add(1);
-    } else if t.first == 0 {
-        u.first = u.seen;
+    } else {
+        u.first = t.first.or(Some(u.seen));
     }
     u
 }
@@ -125,26 +122,19 @@ fn judged(entry: Entry, r: Record, t: Tally) -> Tally {
     told(t, agrees(entry, &w, &x))
 }
 
-// The tally where a record is not there: the last read failed, or the input ended.
-fn cut(t: Tally, failed: bool) -> Tally {
-    let mut u = t;
-    u.failed = failed;
-    u.ended = !failed;
-    u
-}
-
 // What the next n words of the input stand for. There is room for the longest record, and zeros stand behind a shorter one.
-fn next_record<R: io::Read>(from: &mut R, n: usize) -> Next
+fn next_record<R: io::Read>(from: &mut R, n: usize) -> Result<Record, Cut>
     requires { n ≤ 358 }
 {
     let size = 8 * n;
     let mut space = [0u8; 4096];
     let f = input::fill(from, &mut space[..size]);
-    let record = record_of(&space);
-    Next {
-        record,
-        whole: f.n == size,
-        failed: f.failed,
+    if f.n == size {
+        Ok(record_of(&space))
+    } else if f.failed {
+        Err(Cut::Failed)
+    } else {
+        Err(Cut::Ended)
     }
 }
 
@@ -153,23 +143,37 @@ fn replay<R: io::Read>(from: &mut R, entry: Entry, count: u64) -> Tally {
     let n = words_of(entry);
     let mut t = start();
     for _ in 0..count {
-        let next = next_record(from, n);
-        if !next.whole {
-            return cut(t, next.failed);
+        match next_record(from, n) {
+            Ok(record) => t = judged(entry, record, t),
+            Err(cut) => {
+                return Tally {
+                    cut: Some(cut),
+                    ..t
+                };
+            }
         }
-        t = judged(entry, next.record, t);
     }
     t
 }
 
 // Replays an entry, which begins with the number of its records.
 fn replay_entry<R: io::Read>(from: &mut R, entry: Entry) -> Tally {
-    let head = next_record(from, 1);
-    if !head.whole {
-        return cut(start(), head.failed);
+    match next_record(from, 1) {
+        Ok(head) => replay(from, entry, head.words[0]),
+        Err(cut) => Tally {
+            cut: Some(cut),
+            ..start()
+        },
     }
-    let first = head.record;
-    replay(from, entry, first.words[0])
+}
+
+// What cut two entries short. A read that failed counts more than an end, which may come of it.
+fn cut_of(a: Option<Cut>, b: Option<Cut>) -> Option<Cut> {
+    match (a, b) {
+        (Some(Cut::Failed), _) | (_, Some(Cut::Failed)) => Some(Cut::Failed),
+        (Some(Cut::Ended), _) | (_, Some(Cut::Ended)) => Some(Cut::Ended),
+        (None, None) => None,
+    }
 }
 
 // One entry more, whose line was written or not. No record is named: each entry numbers its own. A sum wraps past 2^64 records, more than can be read.
@@ -177,9 +181,8 @@ fn joined(a: Tally, b: Tally, wrote: bool) -> Tally {
     Tally {
         seen: a.seen.wrapping_add(b.seen),
         agreed: a.agreed.wrapping_add(b.agreed),
-        first: 0,
-        ended: a.ended | b.ended,
-        failed: a.failed | b.failed,
+        first: None,
+        cut: cut_of(a.cut, b.cut),
         wrote: a.wrote & wrote,
     }
 }
@@ -189,20 +192,18 @@ fn put_counts(to: &impl Print, name: &str, t: Tally) -> bool {
 }
 
 fn put_first(to: &impl Print, t: Tally) -> bool {
-    if t.first == 0 {
-        return true;
+    match t.first {
+        Some(n) => print!(to; ", the first difference in record {n}").is_ok(),
+        None => true,
     }
-    print!(to; ", the first difference in record {}", t.first).is_ok()
 }
 
 fn put_input(to: &impl Print, t: Tally) -> bool {
-    if t.failed {
-        return to.print(", a read failed").is_ok();
+    match t.cut {
+        Some(Cut::Failed) => to.print(", a read failed").is_ok(),
+        Some(Cut::Ended) => to.print(", the input ended").is_ok(),
+        None => true,
     }
-    if t.ended {
-        return to.print(", the input ended").is_ok();
-    }
-    true
 }
 
 // The line of an entry; whether it was written.
@@ -251,7 +252,7 @@ fn main(rt: HostRuntime) {
     let wrote = say(&rt, "in all", all);
     if !(all.wrote & wrote) {
         complain(&rt, "replay: a write failed");
-    } else if all.failed {
+    } else if let Some(Cut::Failed) = all.cut {
         complain(&rt, "replay: a read failed");
     }
 }
