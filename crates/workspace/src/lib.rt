@@ -281,7 +281,8 @@ fn slack_over<F: Fn(usize) -> Reckoned>(shape: Shape, edge: Reckoned, n: usize, 
     }
 }
 
-// The slack of a point over its first n coordinates.
+// The slack of a point over its first n coordinates. It is taken at each substep, where a call would copy the walls.
+#[inline(always)]
 pub fn slack(w: Workspace, p: [f64; 8], n: usize) -> Reckoned
     ensures { result ≡ reckoned_from (slack binary64 (walls_of w) p n) }
 {
