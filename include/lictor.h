@@ -144,8 +144,8 @@ static inline const char *lictor_refusal_text(uint64_t number) {
 static const double lictor_nothing[1] = {0.0};
 #define LICTOR_NONE lictor_nothing
 
-/* What an entry needs of the stack, at most. Measured with the kit's clang 22 at -O3: 19,000 bytes on Arm and on x86-64, by
-   lictor_tier1_reset (docs/INTEGRATION.md). */
+/* What an entry needs of the stack, at most. Measured with the kit's clang 22 at -O3: 21,447 bytes on x86-64, by lictor_features
+   (docs/INTEGRATION.md). */
 #define LICTOR_STACK 32768
 
 /* Use lictor_environment_ok below. Whether the processor rounds to nearest and keeps small numbers, where one is 1 and least is

@@ -216,7 +216,7 @@ pub fn row_mut(data: &mut [f64], horizon: u16, dim: u16, i: usize) -> &mut [f64]
     &mut data[start..end]
 }
 
-// Writes the numbers of row over that part, as many as both have; the rest stays.
+// Writes the numbers of row over that part, as many as both have; the rest stays. `copy_from_slice` would need `memmove` of whoever links the library for C.
 pub fn set_row(data: &mut [f64], horizon: u16, dim: u16, i: usize, row: &[f64])
     ensures { «data».new ≡ row_set «data».old horizon dim i row.now }
 {
@@ -229,7 +229,9 @@ pub fn set_row(data: &mut [f64], horizon: u16, dim: u16, i: usize, row: &[f64])
         return;
     }
     let n = fmath::fewer(d, row.len());
-    data[start..start + n].copy_from_slice(&row[..n]);
+    for c in 0..n {
+        data[start + c] = row[c];
+    }
 }
 
 // The rows that a buffer holds: the first horizon x dim of its numbers; none where no chunk is held or they are not there.

@@ -165,6 +165,6 @@ config_judged f c t =
     ∷ (shape when not (shape_fits c))
     ∷ (withdrawn when not (features_ok c)) ∷ []
 
--- the number that it is refused with, and what is derived from it
+-- what is judged of it, and what is derived from it
 abbrev pub compiled : Format → FuseConfig → Tables → Compiled
 compiled f c t = record { judged = judged_by (refusal (config_judged f c t)); derived = derived f c }

@@ -1,14 +1,14 @@
 // The guard's configuration, what is derived from it (R4), and why it is refused.
 #![tactic(auto)]
 
-ghost use Rattle.std.specs.Prelude.{◌≡◌, ◌<◌, min};
+ghost use Rattle.std.specs.Prelude.{◌≡◌, ◌<◌, min, not, [], ◌∷◌};
 ghost use Rattle.std.specs.Float.{binary64};
-ghost use Rattle.refusal.specs.Order.{judged_by, refusal};
+ghost use Rattle.refusal.specs.Order.{◌when◌, size, number, steps, channels, shape, withdrawn, judged_by, refusal};
 ghost use Rattle.conformal.specs.Of.{tables};
 ghost use Rattle.envelope.specs.Derive.{kept, low_walls, high_walls, inverses, isotropic, derived};
 ghost use Rattle.envelope.specs.Steps.{substeps_in};
 ghost use Rattle.envelope.specs.Slots.{counted};
-ghost use Rattle.envelope.specs.Refusals.{sizes_ok, limits_ok, gains_ok, brake_ok, zone_ok, zones_ok, norm_ok, walls_finite, box_ok, scalars_ok, ordered, derived_ok, calibration_ok, numbers_from, counts_ok, steps_ok, channels_ok, same_pair, pair_is_own, zones_fit, features_ok, config_judged, compiled};
+ghost use Rattle.envelope.specs.Refusals.{sizes_ok, limits_ok, gains_ok, brake_ok, zone_ok, zones_ok, norm_ok, walls_finite, box_ok, scalars_ok, ordered, derived_ok, calibration_ok, numbers_from, counts_ok, steps_ok, channels_ok, same_pair, pair_is_own, zones_fit, features_ok, compiled};
 
 use conformal::Calibration;
 use refusal::Refusal;
@@ -535,23 +535,36 @@ fn features_ok(c: FuseConfig) -> bool
 
 // ---- all of it, in one pass
 
-// Why a configuration is refused, given what is derived from it.
-fn judge(c: FuseConfig, d: Derived, center: &[f64; 192], scale: &[f64; 192]) -> Result<(), Refusal>
-    ensures { d ≡ derived binary64 c → result ≡ judged_by (refusal (config_judged binary64 c (tables center.now scale.now))) }
+// Why a configuration is refused, where each condition of the rule holds or not.
+fn judge(
+    sizes: bool,
+    numbers: bool,
+    counts: bool,
+    apart: bool,
+    spanned: bool,
+    features: bool,
+) -> Result<(), Refusal>
+    ensures { result ≡ judged_by (refusal ((size when not sizes) ∷ (number when not numbers) ∷ (steps when not counts) ∷ (channels when not apart) ∷ (shape when not spanned) ∷ (withdrawn when not features) ∷ [])) }
 {
-    Refusal::when(Refusal::SIZE, !sizes_ok(c))?;
-    Refusal::when(Refusal::NUMBER, !numbers_ok(c, d, center, scale))?;
-    Refusal::when(Refusal::STEPS, !steps_ok(c))?;
-    Refusal::when(Refusal::CHANNELS, !zones_fit(c.zones, c.aux_count))?;
-    Refusal::when(Refusal::SHAPE, !workspace::spans(c.shape, c.dim, c.pos_dim))?;
-    Refusal::when(Refusal::WITHDRAWN, !features_ok(c))
+    Refusal::when(Refusal::SIZE, !sizes)?;
+    Refusal::when(Refusal::NUMBER, !numbers)?;
+    Refusal::when(Refusal::STEPS, !counts)?;
+    Refusal::when(Refusal::CHANNELS, !apart)?;
+    Refusal::when(Refusal::SHAPE, !spanned)?;
+    Refusal::when(Refusal::WITHDRAWN, !features)
 }
 
-// Judges a configuration and derives from it, whether it is refused or not.
+// Judges a configuration and derives from it, whether it is refused or not. Every condition is computed before one is judged: no early exit stands between their loops.
 pub fn compile(c: FuseConfig, center: &[f64; 192], scale: &[f64; 192]) -> Compiled
     ensures { result ≡ compiled binary64 c (tables center.now scale.now) }
 {
     let derived = derive(c);
-    let judged = judge(c, derived, center, scale);
+    let sizes = sizes_ok(c);
+    let numbers = numbers_ok(c, derived, center, scale);
+    let counts = steps_ok(c);
+    let apart = zones_fit(c.zones, c.aux_count);
+    let spanned = workspace::spans(c.shape, c.dim, c.pos_dim);
+    let features = features_ok(c);
+    let judged = judge(sizes, numbers, counts, apart, spanned, features);
     Compiled { judged, derived }
 }

@@ -122,15 +122,14 @@ fn judged(entry: Entry, r: Record, t: Tally) -> Tally {
     told(t, agrees(entry, &w, &x))
 }
 
-// What the next n words of the input stand for. There is room for the longest record, and zeros stand behind a shorter one.
-fn next_record<R: io::Read>(from: &mut R, n: usize) -> Result<Record, Cut>
+// Reads the next n words of the input over the first bytes of a buffer, which has room for the longest record. A record inside the `Ok` would be copied again.
+fn next_record<R: io::Read>(from: &mut R, n: usize, space: &mut [u8; 4096]) -> Result<(), Cut>
     requires { n ≤ 358 }
 {
     let size = 8 * n;
-    let mut space = [0u8; 4096];
     let f = input::fill(from, &mut space[..size]);
     if f.n == size {
-        Ok(record_of(&space))
+        Ok(())
     } else if f.failed {
         Err(Cut::Failed)
     } else {
@@ -138,13 +137,14 @@ fn next_record<R: io::Read>(from: &mut R, n: usize) -> Result<Record, Cut>
     }
 }
 
-// Replays so many records of an entry, as far as the input has them.
+// Replays so many records of an entry, until the input ends. They are all as long, so that the zeros behind the first stay.
 fn replay<R: io::Read>(from: &mut R, entry: Entry, count: u64) -> Tally {
     let n = words_of(entry);
+    let mut space = [0u8; 4096];
     let mut t = start();
     for _ in 0..count {
-        match next_record(from, n) {
-            Ok(record) => t = judged(entry, record, t),
+        match next_record(from, n, &mut space) {
+            Ok(()) => t = judged(entry, record_of(&space), t),
             Err(cut) => {
                 return Tally {
                     cut: Some(cut),
@@ -158,8 +158,9 @@ fn replay<R: io::Read>(from: &mut R, entry: Entry, count: u64) -> Tally {
 
 // Replays an entry, which begins with the number of its records.
 fn replay_entry<R: io::Read>(from: &mut R, entry: Entry) -> Tally {
-    match next_record(from, 1) {
-        Ok(head) => replay(from, entry, head.words[0]),
+    let mut space = [0u8; 4096];
+    match next_record(from, 1, &mut space) {
+        Ok(()) => replay(from, entry, words::word(&space, 0)),
         Err(cut) => Tally {
             cut: Some(cut),
             ..start()

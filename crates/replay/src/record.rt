@@ -1,7 +1,6 @@
 // A record of the sample: its words, by their places in tests/oracle-sample/README.md, and the numbers that they stand for.
 use chunk::Header;
 use layout::places::{to_u16, to_u32};
-use std::array;
 
 // A word that is no part of the record is 0.
 pub(crate) type Words = [u64; 358];
@@ -14,10 +13,15 @@ pub(crate) struct Record {
     pub(crate) numbers: Numbers,
 }
 
-// The record that the first bytes stand for, where zeros follow them.
+// The record that the first bytes stand for, where zeros follow them. One loop fills both arrays: by `from_fn` each would be zeroed and copied once more.
 pub(crate) fn record_of(b: &[u8; 4096]) -> Record {
-    let words: Words = array::from_fn(|i| words::word(b, (8 * i) as u32));
-    let numbers = words.map(words::float_of);
+    let mut words: Words = [0; 358];
+    let mut numbers: Numbers = [0.0; 358];
+    for i in 0..358 {
+        let w = words::word(b, (8 * i) as u32);
+        words[i] = w;
+        numbers[i] = words::float_of(w);
+    }
     Record { words, numbers }
 }
 
