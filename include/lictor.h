@@ -11,7 +11,7 @@
  * returns the number of the refusal, 0 where it accepts; a refusal leaves every output as it was, save that a forecast's or a run's sets
  * its place and, with LICTOR_COMPUTED, keeps the entries before it.
  *
- * Threads: the library has no state of its own and calls nothing but memcpy, memmove and memset, so that any number of threads may be
+ * Threads: the library has no state of its own and calls nothing but memcpy and memset, so that any number of threads may be
  * in it at once, each with memory of its own.
  *
  * The heap: none. The stack: no entry needs more than LICTOR_STACK bytes of it (tests/c/stack.c).

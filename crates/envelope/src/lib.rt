@@ -236,6 +236,7 @@ fn isotropic(scale: &[f64; 8], n: usize) -> f64
 
 // The numbers that the checks use, for any configuration: past dim and pos_dim nothing is read, and a dim or
 // pos_dim above 8 counts as 8.
+#[tactic(auto, unfolding(crate::specs::Derive::derived_from, crate::specs::Derive::inv_dt_of, crate::specs::Derive::inv_dt2_of, crate::specs::Derive::inv_dt3_of, crate::specs::Derive::step_max_of))]
 fn derive(c: FuseConfig) -> Derived
     ensures { result ≡ derived binary64 c }
 {
