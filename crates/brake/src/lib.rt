@@ -274,10 +274,15 @@ pub fn brake_feasible(
 {
     let compiled = envelope::compile(c, center, scale);
     let room = slack.len();
-    forecast_refusal(c, compiled.judged, pos, vel, rows, header, from, room)?;
-    let shape = c.shape;
-    let w = workspace_of(shape, compiled.derived);
-    forecast(c, w, pos, vel, rows, header, from, slack)
+    // No `?`: the steps of a proof are named by the call before one, so a wrong refusal handed on could not be told from a right one.
+    match forecast_refusal(c, compiled.judged, pos, vel, rows, header, from, room) {
+        Err(why) => Err(why),
+        Ok(()) => {
+            let shape = c.shape;
+            let w = workspace_of(shape, compiled.derived);
+            forecast(c, w, pos, vel, rows, header, from, slack)
+        }
+    }
 }
 
 // ---- a run under one setpoint

@@ -116,16 +116,22 @@ module _ (f : Format) (w : Walls) (p : List Float) (n : ℕ) where
   slack_r_is r (Disc x y radius) = refl
 
 module _ (left : Float → Float → Type 0) (p : List Float) (g : ℕ → Checked Float) where
-  pub edge_is : ((d e : Float) → left d e → e ≡ d) → (s : Shape) (a : Reckoned) → FromEdge left s p a → a ≡ reckoned_from (least_over s (edge_of binary64 s p) g 0)
+  -- what `left` makes of the distance to a disc's own edge
+  abbrev Leaves : Shape → (Float → Float) → Type 0
+  Leaves s rest =
+      (x y radius e : Float) → s ≡ Disc x y radius → left (sub binary64 radius (from_centre binary64 x y p).value) e
+      → e ≡ rest (sub binary64 radius (from_centre binary64 x y p).value)
+
+  pub edge_is : (s : Shape) → Leaves s (λ (d : Float). d) → (a : Reckoned) → FromEdge left s p a → a ≡ reckoned_from (least_over s (edge_of binary64 s p) g 0)
   unfolding FromEdge least_of least all to_edge
-  edge_is t Box a h = h
-  edge_is t (Disc x y radius) a (rest, k, h) =
-      let e : rest ≡ sub binary64 radius (from_centre binary64 x y p).value = t _ _ k in
+  edge_is Box t a h = h
+  edge_is (Disc x y radius) t a (rest, k, h) =
+      let e : rest ≡ sub binary64 radius (from_centre binary64 x y p).value = t x y radius rest refl k in
       h ∙ (λ i. record { value = lesser (inf false) (e i); sound = (ap finite e ∙ edge_told binary64 x y radius p refl) i })
 
-  pub edge_r_is : (r : Float) → ((d e : Float) → left d e → e ≡ sub binary64 d r) → (s : Shape) (a : Reckoned) → FromEdge left s p a → a ≡ reckoned_from (least_over s (edge_of_r binary64 s r p) g 0)
+  pub edge_r_is : (r : Float) (s : Shape) → Leaves s (λ (d : Float). sub binary64 d r) → (a : Reckoned) → FromEdge left s p a → a ≡ reckoned_from (least_over s (edge_of_r binary64 s r p) g 0)
   unfolding FromEdge least_of least all to_edge to_edge_r
-  edge_r_is r t Box a h = h
-  edge_r_is r t (Disc x y radius) a (rest, k, h) =
-      let e : rest ≡ sub binary64 (sub binary64 radius (from_centre binary64 x y p).value) r = t _ _ k in
+  edge_r_is r Box t a h = h
+  edge_r_is r (Disc x y radius) t a (rest, k, h) =
+      let e : rest ≡ sub binary64 (sub binary64 radius (from_centre binary64 x y p).value) r = t x y radius rest refl k in
       h ∙ (λ i. record { value = lesser (inf false) (e i); sound = (ap finite e ∙ edge_told_r binary64 x y radius p refl r) i })

@@ -16,6 +16,6 @@ returns c =
     let s = c.args in
     let w = walls_of s.w in
     let long : length s.p ≡ 8 = search rules in
-    let first = edge_r_is _ s.p (gap_r binary64 w s.r s.p) s.r (λ d e k. search rules) s.w.shape c.edge_slack-edge.result c.edge_slack-edge.ensures in
+    let first = edge_r_is _ s.p (gap_r binary64 w s.r s.p) s.r s.w.shape (λ x y radius e i k. search rules) c.edge_slack-edge.result c.edge_slack-edge.ensures in
     least_is s.w.shape c.edge_slack-edge.result _ s.n c.slack_over.result c.slack_over.ensures.few c.slack_over.ensures.all (edge_of_r binary64 s.w.shape s.r s.p) (gap_r binary64 w s.r s.p) first (λ j d b k. search rules) (λ j h. gap_missing_r binary64 w s.r s.p j (omega arith))
     ∙ ap reckoned_from (slack_r_is binary64 w s.p s.n s.r s.w.shape)
